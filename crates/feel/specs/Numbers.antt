@@ -1,0 +1,14 @@
+-- The number that an exported function answers: high word 0 and the answer in the low word; high word 1, refused, and the refusal's number;
+-- high word 2, none or unknown.
+-- Assumes nothing.
+use Prim.Native.Nat.{ℕ, _+_, _*_, _^_}
+use Rattle.form.specs.Outcome.{Outcome, done, refused}
+
+-- a high word
+abbrev pub high : ℕ → ℕ
+high w = w * 2 ^ 32
+
+-- of a call whose answer is a number
+abbrev pub numbered : Outcome ℕ → ℕ
+numbered (done n) = n
+numbered (refused k) = high 1 + k

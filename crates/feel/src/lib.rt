@@ -1,0 +1,35 @@
+// The exported C functions. Each answers one number: specs/Numbers.antt has the convention, include/feel.h the words for callers.
+ghost use mathlib.Core.Path.{_≡_};
+ghost use Rattle.form.specs.Answers.{checked};
+ghost use Rattle.form.specs.Read.{checkValue, checkType};
+ghost use Rattle.feel.specs.Numbers.{numbered};
+use form::Checked;
+
+// High word 1: refused.
+const REFUSED: u64 = 0x1_0000_0000;
+
+// The number of a reader's answer.
+fn check_number(c: Checked) -> u64
+    ensures { λ r. ⌜ r ≡ numbered (checked c) ⌝ }
+{
+    match c {
+        Checked::Accepted { level } => level as u64,
+        Checked::Refused(n) => REFUSED + n as u64,
+    }
+}
+
+// Is this a value? Its level, or refusal 1 to 5.
+#[no_mangle]
+pub extern "C" fn feel_check_value(v: &[u8]) -> u64
+    ensures { λ r. ⌜ r ≡ numbered (checkValue (now (v .entry))) ⌝ }
+{
+    check_number(form::check_value(v))
+}
+
+// Is this a type? Its level, or refusal 6 to 10.
+#[no_mangle]
+pub extern "C" fn feel_check_type(t: &[u8]) -> u64
+    ensures { λ r. ⌜ r ≡ numbered (checkType (now (t .entry))) ⌝ }
+{
+    check_number(form::check_type(t))
+}

@@ -1,0 +1,17 @@
+pub mod Table
+pub mod Commands
+pub mod Numbers
+pub mod Runs
+pub mod TypeLaws
+pub mod ValueLaws
+pub mod Whole
+pub mod Exact
+pub mod ExactTypes
+pub mod ExactValues
+pub mod Accepted
+pub mod Types
+pub mod Values
+pub mod AnySize
+pub mod Fuel
+pub mod Nodes
+pub mod Encoded

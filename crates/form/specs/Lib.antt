@@ -1,0 +1,9 @@
+pub mod Limits
+pub mod Outcome
+pub mod Trees
+pub mod Form
+pub mod Layout
+pub mod Read
+pub mod Answers
+pub mod Walks
+pub mod Examples

@@ -1,0 +1,27 @@
+//! Generators of cases for the readers, as plain bytes: all short strings, records at the limits of
+//! level and length, random well-formed records, and damaged copies. Nothing here reads or writes
+//! by the code of `feel-form`, so that a fault there does not shape the cases.
+
+mod chains;
+mod damage;
+mod draft;
+mod lengths;
+mod random;
+mod strings;
+
+pub use chains::{Ending, TYPE_IN_TYPE, TYPE_IN_VALUE, VALUE_IN_VALUE, Wrapper, chain, each_chain};
+pub use damage::each_damage;
+pub use draft::{Draft, random_draft};
+pub use lengths::{each_long, long_records};
+pub use random::Random;
+pub use strings::each_string;
+
+/// What a record is to be read as.
+#[derive(Debug, Clone, Copy, PartialEq, Eq)]
+pub enum Kind {
+    Value,
+    Type,
+}
+
+/// Receives the cases one after the other.
+pub type Each<'a> = dyn FnMut(&[u8]) + 'a;

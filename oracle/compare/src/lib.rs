@@ -1,0 +1,11 @@
+//! Compares the C functions of `libfeel.a` with the Rust, call by call. A new call is a new entry
+//! in [calls::CALLS]: its cases, its expected answer from the Rust, and the C function.
+
+pub mod answer;
+pub mod call;
+pub mod calls;
+pub mod lent;
+pub mod library;
+pub mod run;
+#[cfg(feature = "self-check")]
+mod twin;

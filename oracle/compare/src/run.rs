@@ -1,0 +1,288 @@
+//! Runs the cases of a call through both sides, counts them, and keeps the smallest difference.
+
+use crate::answer::Answer;
+use crate::call::{Call, Case, Options};
+use crate::lent::Lent;
+use std::collections::BTreeMap;
+use std::fmt;
+
+/// A case on which the two sides differ.
+#[derive(Debug, Clone, PartialEq, Eq)]
+pub struct Difference {
+    pub args: Vec<Vec<u8>>,
+    pub scratch: usize,
+    pub output: usize,
+    pub expected: Answer,
+    pub actual: Answer,
+    pub expected_output: Vec<u8>,
+    pub actual_output: Vec<u8>,
+    /// What differs.
+    pub what: &'static str,
+}
+
+/// The counts of one call.
+#[derive(Debug)]
+pub struct Tally {
+    pub name: &'static str,
+    pub cases: u64,
+    pub accepted: u64,
+    pub none: u64,
+    pub written_back: u64,
+    /// For each refusal the call can give, how often it is expected.
+    pub refused: BTreeMap<u32, u64>,
+    pub differences: u64,
+    pub smallest: Option<Difference>,
+}
+
+/// Runs all cases of a call.
+pub fn run(call: &Call, options: &Options) -> Tally {
+    let mut tally = Tally {
+        name: call.name,
+        cases: 0,
+        accepted: 0,
+        none: 0,
+        written_back: 0,
+        refused: call.refusals.iter().map(|&n| (u32::from(n), 0)).collect(),
+        differences: 0,
+        smallest: None,
+    };
+    let mut lent = Lent::default();
+    (call.generate)(options, &mut |case| tally.compare(call, case, &mut lent));
+    tally
+}
+
+impl Tally {
+    fn compare(&mut self, call: &Call, case: Case, lent: &mut Lent) {
+        let expected = (call.expected)(case);
+        lent.fill(case);
+        let actual = (call.actual)(lent);
+        self.cases += 1;
+        match expected.answer.high() {
+            0 => self.accepted += 1,
+            1 => *self.refused.entry(expected.answer.low()).or_default() += 1,
+            _ => self.none += 1,
+        }
+        self.written_back += u64::from(expected.written_back == Some(true));
+        let what = if actual != expected.answer {
+            Some("the answers differ")
+        } else if expected.written_back == Some(false) {
+            Some("the Rust writer gives other bytes")
+        } else {
+            lent.fault(case, &expected.output)
+        };
+        let Some(what) = what else {
+            return;
+        };
+        self.differences += 1;
+        if self
+            .smallest
+            .as_ref()
+            .is_none_or(|kept| is_smaller(case, kept))
+        {
+            self.smallest = Some(Difference {
+                args: case.args.iter().map(|arg| arg.to_vec()).collect(),
+                scratch: case.scratch,
+                output: case.output,
+                expected: expected.answer,
+                actual,
+                expected_output: expected.output,
+                actual_output: lent.output.contents().to_vec(),
+                what,
+            });
+        }
+    }
+}
+
+/// Whether the case has fewer bytes than the one kept.
+fn is_smaller(case: Case, kept: &Difference) -> bool {
+    let case_length: usize = case.args.iter().map(|arg| arg.len()).sum();
+    let kept_length: usize = kept.args.iter().map(|arg| arg.len()).sum();
+    case_length < kept_length
+}
+
+impl fmt::Display for Tally {
+    fn fmt(&self, f: &mut fmt::Formatter<'_>) -> fmt::Result {
+        write!(
+            f,
+            "{}: {} cases, {} accepted, {} written back",
+            self.name, self.cases, self.accepted, self.written_back
+        )?;
+        if self.none > 0 {
+            write!(f, ", {} none", self.none)?;
+        }
+        for (number, count) in &self.refused {
+            write!(f, ", refusal {number}: {count}")?;
+        }
+        Ok(())
+    }
+}
+
+impl fmt::Display for Difference {
+    fn fmt(&self, f: &mut fmt::Formatter<'_>) -> fmt::Result {
+        writeln!(f, "{}", self.what)?;
+        for arg in &self.args {
+            writeln!(f, "  argument {}", hex(arg))?;
+        }
+        if self.scratch > 0 {
+            writeln!(f, "  scratch of {} bytes", self.scratch)?;
+        }
+        writeln!(f, "  expected {}", self.expected)?;
+        write!(f, "  actual   {}", self.actual)?;
+        if self.output > 0 {
+            writeln!(f)?;
+            writeln!(f, "  expected output {}", hex(&self.expected_output))?;
+            write!(f, "  actual output   {}", hex(&self.actual_output))?;
+        }
+        Ok(())
+    }
+}
+
+fn hex(bytes: &[u8]) -> String {
+    if bytes.is_empty() {
+        return ".".to_string();
+    }
+    bytes.iter().map(|byte| format!("{byte:02X}")).collect()
+}
+
+#[cfg(test)]
+mod tests {
+    use super::*;
+    use crate::call::{EachCase, Expected};
+    use feel_cases::each_string;
+
+    const OPTIONS: Options = Options {
+        length: 0,
+        alphabet_length: 0,
+        count: 0,
+        seed: 0,
+    };
+
+    /// All strings of up to three bytes of 1 and 2; the answer is the sum, and it is written.
+    fn sums(_: &Options, each: &mut EachCase) {
+        for length in 0..=3 {
+            each_string(&[1, 2], length, &mut |bytes| {
+                each(Case {
+                    args: &[bytes, &[9]],
+                    scratch: 2,
+                    output: 4,
+                })
+            });
+        }
+    }
+
+    fn sum(bytes: &[u8]) -> u8 {
+        bytes.iter().sum()
+    }
+
+    fn expected_sum(case: Case) -> Expected {
+        Expected {
+            answer: Answer::given(sum(case.args[0]).into()),
+            output: vec![sum(case.args[0])],
+            written_back: None,
+        }
+    }
+
+    /// Writes the sum to the output.
+    fn actual_sum(lent: &mut Lent) -> Answer {
+        let sum = sum(lent.args[0].contents());
+        unsafe { lent.output.as_mut_ptr().write(sum) };
+        Answer::given(sum.into())
+    }
+
+    fn run_sums(actual: fn(&mut Lent) -> Answer) -> Tally {
+        let call = Call {
+            name: "sum",
+            refusals: &[3],
+            generate: sums,
+            expected: expected_sum,
+            actual,
+        };
+        run(&call, &OPTIONS)
+    }
+
+    fn what(tally: &Tally) -> &'static str {
+        tally.smallest.as_ref().expect("a difference").what
+    }
+
+    #[test]
+    fn equal_answers_do_not_differ() {
+        let tally = run_sums(actual_sum);
+        assert_eq!(
+            (tally.cases, tally.accepted, tally.differences),
+            (15, 15, 0)
+        );
+        assert_eq!(tally.smallest, None);
+        assert_eq!(
+            tally.to_string(),
+            "sum: 15 cases, 15 accepted, 0 written back, refusal 3: 0"
+        );
+    }
+
+    #[test]
+    fn the_smallest_difference_is_kept() {
+        let tally = run_sums(|lent| {
+            let Answer(sum) = actual_sum(lent);
+            Answer(if sum > 3 { sum + 1 } else { sum })
+        });
+        // 2 2; 1 1 2, 1 2 1, 2 1 1; 1 2 2, 2 1 2, 2 2 1; 2 2 2.
+        assert_eq!(tally.differences, 8);
+        let smallest = tally.smallest.expect("a difference");
+        assert_eq!(
+            smallest.to_string(),
+            "the answers differ\n  argument 0202\n  argument 09\n  scratch of 2 bytes\n  \
+             expected 4\n  actual   5\n  expected output 04\n  actual output   04264564"
+        );
+    }
+
+    #[test]
+    fn a_changed_argument_is_seen() {
+        let tally = run_sums(|lent| {
+            let answer = actual_sum(lent);
+            let last = lent.args[0].len().checked_sub(1);
+            if let Some(last) = last {
+                unsafe { lent.args[0].as_mut_ptr().add(last).write(7) };
+            }
+            answer
+        });
+        assert_eq!(tally.differences, 14);
+        assert_eq!(what(&tally), "an argument was changed");
+    }
+
+    #[test]
+    fn a_byte_after_the_answer_is_seen() {
+        let tally = run_sums(|lent| {
+            unsafe { lent.output.as_mut_ptr().add(3).write(0) };
+            actual_sum(lent)
+        });
+        assert_eq!(tally.differences, 15);
+        assert_eq!(what(&tally), "the output differs");
+    }
+
+    #[test]
+    fn a_byte_beside_a_buffer_is_seen() {
+        for place in [-1, 2] {
+            let write: fn(&mut Lent) -> Answer = match place {
+                -1 => |lent| {
+                    unsafe { lent.scratch.as_mut_ptr().offset(-1).write(0) };
+                    actual_sum(lent)
+                },
+                _ => |lent| {
+                    unsafe { lent.scratch.as_mut_ptr().add(2).write(0) };
+                    actual_sum(lent)
+                },
+            };
+            let tally = run_sums(write);
+            assert_eq!(tally.differences, 15);
+            assert_eq!(what(&tally), "a byte beside a buffer was changed");
+        }
+    }
+
+    #[test]
+    fn the_inside_of_the_scratch_is_free() {
+        let tally = run_sums(|lent| {
+            unsafe { lent.scratch.as_mut_ptr().write_bytes(0, 2) };
+            actual_sum(lent)
+        });
+        assert_eq!(tally.differences, 0);
+    }
+}

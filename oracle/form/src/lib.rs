@@ -1,0 +1,23 @@
+//! Document 01's byte form over the published Rust's own `FeelType` and `Value`: the readers with
+//! their refusals, the level of a tree, and the writers. Written from the document alone.
+
+mod bifs;
+mod level;
+mod read;
+mod texts;
+mod write;
+
+pub use bifs::BIFS;
+pub use level::{type_level, value_level};
+pub use read::{read_type, read_value};
+pub use texts::{name, text};
+pub use write::{write_type, write_value};
+
+/// The most bytes a value or a type may have.
+pub const MAX_LENGTH: usize = 16_384;
+
+/// The highest level of a value, types inside it counted.
+pub const MAX_VALUE_LEVEL: usize = 31;
+
+/// The highest level of a type.
+pub const MAX_TYPE_LEVEL: usize = 32;
