@@ -15,3 +15,4 @@ pub mod AnySize
 pub mod Fuel
 pub mod Nodes
 pub mod Encoded
+pub mod Laws

@@ -1,3 +1,5 @@
+-- `form::walk_fields`, `form::walk_type` and `form::walk_types`, which call each other, meet their contracts.
+-- Assumes nothing.
 use Prim.Native.Nat.{ℕ, _<_, _+_, _*_, _-_, _≤_, max}
 use borrow.Fn.Kinds.{In}
 use borrow.Fn.PlainCycle.{Measures, is, falls, and}
@@ -105,278 +107,6 @@ walk-type-function t c = arm (getD (c .before .before .before .before .before .b
 walk-types-ended : (t : ℕ) (c : walk-types-lts.After-size (walk-types-claims t) (walk-types-at t) walk-types.Post walk-types-Inv-loop walk-types-μ-loop) → (c .size .given .0 .0 ≤ length (c .before .before .before .before .before .before .before .args .s .now) - (c .before .before .before .before .before .loop .at)) × (c .size .given .0 .1 .0 ≤ c .size .given .0 .0)
 walk-types-ended t c = inside-of (c .before .before .walk-type .result) (c .before .before .before .before .before .before .before .args .s .now) (c .before .before .before .before .before .loop .at) (c .size .given .0 .0) (c .size .given .0 .1 .0) (c .size .given .1) (c .before .before .walk-type .ensures .1)
 
--- src/lib.rt:209:5
-walk-fields-loop-holds : (t : ℕ) → walk-fields-lts.Need-loop-holds (walk-fields-claims t) (walk-fields-at t) walk-fields.Post walk-fields-Inv-loop walk-fields-μ-loop
-walk-fields-loop-holds t c = run-start levelFields (λ (n : ℕ). readNamed no-fields field ascending (readT (c .before .args .left)) n 0) (c .before .args .s .now) (c .before .args .count) 0 0 (omega arith) (omega arith)
-
--- src/lib.rt:210:12
-walk-fields-sub-if1 : (t : ℕ) → walk-fields-lts.Need-sub-if1 (walk-fields-claims t) (walk-fields-at t) walk-fields.Post walk-fields-Inv-loop walk-fields-μ-loop
-walk-fields-sub-if1 t c = search needs
-
--- src/lib.rt:211:13
-walk-fields-returns : (t : ℕ) → walk-fields-lts.Need-returns (walk-fields-claims t) (walk-fields-at t) walk-fields.Post walk-fields-Inv-loop walk-fields-μ-loop
-walk-fields-returns t c = (run-fault (c .before .before .loop .inv) Shape (c .before .loop-test .taken) (named-ends level levelFields no-fields field ascending fields-law (readT (c .before .before .before .before .args .left)) (c .before .before .before .before .args .s .now) (c .before .before .loop .at) (c .before .before .loop .deep) (c .before .before .loop .least) (c .if1 .taken)), tt)
-
--- src/lib.rt:213:13
-walk-fields-name-at-requires : (t : ℕ) → walk-fields-lts.Need-name-at-requires (walk-fields-claims t) (walk-fields-at t) walk-fields.Post walk-fields-Inv-loop walk-fields-μ-loop
-walk-fields-name-at-requires t c κs = omega (arith, c .before .before .loop .inv)
-
--- src/lib.rt:215:13
-walk-fields-returns-2 : (t : ℕ) → walk-fields-lts.Need-returns-2 (walk-fields-claims t) (walk-fields-at t) walk-fields.Post walk-fields-Inv-loop walk-fields-μ-loop
-walk-fields-returns-2 t c = (run-fault (c .before .before .before .before .loop .inv) Names (c .before .before .before .loop-test .taken) (named-names level levelFields no-fields field ascending fields-law (readT (c .before .before .before .before .before .before .args .left)) (c .before .before .before .before .before .before .args .s .now) (c .before .before .before .before .loop .at) (c .before .before .before .before .loop .deep) (c .before .before .before .before .loop .least) (c .before .name-at .result) (c .before .name-at .ensures .0) (c .before .before .if1 .left) (c .if2 .taken)), tt)
-
--- src/lib.rt:217:20
-walk-fields-add-from : (t : ℕ) → walk-fields-lts.Need-add-from (walk-fields-claims t) (walk-fields-at t) walk-fields.Post walk-fields-Inv-loop walk-fields-μ-loop
-walk-fields-add-from t c = search needs
-
--- src/lib.rt:218:25
-walk-fields-sub-walk-type : (t : ℕ) → walk-fields-lts.Need-sub-walk-type (walk-fields-claims t) (walk-fields-at t) walk-fields.Post walk-fields-Inv-loop walk-fields-μ-loop
-walk-fields-sub-walk-type t c = search needs
-
--- src/lib.rt:218:25
-walk-fields-part-walk-type-start : (t : ℕ) → walk-fields-lts.Need-part-walk-type-start (walk-fields-claims t) (walk-fields-at t) walk-fields.Post walk-fields-Inv-loop walk-fields-μ-loop
-walk-fields-part-walk-type-start t c = search needs
-
--- src/lib.rt:218:25
-walk-fields-part-walk-type-end : (t : ℕ) → walk-fields-lts.Need-part-walk-type-end (walk-fields-claims t) (walk-fields-at t) walk-fields.Post walk-fields-Inv-loop walk-fields-μ-loop
-walk-fields-part-walk-type-end t c = search needs
-
--- src/lib.rt:218:15
-walk-fields-walk-type-requires : (t : ℕ) → walk-fields-lts.Need-walk-type-requires (walk-fields-claims t) (walk-fields-at t) walk-fields.Post walk-fields-Inv-loop walk-fields-μ-loop
-walk-fields-walk-type-requires t c κs = search needs
-
--- src/lib.rt:219:25
-walk-fields-enum-known-size : (t : ℕ) → walk-fields-lts.Need-enum-known-size (walk-fields-claims t) (walk-fields-at t) walk-fields.Post walk-fields-Inv-loop walk-fields-μ-loop
-walk-fields-enum-known-size t c = search needs
-
--- src/lib.rt:220:22
-walk-fields-add-at : (t : ℕ) → walk-fields-lts.Need-add-at (walk-fields-claims t) (walk-fields-at t) walk-fields.Post walk-fields-Inv-loop walk-fields-μ-loop
-walk-fields-add-at t c = let i = walk-fields-ended t (c .before) in omega (arith, c .before .before .before .before .before .before .before .before .before .loop .inv)
-
--- src/lib.rt:221:17
-walk-fields-larger-requires : (t : ℕ) → walk-fields-lts.Need-larger-requires (walk-fields-claims t) (walk-fields-at t) walk-fields.Post walk-fields-Inv-loop walk-fields-μ-loop
-walk-fields-larger-requires t c κs = search needs
-
--- src/lib.rt:223:25
-walk-fields-enum-known-f : (t : ℕ) → walk-fields-lts.Need-enum-known-f (walk-fields-claims t) (walk-fields-at t) walk-fields.Post walk-fields-Inv-loop walk-fields-μ-loop
-walk-fields-enum-known-f t c = search needs
-
--- src/lib.rt:223:31
-walk-fields-returns-3 : (t : ℕ) → walk-fields-lts.Need-returns-3 (walk-fields-claims t) (walk-fields-at t) walk-fields.Post walk-fields-Inv-loop walk-fields-μ-loop
-walk-fields-returns-3 t c = (run-fault (c .before .before .before .before .before .before .before .before .before .loop .inv) (c .before .f .given .0 .0) (c .before .before .before .before .before .before .before .before .loop-test .taken) (named-fault level levelFields no-fields field ascending fields-law (readT (c .before .before .before .before .before .before .before .before .before .before .before .args .left)) (c .before .before .before .before .before .before .before .before .before .before .before .args .s .now) (c .before .before .before .before .before .before .before .before .before .loop .at) (c .before .before .before .before .before .before .before .before .before .loop .deep) (c .before .before .before .before .before .before .before .before .before .loop .least) (c .before .before .before .before .before .before .name-at .result) (c .before .before .before .before .before .before .name-at .ensures .0) (c .before .before .before .before .before .before .before .if1 .left) (c .before .f .given .0 .0) (c .before .before .before .before .before .if2 .left) (part-of (λ (r : List ℕ). walkOf level (readT (c .before .before .before .before .before .before .before .before .before .before .before .args .left) r)) (c .before .before .before .before .before .before .before .before .before .before .before .args .s .now) (c .before .before .before .before .before .before .before .before .before .loop .at + nameWidth) {x = walk.Fault (c .before .f .given .0 .0)} (c .before .f .given .1) (c .before .before .before .walk-type .ensures .0))), tt)
-
--- src/lib.rt:225:17
-walk-fields-add-least : (t : ℕ) → walk-fields-lts.Need-add-least (walk-fields-claims t) (walk-fields-at t) walk-fields.Post walk-fields-Inv-loop walk-fields-μ-loop
-walk-fields-add-least t c = omega (arith, c .before .before .before .before .before .before .before .name-at .ensures)
-
--- src/lib.rt:226:9
-walk-fields-add-i : (t : ℕ) → walk-fields-lts.Need-add-i (walk-fields-claims t) (walk-fields-at t) walk-fields.Post walk-fields-Inv-loop walk-fields-μ-loop
-walk-fields-add-i t c = search needs
-
--- src/lib.rt:209:5
-walk-fields-loop-less : (t : ℕ) → walk-fields-lts.Need-loop-less (walk-fields-claims t) (walk-fields-at t) walk-fields.Post walk-fields-Inv-loop walk-fields-μ-loop
-walk-fields-loop-less t c = search needs
-
--- src/lib.rt:209:5
-walk-fields-loop-again : (t : ℕ) → walk-fields-lts.Need-loop-again (walk-fields-claims t) (walk-fields-at t) walk-fields.Post walk-fields-Inv-loop walk-fields-μ-loop
-walk-fields-loop-again t c = let at = c .before .before .before .before .before .before .before .before .before .before .loop .inv .inside in let two = c .before .before .before .before .before .before .before .before .if1 .left in run-turn (c .before .before .before .before .before .before .before .before .before .before .loop .inv) (λ (n : ℕ). readNamed no-fields field ascending (readT (c .before .before .before .before .before .before .before .before .before .before .before .before .args .left)) n (c .before .before .before .before .before .before .before .name-at .result + 1)) (c .before .before .before .before .before .before .before .before .before .before .loop .at + nameWidth) (c .larger .result) (c .before .before .size .given .0 .0) (c .before .before .size .given .0 .1 .0) (c .before .before .before .before .before .before .before .before .before .loop-test .taken) (c .larger .ensures) (walk-fields-ended t (c .before .before)) (omega arith) (omega arith) (named-turn level levelFields no-fields field ascending fields-law (readT (c .before .before .before .before .before .before .before .before .before .before .before .before .args .left)) (c .before .before .before .before .before .before .before .before .before .before .before .before .args .s .now) (c .before .before .before .before .before .before .before .before .before .before .loop .at) (c .before .before .before .before .before .before .before .before .before .before .loop .deep) (c .before .before .before .before .before .before .before .before .before .before .loop .least) (c .before .before .before .before .before .before .before .name-at .result) (c .before .before .before .before .before .before .before .name-at .ensures .0) (c .before .before .before .before .before .before .before .before .if1 .left) (c .before .before .size .given .0 .0) (c .before .before .size .given .0 .1 .0) (c .before .before .before .before .before .before .if2 .left) (part-of (λ (r : List ℕ). walkOf level (readT (c .before .before .before .before .before .before .before .before .before .before .before .before .args .left) r)) (c .before .before .before .before .before .before .before .before .before .before .before .before .args .s .now) (c .before .before .before .before .before .before .before .before .before .before .loop .at + nameWidth) {x = walk.End (c .before .before .size .given .0 .0) (c .before .before .size .given .0 .1 .0)} (c .before .before .size .given .1) (c .before .before .before .before .walk-type .ensures .0)))
-
--- src/lib.rt:201:1
-walk-fields-returns-4 : (t : ℕ) → walk-fields-lts.Need-returns-4 (walk-fields-claims t) (walk-fields-at t) walk-fields.Post walk-fields-Inv-loop walk-fields-μ-loop
-walk-fields-returns-4 t c = (run-done (c .before .loop .inv) no-fields fields-flat (named-none level levelFields no-fields field ascending fields-law (readT (c .before .before .before .args .left)) (c .before .loop .least)) (c .loop-test .left), (c .before .loop .inv .inside, c .before .loop .inv .shallow))
-
--- src/lib.rt:181:9
-walk-type-returns : (t : ℕ) → walk-type-lts.Need-returns (walk-type-claims t) (walk-type-at t) walk-type.Post
-walk-type-returns t c = (sym (t-none (c .before .before .args .left) (c .before .before .args .s .now) (c .if1 .taken)), tt)
-
--- src/lib.rt:184:9
-walk-type-returns-2 : (t : ℕ) → walk-type-lts.Need-returns-2 (walk-type-claims t) (walk-type-at t) walk-type.Post
-walk-type-returns-2 t c = (sym (t-level (c .before .before .before .args .left) (c .before .before .before .args .s .now) (omega arith) (c .if2 .taken)), tt)
-
--- src/lib.rt:186:13
-walk-type-shared-slice-read-c : (t : ℕ) → walk-type-lts.Need-shared-slice-read-c (walk-type-claims t) (walk-type-at t) walk-type.Post
-walk-type-shared-slice-read-c t c = search needs
-
--- src/lib.rt:187:9
-walk-type-width-requires : (t : ℕ) → walk-type-lts.Need-width-requires (walk-type-claims t) (walk-type-at t) walk-type.Post
-walk-type-width-requires t c κs = search needs
-
--- src/lib.rt:188:8
-walk-type-sub-if3 : (t : ℕ) → walk-type-lts.Need-sub-if3 (walk-type-claims t) (walk-type-at t) walk-type.Post
-walk-type-sub-if3 t c = search needs
-
--- src/lib.rt:189:9
-walk-type-returns-3 : (t : ℕ) → walk-type-lts.Need-returns-3 (walk-type-claims t) (walk-type-at t) walk-type.Post
-walk-type-returns-3 t c = (sym (t-short (c .before .before .before .before .before .before .args .left) (c .before .before .before .before .before .before .args .s .now) (omega arith) (omega arith) (omega arith)), tt)
-
--- src/lib.rt:194:34
-walk-type-sub-walk-fields : (t : ℕ) → walk-type-lts.Need-sub-walk-fields (walk-type-claims t) (walk-type-at t) walk-type.Post
-walk-type-sub-walk-fields t c = let n = walk-type-context t (c) .1 in omega arith
-
--- src/lib.rt:194:34
-walk-type-part-walk-fields-start : (t : ℕ) → walk-type-lts.Need-part-walk-fields-start (walk-type-claims t) (walk-type-at t) walk-type.Post
-walk-type-part-walk-fields-start t c = let n = walk-type-context t (c) .1 in omega arith
-
--- src/lib.rt:194:34
-walk-type-part-walk-fields-end : (t : ℕ) → walk-type-lts.Need-part-walk-fields-end (walk-type-claims t) (walk-type-at t) walk-type.Post
-walk-type-part-walk-fields-end t c = search needs
-
--- src/lib.rt:194:43
-walk-type-word-at-requires : (t : ℕ) → walk-type-lts.Need-word-at-requires (walk-type-claims t) (walk-type-at t) walk-type.Post
-walk-type-word-at-requires t c κs = let n = walk-type-context t (c .before) .1 in omega arith
-
--- src/lib.rt:194:58
-walk-type-sub-walk-fields-2 : (t : ℕ) → walk-type-lts.Need-sub-walk-fields-2 (walk-type-claims t) (walk-type-at t) walk-type.Post
-walk-type-sub-walk-fields-2 t c = search needs
-
--- src/lib.rt:194:22
-walk-type-walk-fields-requires : (t : ℕ) → walk-type-lts.Need-walk-fields-requires (walk-type-claims t) (walk-type-at t) walk-type.Post
-walk-type-walk-fields-requires t c κs = search needs
-
--- src/lib.rt:194:17
-walk-type-lift-requires : (t : ℕ) → walk-type-lts.Need-lift-requires (walk-type-claims t) (walk-type-at t) walk-type.Post
-walk-type-lift-requires t c κs = let n = walk-type-context t (c .before .before .before) .1 in room-of (c .walk-fields .result) (c .before .before .before .before .before .before .before .before .before .before .args .s .now) 3 (c .walk-fields .ensures .1) (omega arith) (omega arith) (omega (arith, c .before .before .before .before .before .before .before .before .before .before .good))
-
--- src/lib.rt:195:33
-walk-type-sub-walk-types : (t : ℕ) → walk-type-lts.Need-sub-walk-types (walk-type-claims t) (walk-type-at t) walk-type.Post
-walk-type-sub-walk-types t c = let n = walk-type-function t (c) .1 in omega arith
-
--- src/lib.rt:195:33
-walk-type-part-walk-types-start : (t : ℕ) → walk-type-lts.Need-part-walk-types-start (walk-type-claims t) (walk-type-at t) walk-type.Post
-walk-type-part-walk-types-start t c = let n = walk-type-function t (c) .1 in omega arith
-
--- src/lib.rt:195:33
-walk-type-part-walk-types-end : (t : ℕ) → walk-type-lts.Need-part-walk-types-end (walk-type-claims t) (walk-type-at t) walk-type.Post
-walk-type-part-walk-types-end t c = search needs
-
--- src/lib.rt:195:47
-walk-type-shared-slice-read-wide : (t : ℕ) → walk-type-lts.Need-shared-slice-read-wide (walk-type-claims t) (walk-type-at t) walk-type.Post
-walk-type-shared-slice-read-wide t c = let n = walk-type-function t (c .before .before) .1 in omega arith
-
--- src/lib.rt:195:42
-walk-type-wide-requires : (t : ℕ) → walk-type-lts.Need-wide-requires (walk-type-claims t) (walk-type-at t) walk-type.Post
-walk-type-wide-requires t c κs = search needs
-
--- src/lib.rt:195:42
-walk-type-add-walk-types : (t : ℕ) → walk-type-lts.Need-add-walk-types (walk-type-claims t) (walk-type-at t) walk-type.Post
-walk-type-add-walk-types t c = omega (arith, c .wide .ensures)
-
--- src/lib.rt:195:58
-walk-type-sub-walk-types-2 : (t : ℕ) → walk-type-lts.Need-sub-walk-types-2 (walk-type-claims t) (walk-type-at t) walk-type.Post
-walk-type-sub-walk-types-2 t c = search needs
-
--- src/lib.rt:195:22
-walk-type-walk-types-requires : (t : ℕ) → walk-type-lts.Need-walk-types-requires (walk-type-claims t) (walk-type-at t) walk-type.Post
-walk-type-walk-types-requires t c κs = search needs
-
--- src/lib.rt:195:17
-walk-type-lift-requires-2 : (t : ℕ) → walk-type-lts.Need-lift-requires-2 (walk-type-claims t) (walk-type-at t) walk-type.Post
-walk-type-lift-requires-2 t c κs = let n = walk-type-function t (c .before .before .before .before) .1 in room-of (c .walk-types .result) (c .before .before .before .before .before .before .before .before .before .before .before .args .s .now) 2 (c .walk-types .ensures .1) (omega arith) (omega arith) (omega (arith, c .before .before .before .before .before .before .before .before .before .before .before .good))
-
--- src/lib.rt:193:39
-walk-type-sub-walk-type : (t : ℕ) → walk-type-lts.Need-sub-walk-type (walk-type-claims t) (walk-type-at t) walk-type.Post
-walk-type-sub-walk-type t c = search needs
-
--- src/lib.rt:193:39
-walk-type-part-walk-type-start : (t : ℕ) → walk-type-lts.Need-part-walk-type-start (walk-type-claims t) (walk-type-at t) walk-type.Post
-walk-type-part-walk-type-start t c = search needs
-
--- src/lib.rt:193:39
-walk-type-part-walk-type-end : (t : ℕ) → walk-type-lts.Need-part-walk-type-end (walk-type-claims t) (walk-type-at t) walk-type.Post
-walk-type-part-walk-type-end t c = search needs
-
--- src/lib.rt:193:48
-walk-type-sub-walk-type-2 : (t : ℕ) → walk-type-lts.Need-sub-walk-type-2 (walk-type-claims t) (walk-type-at t) walk-type.Post
-walk-type-sub-walk-type-2 t c = search needs
-
--- src/lib.rt:193:29
-walk-type-walk-type-requires : (t : ℕ) → walk-type-lts.Need-walk-type-requires (walk-type-claims t) (walk-type-at t) walk-type.Post
-walk-type-walk-type-requires t c κs = search needs
-
--- src/lib.rt:193:24
-walk-type-lift-requires-3 : (t : ℕ) → walk-type-lts.Need-lift-requires-3 (walk-type-claims t) (walk-type-at t) walk-type.Post
-walk-type-lift-requires-3 t c κs = let o = walk-type-open t (c .before .before .before .before .before .before) in let n = o .0 in room-of (c .walk-type .result) (c .before .before .before .before .before .before .before .before .before .before .before .before .args .s .now) 1 (c .walk-type .ensures .1) (omega arith) (omega arith) (omega (arith, c .before .before .before .before .before .before .before .before .before .before .before .before .good))
-
--- src/lib.rt:176:1
-walk-type-returns-4 : (t : ℕ) → walk-type-lts.Need-returns-4 (walk-type-claims t) (walk-type-at t) walk-type.Post
-walk-type-returns-4 t c = let o = walk-type-open t (c .before .before .before .before .before) in let n = walk-type-context t (c .before .before .before .before) .1 in lifted (λ (r : List ℕ). walkBy levelFields 0 0 (readFields (readT ((c .before .before .before .before .before .before .before .before .before .before .before .args .left) - 1)) (c .before .before .word-at .result) 0 r)) (c .before .before .before .before .before .before .before .before .before .before .before .args .s .now) 3 (c .before .walk-fields .result) (c .lift .result) (c .lift .ensures) (c .before .walk-fields .ensures .0) (t-context (c .before .before .before .before .before .before .before .before .before .before .before .args .left) (c .before .before .before .before .before .before .before .before .before .before .before .args .s .now) (o .0) (o .1 .0) (o .1 .1) (c .before .before .word-at .result) (c .before .before .word-at .ensures .0) (walk-type-context t (c .before .before .before .before) .0)) (c .before .walk-fields .ensures .1) (omega arith) (omega arith)
-
--- src/lib.rt:176:1
-walk-type-returns-5 : (t : ℕ) → walk-type-lts.Need-returns-5 (walk-type-claims t) (walk-type-at t) walk-type.Post
-walk-type-returns-5 t c = let o = walk-type-open t (c .before .before .before .before .before .before) in let n = walk-type-function t (c .before .before .before .before .before) .1 in lifted (λ (r : List ℕ). walkBy levelTys 0 0 (readTys (readT ((c .before .before .before .before .before .before .before .before .before .before .before .before .args .left) - 1)) (c .before .before .wide .result + 1) r)) (c .before .before .before .before .before .before .before .before .before .before .before .before .args .s .now) 2 (c .before .walk-types .result) (c .lift2 .result) (c .lift2 .ensures) (c .before .walk-types .ensures .0) (t-function (c .before .before .before .before .before .before .before .before .before .before .before .before .args .left) (c .before .before .before .before .before .before .before .before .before .before .before .before .args .s .now) (o .0) (o .1 .0) (o .1 .1) (c .before .before .wide .result + 1) (let e = c .before .before .wide .ensures .0 in omega arith) (walk-type-function t (c .before .before .before .before .before) .0)) (c .before .walk-types .ensures .1) (omega arith) (omega arith)
-
--- src/lib.rt:176:1
-walk-type-returns-6 : (t : ℕ) → walk-type-lts.Need-returns-6 (walk-type-claims t) (walk-type-at t) walk-type.Post
-walk-type-returns-6 t c = let o = walk-type-open t (c .before .before .before) in (sym (t-simple (c .before .before .before .before .before .before .before .before .before .args .left) (c .before .before .before .before .before .before .before .before .before .args .s .now) (o .0) (o .1 .0) (kind-simple (getD (c .before .before .before .before .before .before .before .before .before .args .s .now) 0 0) (c .before .if4 .left) (c .if5 .taken))), (omega arith, omega arith))
-
--- src/lib.rt:176:1
-walk-type-returns-7 : (t : ℕ) → walk-type-lts.Need-returns-7 (walk-type-claims t) (walk-type-at t) walk-type.Post
-walk-type-returns-7 t c = let o = walk-type-open t (c .before .before .before .before .before .before .before) in let n = o .0 in lifted (λ (r : List ℕ). walkOf level (readT ((c .before .before .before .before .before .before .before .before .before .before .before .before .before .args .left) - 1) r)) (c .before .before .before .before .before .before .before .before .before .before .before .before .before .args .s .now) 1 (c .before .walk-type .result) (c .lift3 .result) (c .lift3 .ensures) (c .before .walk-type .ensures .0) (t-one (c .before .before .before .before .before .before .before .before .before .before .before .before .before .args .left) (c .before .before .before .before .before .before .before .before .before .before .before .before .before .args .s .now) (o .0) (o .1 .0) (c .before .before .before .before .if5 .left) (c .before .before .before .if6 .taken)) (c .before .walk-type .ensures .1) (omega arith) (omega arith)
-
--- src/lib.rt:176:1
-walk-type-returns-8 : (t : ℕ) → walk-type-lts.Need-returns-8 (walk-type-claims t) (walk-type-at t) walk-type.Post
-walk-type-returns-8 t c = let o = walk-type-open t (c .before .before) in let p = c .if4 .taken in (sym (t-other (c .before .before .before .before .before .before .before .before .args .left) (c .before .before .before .before .before .before .before .before .args .s .now) (o .0) (o .1 .0) (λ x y. omega arith) (λ x y. omega arith) (c .before .match .rest .0 .1) (c .before .match .rest .1)), tt)
-
--- src/lib.rt:176:1
-walk-type-returns-9 : (t : ℕ) → walk-type-lts.Need-returns-9 (walk-type-claims t) (walk-type-at t) walk-type.Post
-walk-type-returns-9 t c = let o = walk-type-open t (c .before .before .before .before) in let p = c .if6 .left in (sym (t-other (c .before .before .before .before .before .before .before .before .before .before .args .left) (c .before .before .before .before .before .before .before .before .before .before .args .s .now) (o .0) (o .1 .0) (λ x y. omega arith) (λ x y. omega arith) (c .before .before .before .match .rest .0 .1) (c .before .before .before .match .rest .1)), tt)
-
--- src/lib.rt:242:5
-walk-types-loop-holds : (t : ℕ) → walk-types-lts.Need-loop-holds (walk-types-claims t) (walk-types-at t) walk-types.Post walk-types-Inv-loop walk-types-μ-loop
-walk-types-loop-holds t c = run-start levelTys (readRun no-params param (readT (c .before .args .left))) (c .before .args .s .now) (c .before .args .count) 0 0 (omega arith) (omega arith)
-
--- src/lib.rt:243:25
-walk-types-sub-walk-type : (t : ℕ) → walk-types-lts.Need-sub-walk-type (walk-types-claims t) (walk-types-at t) walk-types.Post walk-types-Inv-loop walk-types-μ-loop
-walk-types-sub-walk-type t c = search needs
-
--- src/lib.rt:243:25
-walk-types-part-walk-type-start : (t : ℕ) → walk-types-lts.Need-part-walk-type-start (walk-types-claims t) (walk-types-at t) walk-types.Post walk-types-Inv-loop walk-types-μ-loop
-walk-types-part-walk-type-start t c = search needs
-
--- src/lib.rt:243:25
-walk-types-part-walk-type-end : (t : ℕ) → walk-types-lts.Need-part-walk-type-end (walk-types-claims t) (walk-types-at t) walk-types.Post walk-types-Inv-loop walk-types-μ-loop
-walk-types-part-walk-type-end t c = search needs
-
--- src/lib.rt:243:15
-walk-types-walk-type-requires : (t : ℕ) → walk-types-lts.Need-walk-type-requires (walk-types-claims t) (walk-types-at t) walk-types.Post walk-types-Inv-loop walk-types-μ-loop
-walk-types-walk-type-requires t c κs = search needs
-
--- src/lib.rt:244:25
-walk-types-enum-known-size : (t : ℕ) → walk-types-lts.Need-enum-known-size (walk-types-claims t) (walk-types-at t) walk-types.Post walk-types-Inv-loop walk-types-μ-loop
-walk-types-enum-known-size t c = search needs
-
--- src/lib.rt:245:22
-walk-types-add-at : (t : ℕ) → walk-types-lts.Need-add-at (walk-types-claims t) (walk-types-at t) walk-types.Post walk-types-Inv-loop walk-types-μ-loop
-walk-types-add-at t c = let i = walk-types-ended t (c .before) in omega arith
-
--- src/lib.rt:246:17
-walk-types-larger-requires : (t : ℕ) → walk-types-lts.Need-larger-requires (walk-types-claims t) (walk-types-at t) walk-types.Post walk-types-Inv-loop walk-types-μ-loop
-walk-types-larger-requires t c κs = search needs
-
--- src/lib.rt:248:25
-walk-types-enum-known-f : (t : ℕ) → walk-types-lts.Need-enum-known-f (walk-types-claims t) (walk-types-at t) walk-types.Post walk-types-Inv-loop walk-types-μ-loop
-walk-types-enum-known-f t c = search needs
-
--- src/lib.rt:248:31
-walk-types-returns : (t : ℕ) → walk-types-lts.Need-returns (walk-types-claims t) (walk-types-at t) walk-types.Post walk-types-Inv-loop walk-types-μ-loop
-walk-types-returns t c = (run-fault (c .before .before .before .before .before .before .loop .inv) (c .before .f .given .0 .0) (c .before .before .before .before .before .loop-test .taken) (item-fault level levelTys no-params param tys-law (readT (c .before .before .before .before .before .before .before .before .args .left)) (c .before .before .before .before .before .before .before .before .args .s .now) (c .before .before .before .before .before .before .loop .at) (c .before .before .before .before .before .before .loop .deep) (c .before .f .given .0 .0) (part-of (λ (r : List ℕ). walkOf level (readT (c .before .before .before .before .before .before .before .before .args .left) r)) (c .before .before .before .before .before .before .before .before .args .s .now) (c .before .before .before .before .before .before .loop .at) {x = walk.Fault (c .before .f .given .0 .0)} (c .before .f .given .1) (c .before .before .before .walk-type .ensures .0))), tt)
-
--- src/lib.rt:250:9
-walk-types-add-i : (t : ℕ) → walk-types-lts.Need-add-i (walk-types-claims t) (walk-types-at t) walk-types.Post walk-types-Inv-loop walk-types-μ-loop
-walk-types-add-i t c = search needs
-
--- src/lib.rt:242:5
-walk-types-loop-less : (t : ℕ) → walk-types-lts.Need-loop-less (walk-types-claims t) (walk-types-at t) walk-types.Post walk-types-Inv-loop walk-types-μ-loop
-walk-types-loop-less t c = search needs
-
--- src/lib.rt:242:5
-walk-types-loop-again : (t : ℕ) → walk-types-lts.Need-loop-again (walk-types-claims t) (walk-types-at t) walk-types.Post walk-types-Inv-loop walk-types-μ-loop
-walk-types-loop-again t c = run-turn (c .before .before .before .before .before .before .before .loop .inv) (readRun no-params param (readT (c .before .before .before .before .before .before .before .before .before .args .left))) (c .before .before .before .before .before .before .before .loop .at) (c .larger .result) (c .before .before .size .given .0 .0) (c .before .before .size .given .0 .1 .0) (c .before .before .before .before .before .before .loop-test .taken) (c .larger .ensures) (walk-types-ended t (c .before .before)) (omega arith) (omega arith) (item-turn level levelTys no-params param tys-law (readT (c .before .before .before .before .before .before .before .before .before .args .left)) (c .before .before .before .before .before .before .before .before .before .args .s .now) (c .before .before .before .before .before .before .before .loop .at) (c .before .before .before .before .before .before .before .loop .deep) (c .before .before .size .given .0 .0) (c .before .before .size .given .0 .1 .0) (part-of (λ (r : List ℕ). walkOf level (readT (c .before .before .before .before .before .before .before .before .before .args .left) r)) (c .before .before .before .before .before .before .before .before .before .args .s .now) (c .before .before .before .before .before .before .before .loop .at) {x = walk.End (c .before .before .size .given .0 .0) (c .before .before .size .given .0 .1 .0)} (c .before .before .size .given .1) (c .before .before .before .before .walk-type .ensures .0)))
-
--- src/lib.rt:235:1
-walk-types-returns-2 : (t : ℕ) → walk-types-lts.Need-returns-2 (walk-types-claims t) (walk-types-at t) walk-types.Post walk-types-Inv-loop walk-types-μ-loop
-walk-types-returns-2 t c = (run-done (c .before .loop .inv) no-params tys-flat (run-none level levelTys no-params param tys-law (readT (c .before .before .before .args .left))) (c .loop-test .left), (c .before .loop .inv .inside, c .before .loop .inv .shallow))
-
 pub +walk-fields+walk-type+walk-types-spec : {M : Type 1} → statement M
 +walk-fields+walk-type+walk-types-spec =
     close μ-walk-fields μ-walk-type μ-walk-types (λ t. walk-fields-lts.spec (walk-fields-claims t)
@@ -384,80 +114,80 @@ pub +walk-fields+walk-type+walk-types-spec : {M : Type 1} → statement M
     walk-fields.Post
     walk-fields-Inv-loop
     walk-fields-μ-loop
-    (walk-fields-loop-holds t)
-    (walk-fields-sub-if1 t)
-    (walk-fields-returns t)
-    (walk-fields-name-at-requires t)
-    (walk-fields-returns-2 t)
-    (walk-fields-add-from t)
-    (walk-fields-sub-walk-type t)
-    (walk-fields-part-walk-type-start t)
-    (walk-fields-part-walk-type-end t)
-    (walk-fields-walk-type-requires t)
-    (walk-fields-enum-known-size t)
-    (walk-fields-add-at t)
-    (walk-fields-larger-requires t)
-    (walk-fields-enum-known-f t)
-    (walk-fields-returns-3 t)
-    (walk-fields-add-least t)
-    (walk-fields-add-i t)
-    (walk-fields-loop-less t)
-    (walk-fields-loop-again t)
-    (walk-fields-returns-4 t))
+    (λ c. run-start levelFields (λ (n : ℕ). readNamed no-fields field ascending (readT (c .before .args .left)) n 0) (c .before .args .s .now) (c .before .args .count) 0 0 (omega arith) (omega arith))
+    (λ c. search needs)
+    (λ c. (run-fault (c .before .before .loop .inv) Shape (c .before .loop-test .taken) (named-ends level levelFields no-fields field ascending fields-law (readT (c .before .before .before .before .args .left)) (c .before .before .before .before .args .s .now) (c .before .before .loop .at) (c .before .before .loop .deep) (c .before .before .loop .least) (c .if1 .taken)), tt))
+    (λ c κs. omega (arith, c .before .before .loop .inv))
+    (λ c. (run-fault (c .before .before .before .before .loop .inv) Names (c .before .before .before .loop-test .taken) (named-names level levelFields no-fields field ascending fields-law (readT (c .before .before .before .before .before .before .args .left)) (c .before .before .before .before .before .before .args .s .now) (c .before .before .before .before .loop .at) (c .before .before .before .before .loop .deep) (c .before .before .before .before .loop .least) (c .before .name-at .result) (c .before .name-at .ensures .0) (c .before .before .if1 .left) (c .if2 .taken)), tt))
+    (λ c. search needs)
+    (λ c. search needs)
+    (λ c. search needs)
+    (λ c. search needs)
+    (λ c κs. search needs)
+    (λ c. search needs)
+    (λ c. let i = walk-fields-ended t (c .before) in omega (arith, c .before .before .before .before .before .before .before .before .before .loop .inv))
+    (λ c κs. search needs)
+    (λ c. search needs)
+    (λ c. (run-fault (c .before .before .before .before .before .before .before .before .before .loop .inv) (c .before .f .given .0 .0) (c .before .before .before .before .before .before .before .before .loop-test .taken) (named-fault level levelFields no-fields field ascending fields-law (readT (c .before .before .before .before .before .before .before .before .before .before .before .args .left)) (c .before .before .before .before .before .before .before .before .before .before .before .args .s .now) (c .before .before .before .before .before .before .before .before .before .loop .at) (c .before .before .before .before .before .before .before .before .before .loop .deep) (c .before .before .before .before .before .before .before .before .before .loop .least) (c .before .before .before .before .before .before .name-at .result) (c .before .before .before .before .before .before .name-at .ensures .0) (c .before .before .before .before .before .before .before .if1 .left) (c .before .f .given .0 .0) (c .before .before .before .before .before .if2 .left) (part-of (λ (r : List ℕ). walkOf level (readT (c .before .before .before .before .before .before .before .before .before .before .before .args .left) r)) (c .before .before .before .before .before .before .before .before .before .before .before .args .s .now) (c .before .before .before .before .before .before .before .before .before .loop .at + nameWidth) {x = walk.Fault (c .before .f .given .0 .0)} (c .before .f .given .1) (c .before .before .before .walk-type .ensures .0))), tt))
+    (λ c. omega (arith, c .before .before .before .before .before .before .before .name-at .ensures))
+    (λ c. search needs)
+    (λ c. search needs)
+    (λ c. let at = c .before .before .before .before .before .before .before .before .before .before .loop .inv .inside in let two = c .before .before .before .before .before .before .before .before .if1 .left in run-turn (c .before .before .before .before .before .before .before .before .before .before .loop .inv) (λ (n : ℕ). readNamed no-fields field ascending (readT (c .before .before .before .before .before .before .before .before .before .before .before .before .args .left)) n (c .before .before .before .before .before .before .before .name-at .result + 1)) (c .before .before .before .before .before .before .before .before .before .before .loop .at + nameWidth) (c .larger .result) (c .before .before .size .given .0 .0) (c .before .before .size .given .0 .1 .0) (c .before .before .before .before .before .before .before .before .before .loop-test .taken) (c .larger .ensures) (walk-fields-ended t (c .before .before)) (omega arith) (omega arith) (named-turn level levelFields no-fields field ascending fields-law (readT (c .before .before .before .before .before .before .before .before .before .before .before .before .args .left)) (c .before .before .before .before .before .before .before .before .before .before .before .before .args .s .now) (c .before .before .before .before .before .before .before .before .before .before .loop .at) (c .before .before .before .before .before .before .before .before .before .before .loop .deep) (c .before .before .before .before .before .before .before .before .before .before .loop .least) (c .before .before .before .before .before .before .before .name-at .result) (c .before .before .before .before .before .before .before .name-at .ensures .0) (c .before .before .before .before .before .before .before .before .if1 .left) (c .before .before .size .given .0 .0) (c .before .before .size .given .0 .1 .0) (c .before .before .before .before .before .before .if2 .left) (part-of (λ (r : List ℕ). walkOf level (readT (c .before .before .before .before .before .before .before .before .before .before .before .before .args .left) r)) (c .before .before .before .before .before .before .before .before .before .before .before .before .args .s .now) (c .before .before .before .before .before .before .before .before .before .before .loop .at + nameWidth) {x = walk.End (c .before .before .size .given .0 .0) (c .before .before .size .given .0 .1 .0)} (c .before .before .size .given .1) (c .before .before .before .before .walk-type .ensures .0))))
+    (λ c. (run-done (c .before .loop .inv) no-fields fields-flat (named-none level levelFields no-fields field ascending fields-law (readT (c .before .before .before .args .left)) (c .before .loop .least)) (c .loop-test .left), (c .before .loop .inv .inside, c .before .loop .inv .shallow))))
     (λ t. walk-type-lts.spec (walk-type-claims t)
     (walk-type-at t)
     walk-type.Post
-    (walk-type-returns t)
-    (walk-type-returns-2 t)
-    (walk-type-shared-slice-read-c t)
-    (walk-type-width-requires t)
-    (walk-type-sub-if3 t)
-    (walk-type-returns-3 t)
-    (walk-type-sub-walk-fields t)
-    (walk-type-part-walk-fields-start t)
-    (walk-type-part-walk-fields-end t)
-    (walk-type-word-at-requires t)
-    (walk-type-sub-walk-fields-2 t)
-    (walk-type-walk-fields-requires t)
-    (walk-type-lift-requires t)
-    (walk-type-sub-walk-types t)
-    (walk-type-part-walk-types-start t)
-    (walk-type-part-walk-types-end t)
-    (walk-type-shared-slice-read-wide t)
-    (walk-type-wide-requires t)
-    (walk-type-add-walk-types t)
-    (walk-type-sub-walk-types-2 t)
-    (walk-type-walk-types-requires t)
-    (walk-type-lift-requires-2 t)
-    (walk-type-sub-walk-type t)
-    (walk-type-part-walk-type-start t)
-    (walk-type-part-walk-type-end t)
-    (walk-type-sub-walk-type-2 t)
-    (walk-type-walk-type-requires t)
-    (walk-type-lift-requires-3 t)
-    (walk-type-returns-4 t)
-    (walk-type-returns-5 t)
-    (walk-type-returns-6 t)
-    (walk-type-returns-7 t)
-    (walk-type-returns-8 t)
-    (walk-type-returns-9 t))
+    (λ c. (sym (t-none (c .before .before .args .left) (c .before .before .args .s .now) (c .if1 .taken)), tt))
+    (λ c. (sym (t-level (c .before .before .before .args .left) (c .before .before .before .args .s .now) (omega arith) (c .if2 .taken)), tt))
+    (λ c. search needs)
+    (λ c κs. search needs)
+    (λ c. search needs)
+    (λ c. (sym (t-short (c .before .before .before .before .before .before .args .left) (c .before .before .before .before .before .before .args .s .now) (omega arith) (omega arith) (omega arith)), tt))
+    (λ c. let n = walk-type-context t (c) .1 in omega arith)
+    (λ c. let n = walk-type-context t (c) .1 in omega arith)
+    (λ c. search needs)
+    (λ c κs. let n = walk-type-context t (c .before) .1 in omega arith)
+    (λ c. search needs)
+    (λ c κs. search needs)
+    (λ c κs. let n = walk-type-context t (c .before .before .before) .1 in room-of (c .walk-fields .result) (c .before .before .before .before .before .before .before .before .before .before .args .s .now) 3 (c .walk-fields .ensures .1) (omega arith) (omega arith) (omega (arith, c .before .before .before .before .before .before .before .before .before .before .good)))
+    (λ c. let n = walk-type-function t (c) .1 in omega arith)
+    (λ c. let n = walk-type-function t (c) .1 in omega arith)
+    (λ c. search needs)
+    (λ c. let n = walk-type-function t (c .before .before) .1 in omega arith)
+    (λ c κs. search needs)
+    (λ c. omega (arith, c .wide .ensures))
+    (λ c. search needs)
+    (λ c κs. search needs)
+    (λ c κs. let n = walk-type-function t (c .before .before .before .before) .1 in room-of (c .walk-types .result) (c .before .before .before .before .before .before .before .before .before .before .before .args .s .now) 2 (c .walk-types .ensures .1) (omega arith) (omega arith) (omega (arith, c .before .before .before .before .before .before .before .before .before .before .before .good)))
+    (λ c. search needs)
+    (λ c. search needs)
+    (λ c. search needs)
+    (λ c. search needs)
+    (λ c κs. search needs)
+    (λ c κs. let o = walk-type-open t (c .before .before .before .before .before .before) in let n = o .0 in room-of (c .walk-type .result) (c .before .before .before .before .before .before .before .before .before .before .before .before .args .s .now) 1 (c .walk-type .ensures .1) (omega arith) (omega arith) (omega (arith, c .before .before .before .before .before .before .before .before .before .before .before .before .good)))
+    (λ c. let o = walk-type-open t (c .before .before .before .before .before) in let n = walk-type-context t (c .before .before .before .before) .1 in lifted (λ (r : List ℕ). walkBy levelFields 0 0 (readFields (readT ((c .before .before .before .before .before .before .before .before .before .before .before .args .left) - 1)) (c .before .before .word-at .result) 0 r)) (c .before .before .before .before .before .before .before .before .before .before .before .args .s .now) 3 (c .before .walk-fields .result) (c .lift .result) (c .lift .ensures) (c .before .walk-fields .ensures .0) (t-context (c .before .before .before .before .before .before .before .before .before .before .before .args .left) (c .before .before .before .before .before .before .before .before .before .before .before .args .s .now) (o .0) (o .1 .0) (o .1 .1) (c .before .before .word-at .result) (c .before .before .word-at .ensures .0) (walk-type-context t (c .before .before .before .before) .0)) (c .before .walk-fields .ensures .1) (omega arith) (omega arith))
+    (λ c. let o = walk-type-open t (c .before .before .before .before .before .before) in let n = walk-type-function t (c .before .before .before .before .before) .1 in lifted (λ (r : List ℕ). walkBy levelTys 0 0 (readTys (readT ((c .before .before .before .before .before .before .before .before .before .before .before .before .args .left) - 1)) (c .before .before .wide .result + 1) r)) (c .before .before .before .before .before .before .before .before .before .before .before .before .args .s .now) 2 (c .before .walk-types .result) (c .lift2 .result) (c .lift2 .ensures) (c .before .walk-types .ensures .0) (t-function (c .before .before .before .before .before .before .before .before .before .before .before .before .args .left) (c .before .before .before .before .before .before .before .before .before .before .before .before .args .s .now) (o .0) (o .1 .0) (o .1 .1) (c .before .before .wide .result + 1) (let e = c .before .before .wide .ensures .0 in omega arith) (walk-type-function t (c .before .before .before .before .before) .0)) (c .before .walk-types .ensures .1) (omega arith) (omega arith))
+    (λ c. let o = walk-type-open t (c .before .before .before) in (sym (t-simple (c .before .before .before .before .before .before .before .before .before .args .left) (c .before .before .before .before .before .before .before .before .before .args .s .now) (o .0) (o .1 .0) (kind-simple (getD (c .before .before .before .before .before .before .before .before .before .args .s .now) 0 0) (c .before .if4 .left) (c .if5 .taken))), (omega arith, omega arith)))
+    (λ c. let o = walk-type-open t (c .before .before .before .before .before .before .before) in let n = o .0 in lifted (λ (r : List ℕ). walkOf level (readT ((c .before .before .before .before .before .before .before .before .before .before .before .before .before .args .left) - 1) r)) (c .before .before .before .before .before .before .before .before .before .before .before .before .before .args .s .now) 1 (c .before .walk-type .result) (c .lift3 .result) (c .lift3 .ensures) (c .before .walk-type .ensures .0) (t-one (c .before .before .before .before .before .before .before .before .before .before .before .before .before .args .left) (c .before .before .before .before .before .before .before .before .before .before .before .before .before .args .s .now) (o .0) (o .1 .0) (c .before .before .before .before .if5 .left) (c .before .before .before .if6 .taken)) (c .before .walk-type .ensures .1) (omega arith) (omega arith))
+    (λ c. let o = walk-type-open t (c .before .before) in let p = c .if4 .taken in (sym (t-other (c .before .before .before .before .before .before .before .before .args .left) (c .before .before .before .before .before .before .before .before .args .s .now) (o .0) (o .1 .0) (λ x y. omega arith) (λ x y. omega arith) (c .before .match .rest .0 .1) (c .before .match .rest .1)), tt))
+    (λ c. let o = walk-type-open t (c .before .before .before .before) in let p = c .if6 .left in (sym (t-other (c .before .before .before .before .before .before .before .before .before .before .args .left) (c .before .before .before .before .before .before .before .before .before .before .args .s .now) (o .0) (o .1 .0) (λ x y. omega arith) (λ x y. omega arith) (c .before .before .before .match .rest .0 .1) (c .before .before .before .match .rest .1)), tt)))
     λ t. walk-types-lts.spec
     (walk-types-claims t)
     (walk-types-at t)
     walk-types.Post
     walk-types-Inv-loop
     walk-types-μ-loop
-    (walk-types-loop-holds t)
-    (walk-types-sub-walk-type t)
-    (walk-types-part-walk-type-start t)
-    (walk-types-part-walk-type-end t)
-    (walk-types-walk-type-requires t)
-    (walk-types-enum-known-size t)
-    (walk-types-add-at t)
-    (walk-types-larger-requires t)
-    (walk-types-enum-known-f t)
-    (walk-types-returns t)
-    (walk-types-add-i t)
-    (walk-types-loop-less t)
-    (walk-types-loop-again t)
-    (walk-types-returns-2 t)
+    (λ c. run-start levelTys (readRun no-params param (readT (c .before .args .left))) (c .before .args .s .now) (c .before .args .count) 0 0 (omega arith) (omega arith))
+    (λ c. search needs)
+    (λ c. search needs)
+    (λ c. search needs)
+    (λ c κs. search needs)
+    (λ c. search needs)
+    (λ c. let i = walk-types-ended t (c .before) in omega arith)
+    (λ c κs. search needs)
+    (λ c. search needs)
+    (λ c. (run-fault (c .before .before .before .before .before .before .loop .inv) (c .before .f .given .0 .0) (c .before .before .before .before .before .loop-test .taken) (item-fault level levelTys no-params param tys-law (readT (c .before .before .before .before .before .before .before .before .args .left)) (c .before .before .before .before .before .before .before .before .args .s .now) (c .before .before .before .before .before .before .loop .at) (c .before .before .before .before .before .before .loop .deep) (c .before .f .given .0 .0) (part-of (λ (r : List ℕ). walkOf level (readT (c .before .before .before .before .before .before .before .before .args .left) r)) (c .before .before .before .before .before .before .before .before .args .s .now) (c .before .before .before .before .before .before .loop .at) {x = walk.Fault (c .before .f .given .0 .0)} (c .before .f .given .1) (c .before .before .before .walk-type .ensures .0))), tt))
+    (λ c. search needs)
+    (λ c. search needs)
+    (λ c. run-turn (c .before .before .before .before .before .before .before .loop .inv) (readRun no-params param (readT (c .before .before .before .before .before .before .before .before .before .args .left))) (c .before .before .before .before .before .before .before .loop .at) (c .larger .result) (c .before .before .size .given .0 .0) (c .before .before .size .given .0 .1 .0) (c .before .before .before .before .before .before .loop-test .taken) (c .larger .ensures) (walk-types-ended t (c .before .before)) (omega arith) (omega arith) (item-turn level levelTys no-params param tys-law (readT (c .before .before .before .before .before .before .before .before .before .args .left)) (c .before .before .before .before .before .before .before .before .before .args .s .now) (c .before .before .before .before .before .before .before .loop .at) (c .before .before .before .before .before .before .before .loop .deep) (c .before .before .size .given .0 .0) (c .before .before .size .given .0 .1 .0) (part-of (λ (r : List ℕ). walkOf level (readT (c .before .before .before .before .before .before .before .before .before .args .left) r)) (c .before .before .before .before .before .before .before .before .before .args .s .now) (c .before .before .before .before .before .before .before .loop .at) {x = walk.End (c .before .before .size .given .0 .0) (c .before .before .size .given .0 .1 .0)} (c .before .before .size .given .1) (c .before .before .before .before .walk-type .ensures .0))))
+    (λ c. (run-done (c .before .loop .inv) no-params tys-flat (run-none level levelTys no-params param tys-law (readT (c .before .before .before .args .left))) (c .loop-test .left), (c .before .loop .inv .inside, c .before .loop .inv .shallow)))
