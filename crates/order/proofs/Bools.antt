@@ -1,0 +1,82 @@
+-- Plain facts about tests.
+-- Assumes nothing.
+use mathlib.Core.Path.{_≡_, refl, sym, _∙_, ap}
+use mathlib.Core.Bool.{Bool, true, false, not, cond, _&&_, _||_, false≢true, true≢false}
+use mathlib.Core.Option.{Option, none, some}
+use Rattle.order.specs.Types.{found}
+
+pub and-false : (a : Bool) → a && false ≡ false
+and-false true = refl
+and-false false = refl
+
+pub and-true : (a : Bool) → a && true ≡ a
+and-true true = refl
+and-true false = refl
+
+pub and-same : (a : Bool) → a && a ≡ a
+and-same true = refl
+and-same false = refl
+
+pub and-assoc : (a b c : Bool) → (a && b) && c ≡ a && (b && c)
+and-assoc true b c = refl
+and-assoc false b c = refl
+
+pub and-swap : (a b c : Bool) → a && (b && c) ≡ b && (a && c)
+and-swap true true c = refl
+and-swap true false c = refl
+and-swap false true c = refl
+and-swap false false c = refl
+
+pub and-comm : (a b : Bool) → a && b ≡ b && a
+and-comm true true = refl
+and-comm true false = refl
+and-comm false true = refl
+and-comm false false = refl
+
+-- a test that implies another
+pub and-implied : (a b : Bool) → (b ≡ true → a ≡ true) → b ≡ a && b
+and-implied true b h = refl
+and-implied false true h = sym (h refl)
+and-implied false false h = refl
+
+pub not-both : (a b : Bool) → (a ≡ true → b ≡ true → ⊥) → a && b ≡ false
+not-both true true h = absurd (h refl refl)
+not-both true false h = refl
+not-both false b h = refl
+
+-- two function types of one count: parameters a and b, results x and y, of which i says that they are ignored
+pub function-tests : (a b i x y : Bool) → (a && b) && (i || (x && y)) ≡ (a && (i || x)) && (b && (i || y))
+function-tests true true true x y = refl
+function-tests true true false x y = refl
+function-tests true false i x y = sym (and-false (i || x))
+function-tests false b i x y = refl
+
+pub or-trans : (i x y z : Bool) → i || x ≡ true → i || y ≡ true → (x ≡ true → y ≡ true → z ≡ true) → i || z ≡ true
+or-trans true x y z p q h = refl
+or-trans false x y z p q h = h p q
+
+pub found-cond : {A : Type 0} (q : Bool) (a : A) (o : Option A) (f : A → Bool) → found (cond q (some a) o) f ≡ cond q (f a) (found o f)
+found-cond true a o f = refl
+found-cond false a o f = refl
+
+pub found-ext : {A : Type 0} (o : Option A) (f g : A → Bool) → ((a : A) → f a ≡ g a) → found o f ≡ found o g
+found-ext none f g h = refl
+found-ext (some a) f g h = h a
+
+pub found-and : {A : Type 0} (o : Option A) (f g h : A → Bool) → ((a : A) → f a ≡ g a && h a) → found o f ≡ found o g && found o h
+found-and none f g h k = refl
+found-and (some a) f g h k = k a
+
+pub found-none : {A : Type 0} (o : Option A) (f : A → Bool) → o ≡ none → found o f ≡ false
+found-none o f e = ap (λ x. found x f) e
+
+pub found-some : {A : Type 0} (o : Option A) (f : A → Bool) (a : A) → o ≡ some a → found o f ≡ f a
+found-some o f a e = ap (λ x. found x f) e
+
+pub by-cases : (P : Bool → Type 0) (q : Bool) → P true → P false → P q
+by-cases P true t f = t
+by-cases P false t f = f
+
+pub cond-up : (q x x′ y y′ : Bool) → (x ≡ true → x′ ≡ true) → (y ≡ true → y′ ≡ true) → cond q x y ≡ true → cond q x′ y′ ≡ true
+cond-up true x x′ y y′ h k e = h e
+cond-up false x x′ y y′ h k e = k e

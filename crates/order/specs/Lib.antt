@@ -1,0 +1,4 @@
+pub mod Order
+pub mod Types
+pub mod Ascending
+pub mod Size

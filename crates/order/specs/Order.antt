@@ -1,0 +1,75 @@
+-- An order among the ten simple types, and what it must obey.
+-- Everything about types is stated over an `Order`: document 01's relation, DMN's reading of functions without parameters and a loaded table of
+-- simple types are instances. `fixed` is document 01's own.
+-- Assumes nothing.
+use mathlib.Core.Path.{_≡_}
+use mathlib.Core.Bool.{Bool, true, false, cond, _&&_, _||_}
+use lib.Dec.{eqb}
+use Rattle.form.specs.Trees.{Simple, any, null, code}
+
+abbrev pub same : Simple → Simple → Bool
+same s t = eqb (code s) (code t)
+
+-- the two directions of a comparison: `up` reads a ≤ b, `down` reads b ≤ a
+pub data Dir : Type 0 where
+  up down : Dir
+
+abbrev pub flip : Dir → Dir
+flip up = down
+flip down = up
+
+abbrev pub pick {ℓ} : {A : Type ℓ} → Dir → A → A → A
+pick up x y = x
+pick down x y = y
+
+pub record Order : Type 0 where
+  -- whether a function type without parameters is judged by its result
+  pub strict : Bool
+  pub sle : Simple → Simple → Bool
+  pub sjoin : Simple → Simple → Simple
+  pub smeet : Simple → Simple → Simple
+
+-- the greatest simple type in a direction: Any upwards, Null downwards
+abbrev pub top : Dir → Simple
+top up = any
+top down = null
+
+abbrev pub bottom : Dir → Simple
+bottom d = top (flip d)
+
+abbrev pub scmp : Order → Dir → Simple → Simple → Bool
+scmp O up s t = O .sle s t
+scmp O down s t = O .sle t s
+
+abbrev pub sbound : Order → Dir → Simple → Simple → Simple
+sbound O up s t = O .sjoin s t
+sbound O down s t = O .smeet s t
+
+pub record Laws (O : Order) : Type 0 where
+  pub reflexive : (s : Simple) → O .sle s s ≡ true
+  pub transitive : (s t u : Simple) → O .sle s t ≡ true → O .sle t u ≡ true → O .sle s u ≡ true
+  pub antisymmetric : (s t : Simple) → O .sle s t ≡ true → O .sle t s ≡ true → s ≡ t
+  pub null-least : (s : Simple) → O .sle null s ≡ true
+  pub any-greatest : (s : Simple) → O .sle s any ≡ true
+  pub join-least : (s t u : Simple) → O .sle (O .sjoin s t) u ≡ O .sle s u && O .sle t u
+  pub meet-greatest : (s t u : Simple) → O .sle u (O .smeet s t) ≡ O .sle u s && O .sle u t
+
+-- Document 01: Null ≤ everything, everything ≤ Any, simple types only to themselves.
+abbrev pub flat : Simple → Simple → Bool
+flat s t = same s null || (same t any || same s t)
+
+-- Null with T gives T; equal simple types give that type; all else Any
+abbrev pub flat-join : Simple → Simple → Simple
+flat-join s t = cond (same s null) t (cond (same t null) s (cond (same s t) s any))
+
+-- Any with T gives T; equal simple types the same; all else Null
+abbrev pub flat-meet : Simple → Simple → Simple
+flat-meet s t = cond (same s any) t (cond (same t any) s (cond (same s t) s null))
+
+-- document 01's relation, and the same with K8's strict reading of functions
+abbrev pub flat-order : Bool → Order
+flat-order b = record { strict = b; sle = flat; sjoin = flat-join; smeet = flat-meet }
+
+abbrev pub fixed : Order
+fixed = flat-order false
+
