@@ -1,0 +1,294 @@
+-- What stands at the front of the bytes says of its parts, and that its names ascend and that it ends within the bytes.
+-- Assumes nothing.
+use Prim.Native.Nat.{ℕ, zero, suc, _+_, _-_, _<_, _≤_}
+use mathlib.Core.Path.{_≡_, refl, sym, ap, ap₂, subst, _∙_}
+use mathlib.Core.Option.{Option, none, some}
+use mathlib.Core.List.{List, [], _∷_}
+use native.Mathlib.Omega.{arith}
+use native.Mathlib.Numerals.{add-one}
+use lib.ListN.{length, getD, take, drop, length-drop}
+use lib.Seq.{take-all, drop-drop}
+use Rattle.form.specs.Trees.{Ty, leaf, built, list, range, context, function, Fields, no-fields, field, Tys, no-params, param, code, decode}
+use Rattle.form.specs.Limits.{nameWidth}
+use Rattle.form.specs.Form.{num, numAt}
+use Rattle.form.specs.Read.{Got, got, bad, andThen, readRun, readNamed, readT, readTys, readFields, ascending}
+use Rattle.form.proofs.Exact.{got-parts, then-parts}
+use Rattle.form.proofs.ExactTypes.{code-decode}
+use Rattle.form.proofs.Nodes.{item-parts, named-parts, NodeT, nSimple, nList, nRange, nContext, nFunction, TypeRead, type-read}
+use Rattle.order.specs.Ascending.{Asc, AscBuilt, AscFields, AscTys}
+use Rattle.order.specs.Size.{size, size-fields, size-tys}
+use Rattle.types.specs.At.{seen, typeAt, fieldsAt, Sig, sig, cons, funOf, size-sig, sigAt, Ok}
+
+-- what `&s[n..]` is
+pub rest : {A : Type 0} (s : List A) (n : ℕ) → take (length s - n) (drop n s) ≡ drop n s
+rest s n = take-all (length s - n) (drop n s) (simp length-drop (omega arith))
+
+-- ---- results taken apart
+pub is-ok : {X : Type 0} (r : Option X) (x : X) → r ≡ some x → Ok r
+unfolding Ok
+is-ok r x e = rw e tt
+
+pub ok-got : {X : Type 0} (r : Option X) → Ok r → (x : X) × (r ≡ some x)
+unfolding Ok
+ok-got (some x) h = (x, refl)
+ok-got none h = absurd h
+
+pub never : {X : Type 0} {x : X} → none ≡ some x → ⊥
+never p = let z : _≡_ {A = ℕ} 0 1 = cc in omega arith
+
+pub seen-got : {X : Type 0} {P : Type 0} (r : Got X) (x : X) → seen r ≡ some x → ((n : ℕ) → r ≡ got x n → P) → P
+unfolding seen
+seen-got (got y n) x e k = let p : y ≡ x = cc in k n (ap (λ z. got z n) p)
+seen-got (bad f) x e k = absurd (never e)
+
+pub got-seen : {X : Type 0} (r : Got X) (x : X) (n : ℕ) → r ≡ got x n → seen r ≡ some x
+unfolding seen
+got-seen r x n e = ap seen e
+
+-- ---- the sizes that the reader gives are those of the trees, names ascend, and all ends within the bytes
+pub record Told {X : Type 0} (sz : X → ℕ) (asc : X → Type 0) (s : List ℕ) (x : X) (n : ℕ) : Type 0 where
+  pub sized : n ≡ sz x
+  pub ascend : asc x
+  pub inside : n ≤ length s
+
+told-as : {X : Type 0} {sz : X → ℕ} {asc : X → Type 0} {s : List ℕ} {x y : X} {n m : ℕ} → x ≡ y → n ≡ m → Told sz asc s x n → Told sz asc s y m
+told-as p q f = rw (← p, ← q) f
+
+abbrev Tells : {X : Type 0} → (X → ℕ) → (X → Type 0) → (List ℕ → Got X) → Type 0
+Tells {X} sz asc read = (s : List ℕ) (x : X) (n : ℕ) → read s ≡ got x n → Told sz asc s x n
+
+module _ (child : List ℕ → Got Ty) (ih : Tells size Asc child) where
+  tys-told : (c : ℕ) → Tells size-tys AscTys (readTys child c)
+  unfolding readRun size Asc
+  tys-told zero s x n e = got-parts no-params x 0 n e (λ p q. told-as p q (record { sized = refl; ascend = tt; inside = omega arith }))
+  tys-told (suc c) s z n e =
+      item-parts no-params param child c s z n e (λ x m px y j py pz pn.
+      let F = ih s x m px in
+      let G = tys-told c (drop m s) y j py in
+      told-as pz refl (record { sized = omega (arith, F .sized, G .sized); ascend = (F .ascend, G .ascend); inside = omega (arith, F .inside, simp length-drop at (G .inside)) }))
+
+  fields-told : (c least : ℕ) → Tells size-fields (λ fs. AscFields fs least) (readFields child c least)
+  unfolding readNamed size Asc
+  fields-told zero least s x n e = got-parts no-fields x 0 n e (λ p q. told-as p q (record { sized = refl; ascend = tt; inside = omega arith }))
+  fields-told (suc c) least s z n e =
+      named-parts no-fields field ascending child c least s z n e (λ w h x m px y j py pz pn.
+      let F = ih (drop nameWidth s) x m px in
+      let G = fields-told c (num (take nameWidth s) + 1) (drop m (drop nameWidth s)) y j py in
+      let a : AscFields y (suc (num (take nameWidth s))) = rw add-one at (G .ascend) in
+      told-as pz refl (record {
+        sized = omega (arith, F .sized, G .sized);
+        ascend = (h, F .ascend, a);
+        inside = omega (arith, simp length-drop at (F .inside), simp (length-drop, length-drop) at (G .inside));
+      }))
+
+type-step : (left : ℕ) (s : List ℕ) → Tells size Asc (readT left) → 0 < length s → (t : Ty) (n : ℕ) → NodeT left s t n → Told size Asc s t n
+unfolding size Asc
+type-step left s ih h t n (nSimple p q) = record { sized = refl; ascend = tt; inside = omega arith }
+type-step left s ih h t n (nList e u m r) = let F = ih (drop 1 s) u m r in record { sized = omega (arith, F .sized); ascend = F .ascend; inside = omega (arith, simp length-drop at (F .inside)) }
+type-step left s ih h t n (nRange e u m r) = let F = ih (drop 1 s) u m r in record { sized = omega (arith, F .sized); ascend = F .ascend; inside = omega (arith, simp length-drop at (F .inside)) }
+type-step left s ih h t n (nContext e k fs m r) = let F = fields-told (readT left) ih (numAt 2 1 s) 0 (drop 3 s) fs m r in record { sized = omega (arith, F .sized); ascend = F .ascend; inside = omega (arith, simp length-drop at (F .inside)) }
+type-step left s ih h t n (nFunction e k ts m r u j q) =
+    let F = tys-told (readT left) ih (getD s 1 0) (drop 2 s) ts m r in
+    let G = ih (drop m (drop 2 s)) u j q in
+    record { sized = omega (arith, F .sized, G .sized); ascend = (F .ascend, G .ascend); inside = omega (arith, simp length-drop at (F .inside), simp (length-drop, length-drop) at (G .inside)) }
+
+pub type-told : (l : ℕ) → Tells size Asc (readT l)
+type-told zero s t n e = absurd (let h = type-read zero s t n e .some-level in omega arith)
+type-told (suc l) s t n e =
+    let R = type-read (suc l) s t n e in
+    let z : suc l - 1 ≡ l = omega arith in
+    type-step l s (type-told l) (R .some-byte) t n (subst (λ (k : ℕ). NodeT k s t n) z (R .node))
+
+-- ---- a type that was read
+-- the command byte
+abbrev pub cmd : Ty → ℕ
+cmd (leaf s) = 0x20 + code s
+cmd (built (list t)) = 0x2A
+cmd (built (range t)) = 0x2B
+cmd (built (context fs)) = 0x2C
+cmd (built (function ps r)) = 0x2D
+
+pub record IsCtx (l : ℕ) (s : List ℕ) (t : Ty) : Type 0 where
+  pub fs : Fields
+  pub three : 3 ≤ length s
+  pub read : fieldsAt (l - 1) (numAt 2 1 s) 0 (drop 3 s) ≡ some fs
+  pub is : t ≡ built (context fs)
+
+pub record IsFun (l : ℕ) (s : List ℕ) (t : Ty) : Type 0 where
+  pub f : Sig
+  pub two : 2 ≤ length s
+  pub read : sigAt (l - 1) (getD s 1 0) (drop 2 s) ≡ some f
+  pub is : t ≡ funOf f
+
+then-got : {X Y Z : Type 0} (g : X → Y → Z) (s : List ℕ) (more : List ℕ → Got Y) (r : Got X) (x : X) (m : ℕ) (y : Y) (n : ℕ) → r ≡ got x m → more (drop m s) ≡ got y n → andThen g 0 s more r ≡ got (g x y) (0 + m + n)
+unfolding andThen Rattle.form.specs.Read.front
+then-got g s more r x m y n p q = rw (p, q)
+
+module _ (l : ℕ) (s : List ℕ) (t : Ty) (q : typeAt l s ≡ some t) where
+  opened : {P : Type 0} → ((n : ℕ) → readT l s ≡ got t n → P) → P
+  unfolding typeAt
+  opened k = seen-got (readT l s) t q k
+
+  pub some-byte : 0 < length s
+  some-byte = opened (λ n e. type-read l s t n e .some-byte)
+
+  pub some-level : 0 < l
+  some-level = opened (λ n e. type-read l s t n e .some-level)
+
+  pub t-good : Asc t × (size t ≤ length s)
+  t-good = opened (λ n e. let F = type-told l s t n e in (F .ascend, omega (arith, F .sized, F .inside)))
+
+node-cmd : (left : ℕ) (s : List ℕ) (t : Ty) (n : ℕ) → NodeT left s t n → cmd t ≡ getD s 0 0
+node-cmd left s t n (nSimple p q) = omega (arith, code-decode (getD s 0 0 - 32) (omega arith))
+node-cmd left s t n (nList e u m r) = sym e
+node-cmd left s t n (nRange e u m r) = sym e
+node-cmd left s t n (nContext e k fs m r) = sym e
+node-cmd left s t n (nFunction e k ts m r u j q) = sym e
+
+pub cmd-is : (l : ℕ) (s : List ℕ) (t : Ty) → typeAt l s ≡ some t → cmd t ≡ getD s 0 0
+cmd-is l s t q = opened l s t q (λ n e. node-cmd (l - 1) s t n (type-read l s t n e .node))
+
+node-list : (left : ℕ) (s : List ℕ) (t : Ty) (n : ℕ) → NodeT left s t n → getD s 0 0 ≡ 42 → (u : Ty) × (typeAt left (drop 1 s) ≡ some u) × (t ≡ built (list u))
+unfolding typeAt
+node-list left s t n (nSimple p q) c = absurd (omega arith)
+node-list left s t n (nList e u m r) c = (u, got-seen (readT left (drop 1 s)) u m r, refl)
+node-list left s t n (nRange e u m r) c = absurd (omega arith)
+node-list left s t n (nContext e k fs m r) c = absurd (omega arith)
+node-list left s t n (nFunction e k ts m r u j q) c = absurd (omega arith)
+
+node-range : (left : ℕ) (s : List ℕ) (t : Ty) (n : ℕ) → NodeT left s t n → getD s 0 0 ≡ 43 → (u : Ty) × (typeAt left (drop 1 s) ≡ some u) × (t ≡ built (range u))
+unfolding typeAt
+node-range left s t n (nSimple p q) c = absurd (omega arith)
+node-range left s t n (nList e u m r) c = absurd (omega arith)
+node-range left s t n (nRange e u m r) c = (u, got-seen (readT left (drop 1 s)) u m r, refl)
+node-range left s t n (nContext e k fs m r) c = absurd (omega arith)
+node-range left s t n (nFunction e k ts m r u j q) c = absurd (omega arith)
+
+node-ctx : (l : ℕ) (s : List ℕ) (t : Ty) (n : ℕ) → NodeT (l - 1) s t n → getD s 0 0 ≡ 44 → IsCtx l s t
+unfolding fieldsAt
+node-ctx l s t n (nSimple p q) c = absurd (omega arith)
+node-ctx l s t n (nList e u m r) c = absurd (omega arith)
+node-ctx l s t n (nRange e u m r) c = absurd (omega arith)
+node-ctx l s t n (nContext e k fs m r) c = record { fs = fs; three = k; read = got-seen (readFields (readT (l - 1)) (numAt 2 1 s) 0 (drop 3 s)) fs m r; is = refl }
+node-ctx l s t n (nFunction e k ts m r u j q) c = absurd (omega arith)
+
+node-fun : (l : ℕ) (s : List ℕ) (t : Ty) (n : ℕ) → NodeT (l - 1) s t n → getD s 0 0 ≡ 45 → IsFun l s t
+unfolding sigAt
+node-fun l s t n (nSimple p q) c = absurd (omega arith)
+node-fun l s t n (nList e u m r) c = absurd (omega arith)
+node-fun l s t n (nRange e u m r) c = absurd (omega arith)
+node-fun l s t n (nContext e k fs m r) c = absurd (omega arith)
+node-fun l s t n (nFunction e k ts m r u j q) c = record {
+  f = sig ts u;
+  two = k;
+  read = got-seen (andThen sig 0 (drop 2 s) (readT (l - 1)) (readTys (readT (l - 1)) (getD s 1 0) (drop 2 s))) (sig ts u) (0 + m + j) (then-got sig (drop 2 s) (readT (l - 1)) (readTys (readT (l - 1)) (getD s 1 0) (drop 2 s)) ts m u j r q);
+  is = refl;
+}
+
+node-leaf : (left : ℕ) (s : List ℕ) (t : Ty) (n : ℕ) → NodeT left s t n → 32 ≤ getD s 0 0 → getD s 0 0 ≤ 41 → t ≡ leaf (decode (getD s 0 0 - 32))
+node-leaf left s t n (nSimple p q) h k = refl
+node-leaf left s t n (nList e u m r) h k = absurd (omega arith)
+node-leaf left s t n (nRange e u m r) h k = absurd (omega arith)
+node-leaf left s t n (nContext e i fs m r) h k = absurd (omega arith)
+node-leaf left s t n (nFunction e i ts m r u j q) h k = absurd (omega arith)
+
+module _ (l : ℕ) (s : List ℕ) (t : Ty) (q : typeAt l s ≡ some t) where
+  pub is-list : getD s 0 0 ≡ 42 → (u : Ty) × (typeAt (l - 1) (drop 1 s) ≡ some u) × (t ≡ built (list u))
+  is-list c = opened l s t q (λ n e. node-list (l - 1) s t n (type-read l s t n e .node) c)
+
+  pub is-range : getD s 0 0 ≡ 43 → (u : Ty) × (typeAt (l - 1) (drop 1 s) ≡ some u) × (t ≡ built (range u))
+  is-range c = opened l s t q (λ n e. node-range (l - 1) s t n (type-read l s t n e .node) c)
+
+  pub is-ctx : getD s 0 0 ≡ 44 → IsCtx l s t
+  is-ctx c = opened l s t q (λ n e. node-ctx l s t n (type-read l s t n e .node) c)
+
+  pub is-fun : getD s 0 0 ≡ 45 → IsFun l s t
+  is-fun c = opened l s t q (λ n e. node-fun l s t n (type-read l s t n e .node) c)
+
+  pub is-leaf : 32 ≤ getD s 0 0 → getD s 0 0 ≤ 41 → t ≡ leaf (decode (getD s 0 0 - 32))
+  is-leaf h k = opened l s t q (λ n e. node-leaf (l - 1) s t n (type-read l s t n e .node) h k)
+
+-- ---- entries
+pub record Entry (l n least : ℕ) (s : List ℕ) (fs : Fields) : Type 0 where
+  pub name : ℕ
+  pub t : Ty
+  pub more : Fields
+  pub two : nameWidth ≤ length s
+  pub named : name ≡ num (take nameWidth s)
+  pub above : least ≤ name
+  pub first : typeAt l (drop nameWidth s) ≡ some t
+  pub second : fieldsAt l n (suc name) (drop (size t) (drop nameWidth s)) ≡ some more
+  pub is : fs ≡ field name t more
+
+pub entry : (l n least : ℕ) (s : List ℕ) (fs : Fields) → fieldsAt l (suc n) least s ≡ some fs → Entry l n least s fs
+unfolding fieldsAt typeAt
+entry l n least s fs e =
+    seen-got (readFields (readT l) (suc n) least s) fs e (λ m r.
+    named-parts no-fields field ascending (readT l) n least s fs m r (λ w h x k px y j py pz pn.
+    let F = type-told l (drop nameWidth s) x k px in
+    let p : seen (readFields (readT l) n (num (take nameWidth s) + 1) (drop k (drop nameWidth s))) ≡ some y = got-seen (readFields (readT l) n (num (take nameWidth s) + 1) (drop k (drop nameWidth s))) y j py in
+    record {
+      name = num (take nameWidth s);
+      t = x;
+      more = y;
+      two = w;
+      named = refl;
+      above = h;
+      first = got-seen (readT l (drop nameWidth s)) x k px;
+      second = subst (λ (i : ℕ). seen (readFields (readT l) n (suc (num (take nameWidth s))) (drop i (drop nameWidth s))) ≡ some y) (F .sized) (rw add-one at p);
+      is = sym pz;
+    }))
+
+pub no-entry : (l least : ℕ) (s : List ℕ) (fs : Fields) → fieldsAt l 0 least s ≡ some fs → fs ≡ no-fields
+unfolding fieldsAt seen readNamed
+no-entry l least s fs e = cc
+
+pub fields-good : (l n least : ℕ) (s : List ℕ) (fs : Fields) → fieldsAt l n least s ≡ some fs → AscFields fs least × (size-fields fs ≤ length s)
+unfolding fieldsAt
+fields-good l n least s fs e = seen-got (readFields (readT l) n least s) fs e (λ m r. let F = fields-told (readT l) (type-told l) n least s fs m r in (F .ascend, omega (arith, F .sized, F .inside)))
+
+-- ---- parameters
+pub record Then (l n : ℕ) (s : List ℕ) (f : Sig) : Type 0 where
+  pub t : Ty
+  pub y : Sig
+  pub first : typeAt l s ≡ some t
+  pub second : sigAt l n (drop (size t) s) ≡ some y
+  pub is : f ≡ cons t y
+
+pub parameter : (l n : ℕ) (s : List ℕ) (f : Sig) → sigAt l (suc n) s ≡ some f → Then l n s f
+unfolding sigAt typeAt
+parameter l n s f e =
+    seen-got (andThen sig 0 s (readT l) (readTys (readT l) (suc n) s)) f e (λ m r.
+    then-parts sig 0 s (readT l) (readTys (readT l) (suc n) s) f m r (λ ts k pt u j pu pz pn.
+    item-parts no-params param (readT l) n s ts k pt (λ x i px y v py qz qn.
+    let F = type-told l s x i px in
+    let iv : i + v ≡ k = omega arith in
+    let d : drop v (drop i s) ≡ drop k s = drop-drop v i s ∙ ap (λ (z : ℕ). drop z s) iv in
+    record {
+      t = x;
+      y = sig y u;
+      first = got-seen (readT l s) x i px;
+      second = subst (λ (z : ℕ). seen (andThen sig 0 (drop z s) (readT l) (readTys (readT l) n (drop z s))) ≡ some (sig y u)) (F .sized)
+          (got-seen (andThen sig 0 (drop i s) (readT l) (readTys (readT l) n (drop i s))) (sig y u) (0 + v + j)
+          (then-got sig (drop i s) (readT l) (readTys (readT l) n (drop i s)) y v u j py (ap (readT l) d ∙ pu)));
+      is = sym pz ∙ ap (λ (z : Tys). sig z u) (sym qz);
+    })))
+
+pub result : (l : ℕ) (s : List ℕ) (f : Sig) → sigAt l 0 s ≡ some f → (r : Ty) × (typeAt l s ≡ some r) × (f ≡ sig no-params r)
+unfolding sigAt typeAt readRun
+result l s f e =
+    seen-got (andThen sig 0 s (readT l) (readTys (readT l) 0 s)) f e (λ m q.
+    then-parts sig 0 s (readT l) (readTys (readT l) 0 s) f m q (λ ts k pt u j pu pz pn.
+    got-parts no-params ts 0 k pt (λ a b.
+    (u, got-seen (readT l s) u j (ap (λ (z : ℕ). readT l (drop z s)) b ∙ pu), sym pz ∙ ap (λ (z : Tys). sig z u) (sym a)))))
+
+abbrev pub AscSig : Sig → Type 0
+AscSig (sig ps r) = AscTys ps × Asc r
+
+pub size-cons : (t : Ty) (f : Sig) → size-sig (cons t f) ≡ size t + size-sig f
+unfolding size
+size-cons t (sig ps r) = omega arith
+
+pub size-fun : (f : Sig) → size (funOf f) ≡ size-sig f + 2
+unfolding size
+size-fun (sig ps r) = omega arith
