@@ -64,6 +64,16 @@ module _ {X : Type 0} (enc : X → List ℕ) (good : X → Type 0) (lv : X → �
       let f : length (enc x) ≤ mostBytes = subst (λ (y : List ℕ). length y ≤ mostBytes) (A .bytes) (A .short) in
       rw (A .bytes, lt-ltb 0 (length (enc x)) (some x), le-leb (length (enc x)) mostBytes f) (all-got base (length (enc x)) (read (enc x)) x r)
 
+-- what was accepted was read whole
+pub whole-got : {X : Type 0} (base : ℕ) (read : List ℕ → Got X) (s : List ℕ) (x : X) → readWhole base read s ≡ done x → read s ≡ got x (length s)
+unfolding readWhole _>>_
+whole-got base read s x e = go (ltb 0 (length s)) (leb (length s) mostBytes) e
+  where
+    go : (a b : Bool) → (do check base a; check base b; all base (length s) (read s)) ≡ done x → read s ≡ got x (length s)
+    go false b ee = absurd (refused-done ee)
+    go true false ee = absurd (refused-done ee)
+    go true true ee = all-parts base (length s) (read s) x ee (λ r. r)
+
 -- two trees that are read back from equal bytes are equal
 pub read-same : {X : Type 0} (read : List ℕ → Got X) (s t : List ℕ) (x y : X) (n m : ℕ) → s ≡ t → read s ≡ got x n → read t ≡ got y m → x ≡ y
 read-same read s t x y n m e p q = got-parts x y n m (sym p ∙ ap read e ∙ q) (λ a b. a)
@@ -73,3 +83,9 @@ pub level-told : {X : Type 0} {P : Type 0} (lv : X → ℕ) (o : Outcome X) (n :
 unfolding _>>=_
 level-told lv (done x) n e k = let d : lv x ≡ n = cc in k x refl d
 level-told lv (refused m) n e k = absurd (refused-done e)
+
+-- the refusal behind a refusing one
+pub level-refused : {X : Type 0} (lv : X → ℕ) (o : Outcome X) (n : ℕ) → (do x ← o; done (lv x)) ≡ refused n → o ≡ refused n
+unfolding _>>=_
+level-refused lv (done x) n e = absurd (refused-done (sym e))
+level-refused lv (refused m) n e = let d : m ≡ n = cc in ap refused d

@@ -2,3 +2,4 @@ pub mod Order
 pub mod Types
 pub mod Ascending
 pub mod Size
+pub mod Document

@@ -1,2 +1,5 @@
 pub mod Reading
 pub mod Entries
+pub mod Conforming
+pub mod InStep
+pub mod Calling

@@ -1,0 +1,45 @@
+-- The definitions of the calls: refusals in document 01's order, then the answer.
+-- Assumes nothing.
+use mathlib.Core.Bool.{Bool, true, false}
+use mathlib.Core.List.{List}
+use Prim.Native.Nat.{ℕ}
+use Rattle.form.specs.Trees.{null, Ty, leaf, built}
+use Rattle.form.specs.Outcome.{Outcome, done, _>>=_}
+use Rattle.form.specs.Read.{readType}
+use Rattle.order.specs.Order.{same}
+use Rattle.order.specs.Document.{conformsTo, isInstanceOf}
+
+-- FeelType::is_conformant: self, then the target
+unfoldable pub isConformant : List ℕ → List ℕ → Outcome Bool
+isConformant a b = do
+  s ← readType a
+  t ← readType b
+  done (conformsTo s t)
+
+-- FeelType::instance_of: self, then the other
+unfoldable pub instanceOf : List ℕ → List ℕ → Outcome Bool
+instanceOf a b = do
+  s ← readType a
+  t ← readType b
+  done (isInstanceOf s t)
+
+-- one of the ten simple types
+abbrev pub simple : Ty → Bool
+simple (leaf s) = true
+simple (built x) = false
+
+-- FeelType::is_simple_built_in_type
+unfoldable pub isSimpleBuiltInType : List ℕ → Outcome Bool
+isSimpleBuiltInType t = do
+  s ← readType t
+  done (simple s)
+
+abbrev pub nullType : Ty → Bool
+nullType (leaf s) = same s null
+nullType (built x) = false
+
+-- FeelType::is_null
+unfoldable pub isNull : List ℕ → Outcome Bool
+isNull t = do
+  s ← readType t
+  done (nullType s)

@@ -1,0 +1,37 @@
+-- Conformance of two types that were read: yes with both sizes, or no.
+-- Assumes nothing.
+use Prim.Native.Nat.{ℕ, _+_}
+use mathlib.Core.Bool.{Bool, true, false, _&&_, _||_}
+use mathlib.Core.Option.{Option, none, some}
+use Rattle.form.specs.Trees.{Ty, built, context, Fields}
+use Rattle.order.specs.Order.{up, fixed}
+use Rattle.order.specs.Types.{le, cmps}
+use Rattle.order.specs.Size.{size}
+use Rattle.types.specs.At.{Sig, sig}
+use Rattle.types.specs.declared.Conform.{Conform}
+use Rattle.types.specs.declared.Conform.the-variants.{Yes, No}
+
+abbrev pub judge : Bool → ℕ → ℕ → Conform
+judge true x y = Yes x y
+judge false x y = No
+
+unfoldable pub conformBy : {X : Type 0} → (X → ℕ) → (X → X → Bool) → Option X → Option X → Conform
+conformBy sz test (some x) (some y) = judge (test x y) (sz x) (sz y)
+conformBy sz test (some x) none = No
+conformBy sz test none y = No
+
+abbrev pub conformOf : Option Ty → Option Ty → Conform
+conformOf x y = conformBy size (le fixed) x y
+
+-- each name of the second is in the first, with a type that conforms
+abbrev pub le-fields : Fields → Fields → Bool
+le-fields fs gs = le fixed (built (context fs)) (built (context gs))
+
+-- parameters the other way round; whether the results are looked at is told from outside
+abbrev pub le-sig : Bool → Sig → Sig → Bool
+le-sig ignored (sig ps r) (sig qs s) = cmps fixed up qs ps && (ignored || le fixed r s)
+
+-- i and j bytes in front
+abbrev pub grown : ℕ → ℕ → Conform → Conform
+grown i j (Yes x y) = Yes (x + i) (y + j)
+grown i j No = No
