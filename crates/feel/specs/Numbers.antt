@@ -2,6 +2,7 @@
 -- high word 2, none or unknown.
 -- Assumes nothing.
 use Prim.Native.Nat.{ℕ, _+_, _*_, _^_}
+use mathlib.Core.Bool.{Bool, true, false}
 use Rattle.form.specs.Outcome.{Outcome, done, refused}
 
 -- a high word
@@ -12,3 +13,9 @@ high w = w * 2 ^ 32
 abbrev pub numbered : Outcome ℕ → ℕ
 numbered (done n) = n
 numbered (refused k) = high 1 + k
+
+-- of a call that answers yes or no
+abbrev pub judged : Outcome Bool → ℕ
+judged (done true) = 1
+judged (done false) = 0
+judged (refused k) = high 1 + k

@@ -1,9 +1,11 @@
 // The exported C functions. Each answers one number: specs/Numbers.antt has the convention, include/feel.h the words for callers.
 ghost use mathlib.Core.Path.{_≡_};
-ghost use Rattle.form.specs.Answers.{checked};
+ghost use Rattle.form.specs.Answers.{checked, verdict};
 ghost use Rattle.form.specs.Read.{checkValue, checkType};
-ghost use Rattle.feel.specs.Numbers.{numbered};
+ghost use Rattle.types.specs.Calls.{isConformant, isSimpleBuiltInType, isNull};
+ghost use Rattle.feel.specs.Numbers.{numbered, judged};
 use form::Checked;
+use form::Verdict;
 
 // High word 1: refused.
 const REFUSED: u64 = 0x1_0000_0000;
@@ -15,6 +17,17 @@ fn check_number(c: Checked) -> u64
     match c {
         Checked::Accepted { level } => level as u64,
         Checked::Refused(n) => REFUSED + n as u64,
+    }
+}
+
+// The number of a verdict.
+fn verdict_number(v: Verdict) -> u64
+    ensures { λ r. ⌜ r ≡ judged (verdict v) ⌝ }
+{
+    match v {
+        Verdict::Yes => 1,
+        Verdict::No => 0,
+        Verdict::Refused(n) => REFUSED + n as u64,
     }
 }
 
@@ -32,4 +45,28 @@ pub extern "C" fn feel_check_type(t: &[u8]) -> u64
     ensures { λ r. ⌜ r ≡ numbered (checkType (now (t .entry))) ⌝ }
 {
     check_number(form::check_type(t))
+}
+
+// Does the type a conform to the type b?
+#[no_mangle]
+pub extern "C" fn feel_type_is_conformant(a: &[u8], b: &[u8]) -> u64
+    ensures { λ r. ⌜ r ≡ judged (isConformant (now (a .entry)) (now (b .entry))) ⌝ }
+{
+    verdict_number(types::is_conformant(a, b))
+}
+
+// Is this one of the ten simple types?
+#[no_mangle]
+pub extern "C" fn feel_type_is_simple_built_in_type(t: &[u8]) -> u64
+    ensures { λ r. ⌜ r ≡ judged (isSimpleBuiltInType (now (t .entry))) ⌝ }
+{
+    verdict_number(types::is_simple_built_in_type(t))
+}
+
+// Is this the type Null?
+#[no_mangle]
+pub extern "C" fn feel_type_is_null(t: &[u8]) -> u64
+    ensures { λ r. ⌜ r ≡ judged (isNull (now (t .entry))) ⌝ }
+{
+    verdict_number(types::is_null(t))
 }

@@ -18,9 +18,9 @@ use Rattle.order.specs.Order.{fixed, flat}
 use Rattle.order.specs.Types.{le, cmp, empty}
 use Rattle.order.specs.Size.{size, size-fields}
 use Rattle.order.proofs.Simple.{fixed-laws}
-use Rattle.order.proofs.Sentences.{les, le-functions}
+use Rattle.order.proofs.Sentences.{les, le-functions, le-contexts}
 use Rattle.types.specs.At.{typeAt, fieldsAt, Sig, sig, cons, funOf, size-sig, sigAt, Ok, sizeAt}
-use Rattle.types.specs.Conform.{judge, conformBy, conformOf, le-fields, le-sig, grown}
+use Rattle.types.specs.Conform.{judge, conformBy, conformOf, entries, le-sig, grown}
 use Rattle.types.specs.declared.Conform.{Conform}
 use Rattle.types.specs.declared.Conform.the-variants.{Yes, No}
 use Rattle.types.proofs.Reading.{rest, ok-got, is-ok, cmd, cmd-is, some-byte, some-level, is-list, is-range, is-ctx, IsCtx, is-fun, IsFun, t-good, size-fun, Then, parameter, result}
@@ -220,12 +220,12 @@ module _ (l : ℕ) (a b : List ℕ) (p : Ok (typeAt l a)) (q : Ok (typeAt l b)) 
       go : (t u : Ty) → typeAt l a ≡ some t → typeAt l b ≡ some u → (x : Ty) × (typeAt (l - 1) (drop 1 a) ≡ some x) × (t ≡ built (range x)) → (y : Ty) × (typeAt (l - 1) (drop 1 b) ≡ some y) × (u ≡ built (range y)) → Runs (size) (le fixed) (typeAt (l - 1)) (typeAt (l - 1)) 1
       go t u e f g h = record { x = g .0; y = h .0; long-a = omega (arith, byte-a); long-b = omega (arith, byte-b); fits-a = omega (arith, t-good l a (built (range (g .0))) (e ∙ ap some (g .2)) .1); fits-b = omega (arith, t-good l b (built (range (h .0))) (f ∙ ap some (h .2)) .1); read-a = g .1; read-b = h .1; is = judged (built (range (g .0))) (built (range (h .0))) (e ∙ ap some (g .2)) (f ∙ ap some (h .2)) ∙ judge-is (le fixed (g .0) (h .0)) (omega arith) (omega arith) }
 
-  pub contexts : (n m : ℕ) → n ≡ numAt 2 1 a → m ≡ numAt 2 1 b → getD a 0 0 ≡ 44 → getD b 0 0 ≡ 44 → Runs (size-fields) le-fields (fieldsAt (l - 1) n 0) (fieldsAt (l - 1) m 0) 3
+  pub contexts : (n m : ℕ) → n ≡ numAt 2 1 a → m ≡ numAt 2 1 b → getD a 0 0 ≡ 44 → getD b 0 0 ≡ 44 → Runs size-fields (entries (le fixed)) (fieldsAt (l - 1) n 0) (fieldsAt (l - 1) m 0) 3
   unfolding size
   contexts n m ne me c d = trees (λ t u e f. go t u e f (is-ctx l a t e c) (is-ctx l b u f d))
     where
-      go : (t u : Ty) → typeAt l a ≡ some t → typeAt l b ≡ some u → IsCtx l a t → IsCtx l b u → Runs (size-fields) le-fields (fieldsAt (l - 1) n 0) (fieldsAt (l - 1) m 0) 3
-      go t u e f g h = record { x = g .fs; y = h .fs; long-a = g .three; long-b = h .three; fits-a = omega (arith, t-good l a (built (context (g .fs))) (e ∙ ap some (g .is)) .1); fits-b = omega (arith, t-good l b (built (context (h .fs))) (f ∙ ap some (h .is)) .1); read-a = ap (λ k. fieldsAt (l - 1) k 0 (drop 3 a)) ne ∙ g .read; read-b = ap (λ k. fieldsAt (l - 1) k 0 (drop 3 b)) me ∙ h .read; is = judged (built (context (g .fs))) (built (context (h .fs))) (e ∙ ap some (g .is)) (f ∙ ap some (h .is)) ∙ judge-is (le-fields (g .fs) (h .fs)) (omega arith) (omega arith) }
+      go : (t u : Ty) → typeAt l a ≡ some t → typeAt l b ≡ some u → IsCtx l a t → IsCtx l b u → Runs size-fields (entries (le fixed)) (fieldsAt (l - 1) n 0) (fieldsAt (l - 1) m 0) 3
+      go t u e f g h = record { x = g .fs; y = h .fs; long-a = g .three; long-b = h .three; fits-a = omega (arith, t-good l a (built (context (g .fs))) (e ∙ ap some (g .is)) .1); fits-b = omega (arith, t-good l b (built (context (h .fs))) (f ∙ ap some (h .is)) .1); read-a = ap (λ k. fieldsAt (l - 1) k 0 (drop 3 a)) ne ∙ g .read; read-b = ap (λ k. fieldsAt (l - 1) k 0 (drop 3 b)) me ∙ h .read; is = judged (built (context (g .fs))) (built (context (h .fs))) (e ∙ ap some (g .is)) (f ∙ ap some (h .is)) ∙ ap (λ z. judge z (size (built (context (g .fs)))) (size (built (context (h .fs))))) (le-contexts fixed (g .fs) (h .fs)) ∙ judge-is (entries (le fixed) (g .fs) (h .fs)) (omega arith) (omega arith) }
 
   pub two-a : getD a 0 0 ≡ 45 → 2 ≤ length a
   two-a c = let g = ok-got (typeAt l a) p in is-fun l a (g .0) (g .1) c .two

@@ -1,4 +1,4 @@
--- Two runs of children taken in step: parameters, and two ascending lists of names.
+-- Two runs of parameters taken in step.
 -- Assumes nothing.
 use Prim.Native.Nat.{ℕ, zero, suc, _+_, _*_, _-_, _<_, _≤_}
 use mathlib.Core.Path.{_≡_, refl, sym, ap, ap₂, subst, _∙_}
@@ -22,18 +22,18 @@ use Rattle.order.proofs.Sentences.{les}
 use Rattle.order.proofs.Conform.{has-skip, has-look, look-below}
 use Rattle.order.proofs.Bools.{and-assoc, found-none}
 use Rattle.types.specs.At.{typeAt, fieldsAt, Sig, sig, cons, size-sig, sigAt, Ok, sizeAt}
-use Rattle.types.specs.Conform.{judge, conformBy, conformOf, le-fields, le-sig, grown}
+use Rattle.types.specs.Conform.{judge, conformBy, conformOf, le-sig, grown}
 use Rattle.types.specs.declared.Conform.{Conform}
 use Rattle.types.specs.declared.Conform.the-variants.{Yes, No}
 use Rattle.types.proofs.Reading.{rest, ok-got, is-ok, t-good, size-cons, Then, parameter, result}
-use Rattle.types.proofs.Entries.{step, size-got, Here, here, gone, asc-from, ahead, next-is, size-entry}
+use Rattle.types.proofs.Entries.{step, size-got}
 use Rattle.types.proofs.Conforming.{judge-is, grown-judge, judge-yes, judge-no, called}
 
 -- two verdicts that are equal since their tests and their sums are
-moved : (q r : Bool) (i j x y i′ j′ x′ y′ : ℕ) → q ≡ r → x + i ≡ x′ + i′ → y + j ≡ y′ + j′ → grown i j (judge q x y) ≡ grown i′ j′ (judge r x′ y′)
+pub moved : (q r : Bool) (i j x y i′ j′ x′ y′ : ℕ) → q ≡ r → x + i ≡ x′ + i′ → y + j ≡ y′ + j′ → grown i j (judge q x y) ≡ grown i′ j′ (judge r x′ y′)
 moved q r i j x y i′ j′ x′ y′ e p s = grown-judge q i j x y ∙ ap (λ z. judge z (x + i) (y + j)) e ∙ judge-is r p s ∙ sym (grown-judge r i′ j′ x′ y′)
 
-refused : (q : Bool) (i j x y : ℕ) → q ≡ false → No ≡ grown i j (judge q x y)
+pub refused : (q : Bool) (i j x y : ℕ) → q ≡ false → No ≡ grown i j (judge q x y)
 refused q i j x y e = sym (grown-judge q i j x y ∙ ap (λ z. judge z (x + i) (y + j)) e)
 
 -- ---- PARAMETERS
@@ -181,164 +181,6 @@ last-fits {l} {ig} {whole} {a} {b} {count} {at} {bt} v h w f x y n =
     let L = sig-last v h in
     let k = judge-yes (le fixed (L .r) (L .s)) (size (L .r)) (size (L .s)) x y (sym (called (size) (le fixed) (typeAt l) (typeAt l) a at b bt (L .r) (L .s) w (L .first) (L .second) f) ∙ n) in
     (omega (arith, L .fits-a, k .1), omega (arith, L .fits-b, k .2))
-
--- ---- the theory's tests of two ascending lists in step
-le-first : (n : ℕ) (t : Ty) (fs gs : Fields) → AscFields gs (suc n) → le-fields (field n t fs) gs ≡ le-fields fs gs
-unfolding cmp
-le-first n t fs gs w = has-skip fixed gs (suc n) n t fs w (omega arith)
-
-le-missing : (fs : Fields) (m : ℕ) (u : Ty) (gs : Fields) → AscFields fs (suc m) → le-fields fs (field m u gs) ≡ false
-unfolding cmp all-fields
-le-missing fs m u gs w = ap (λ x. x && all-fields (λ n t. has fixed fs n t) gs) (has-look fixed fs m u ∙ found-none (look m fs) (λ a. cmp fixed up a u) (look-below fixed fs (suc m) m w (omega arith)))
-
-le-common : (n : ℕ) (t u : Ty) (fs gs : Fields) → AscFields gs (suc n) → le-fields (field n t fs) (field n u gs) ≡ le fixed t u && le-fields fs gs
-unfolding cmp all-fields
-le-common n t u fs gs w = ap₂ (λ q x. cond q (le fixed t u) (has fixed fs n u) && x) (eq-eqb n n refl) (has-skip fixed gs (suc n) n t fs w (omega arith))
-
--- ---- two contexts in step
-pub record MergeInv (l : ℕ) (whole : Conform) (a : List ℕ) (n : ℕ) (b : List ℕ) (m at i bt j : ℕ) : Type 0 where
-  pub fs : Fields
-  pub gs : Fields
-  pub least-a : ℕ
-  pub least-b : ℕ
-  pub below-a : i ≤ n
-  pub below-b : j ≤ m
-  pub in-a : at ≤ length a
-  pub in-b : bt ≤ length b
-  pub read-a : fieldsAt l (n - i) least-a (drop at a) ≡ some fs
-  pub read-b : fieldsAt l (m - j) least-b (drop bt b) ≡ some gs
-  pub goes : whole ≡ grown at bt (judge (le-fields fs gs) (size-fields fs) (size-fields gs))
-
-pub merge-start : (l : ℕ) (a : List ℕ) (n : ℕ) (b : List ℕ) (m : ℕ) → Ok (fieldsAt l n 0 a) → Ok (fieldsAt l m 0 b) → MergeInv l (conformBy (size-fields) le-fields (fieldsAt l n 0 a) (fieldsAt l m 0 b)) a n b m 0 0 0 0
-unfolding conformBy
-merge-start l a n b m p q = go (ok-got (fieldsAt l n 0 a) p) (ok-got (fieldsAt l m 0 b) q)
-  where
-    go : (x : Fields) × (fieldsAt l n 0 a ≡ some x) → (y : Fields) × (fieldsAt l m 0 b ≡ some y) → MergeInv l (conformBy (size-fields) le-fields (fieldsAt l n 0 a) (fieldsAt l m 0 b)) a n b m 0 0 0 0
-    go x y =
-        let e : n - 0 ≡ n = omega arith in
-        let f : m - 0 ≡ m = omega arith in
-        record {
-          fs = x .0;
-          gs = y .0;
-          least-a = 0;
-          least-b = 0;
-          below-a = omega arith;
-          below-b = omega arith;
-          in-a = omega arith;
-          in-b = omega arith;
-          read-a = ap (λ k. fieldsAt l k 0 a) e ∙ x .1;
-          read-b = ap (λ k. fieldsAt l k 0 b) f ∙ y .1;
-          goes = ap₂ (conformBy (size-fields) le-fields) (x .1) (y .1) ∙ judge-is (le-fields (x .0) (y .0)) (omega arith) (omega arith) ∙ sym (grown-judge (le-fields (x .0) (y .0)) 0 0 (size-fields (x .0)) (size-fields (y .0)));
-        }
-
-module _ {l : ℕ} {whole : Conform} {a : List ℕ} {n : ℕ} {b : List ℕ} {m at i bt j : ℕ} (v : MergeInv l whole a n b m at i bt j) where
-  pub merge-a : i < n → Here l (n - (i + 1)) at (v .least-a) a (v .fs)
-  merge-a h = here l i n at (v .least-a) a (v .fs) h (v .in-a) (v .read-a)
-
-  pub merge-b : j < m → Here l (m - (j + 1)) bt (v .least-b) b (v .gs)
-  merge-b h = here l j m bt (v .least-b) b (v .gs) h (v .in-b) (v .read-b)
-
-  pub peek-asks : j < m → bt + nameWidth ≤ length b
-  peek-asks h = merge-b h .two
-
-  -- the first list is at its end
-  pub merge-left : n ≤ i → j < m → No ≡ whole
-  unfolding cmp all-fields
-  merge-left h k =
-      let B = merge-b k in
-      refused (le-fields (v .fs) (v .gs)) at bt (size-fields (v .fs)) (size-fields (v .gs)) (ap₂ le-fields (gone l i n at (v .least-a) a (v .fs) h (v .read-a)) (B .is)) ∙ sym (v .goes)
-
-  pub merge-done : n ≤ i → m ≤ j → Yes at bt ≡ whole
-  unfolding cmp all-fields size
-  merge-done h k = sym (v .goes ∙ ap₂ (λ x y. grown at bt (judge (le-fields x y) (size-fields x) (size-fields y))) (gone l i n at (v .least-a) a (v .fs) h (v .read-a)) (gone l j m bt (v .least-b) b (v .gs) k (v .read-b)) ∙ ap₂ Yes (omega arith) (omega arith))
-
-  module _ (h : i < n) (x y : ℕ) (xe : x ≡ numAt nameWidth at a) (xs : x < nameEnd) (ye : y ≡ cond (ltb j m) (numAt nameWidth bt b) nameEnd) where
-    abbrev A : Here l (n - (i + 1)) at (v .least-a) a (v .fs)
-    A = merge-a h
-
-    -- a name of the second that the first lacks
-    pub merge-missing : y < x → No ≡ whole
-    merge-missing k = go (merge-b (next-is j m (numAt nameWidth bt b) y ye (omega arith) .0))
-      where
-        go : Here l (m - (j + 1)) bt (v .least-b) b (v .gs) → No ≡ whole
-        go B =
-            let e = next-is j m (numAt nameWidth bt b) y ye (omega arith) .1 in
-            refused (le-fields (v .fs) (v .gs)) at bt (size-fields (v .fs)) (size-fields (v .gs)) (ap (le-fields (v .fs)) (B .is) ∙ le-missing (v .fs) (B .name) (B .t) (B .more) (asc-from A (suc (B .name)) (omega (arith, A .named, B .named)))) ∙ sym (v .goes)
-
-    pub skip-fits : (z : ℕ) → z ≡ sizeAt (typeAt l (take (length a - (at + nameWidth)) (drop (at + nameWidth) a))) → at + nameWidth + z ≤ length a
-    skip-fits z e = omega (arith, A .fits, e ∙ ap (λ r. sizeAt (typeAt l r)) (rest a (at + nameWidth)) ∙ size-got (typeAt l (drop (at + nameWidth) a)) (A .t) (A .first))
-
-    -- a name of the first that the second lacks
-    pub merge-skip : x < y → (z : ℕ) → z ≡ sizeAt (typeAt l (take (length a - (at + nameWidth)) (drop (at + nameWidth) a))) → MergeInv l whole a n b m (at + nameWidth + z) (i + 1) bt j
-    merge-skip k z e = go A
-      where
-        go : Here l (n - (i + 1)) at (v .least-a) a (v .fs) → MergeInv l whole a n b m (at + nameWidth + z) (i + 1) bt j
-        go A =
-            let ze : z ≡ size (A .t) = e ∙ ap (λ r. sizeAt (typeAt l r)) (rest a (at + nameWidth)) ∙ size-got (typeAt l (drop (at + nameWidth) a)) (A .t) (A .first) in
-            let xn : x ≡ A .name = xe ∙ sym (A .named) in
-            let w : AscFields (v .gs) (suc (A .name)) = ahead l j m bt (v .least-b) b (v .gs) (v .in-b) (v .read-b) (A .name) y ye (omega arith) in
-            record {
-              fs = A .more;
-              gs = v .gs;
-              least-a = suc (A .name);
-              least-b = v .least-b;
-              below-a = omega arith;
-              below-b = v .below-b;
-              in-a = omega (arith, A .fits);
-              in-b = v .in-b;
-              read-a = ap (λ k. fieldsAt l (n - (i + 1)) (suc (A .name)) (drop (at + nameWidth + k) a)) ze ∙ A .second;
-              read-b = v .read-b;
-              goes = v .goes ∙ moved (le-fields (v .fs) (v .gs)) (le-fields (A .more) (v .gs)) at bt (size-fields (v .fs)) (size-fields (v .gs)) (at + nameWidth + z) bt (size-fields (A .more)) (size-fields (v .gs))
-                  (ap (λ k. le-fields k (v .gs)) (A .is) ∙ le-first (A .name) (A .t) (A .more) (v .gs) w) (omega (arith, size-entry A)) refl;
-            }
-
-    -- a common name
-    module _ (lo : x ≤ y) (hi : y ≤ x) where
-      pub b-more : j < m
-      b-more = next-is j m (numAt nameWidth bt b) y ye (omega arith) .0
-
-      abbrev B : Here l (m - (j + 1)) bt (v .least-b) b (v .gs)
-      B = merge-b b-more
-
-      pub merge-called : (w : Conform) → w ≡ conformOf (typeAt l (take (length a - (at + nameWidth)) (drop (at + nameWidth) a))) (typeAt l (take (length b - (bt + nameWidth)) (drop (bt + nameWidth) b))) → w ≡ judge (le fixed (A .t) (B .t)) (size (A .t)) (size (B .t))
-      merge-called w e = called (size) (le fixed) (typeAt l) (typeAt l) a (at + nameWidth) b (bt + nameWidth) (A .t) (B .t) w (A .first) (B .first) e
-
-      pub merge-sizes : (w : Conform) → w ≡ conformOf (typeAt l (take (length a - (at + nameWidth)) (drop (at + nameWidth) a))) (typeAt l (take (length b - (bt + nameWidth)) (drop (bt + nameWidth) b))) → (p q : ℕ) → w ≡ Yes p q → (at + nameWidth + p ≤ length a) × (bt + nameWidth + q ≤ length b)
-      merge-sizes w e p q k =
-          let d = judge-yes (le fixed (A .t) (B .t)) (size (A .t)) (size (B .t)) p q (sym (merge-called w e) ∙ k) in
-          (omega (arith, A .fits, d .1), omega (arith, B .fits, d .2))
-
-      same-name : A .name ≡ B .name
-      same-name = omega (arith, xe, A .named, B .named, next-is j m (numAt nameWidth bt b) y ye (omega arith) .1)
-
-      in-step : (A : Here l (n - (i + 1)) at (v .least-a) a (v .fs)) (B : Here l (m - (j + 1)) bt (v .least-b) b (v .gs)) → A .name ≡ B .name → le-fields (v .fs) (v .gs) ≡ le fixed (A .t) (B .t) && le-fields (A .more) (B .more)
-      in-step A B e = ap₂ le-fields (A .is) (B .is ∙ ap (λ k. field k (B .t) (B .more)) (sym e)) ∙ le-common (A .name) (A .t) (B .t) (A .more) (B .more) (subst (λ (k : ℕ). AscFields (B .more) (suc k)) (sym e) (B .asc))
-
-      pub merge-no : (w : Conform) → w ≡ No → w ≡ conformOf (typeAt l (take (length a - (at + nameWidth)) (drop (at + nameWidth) a))) (typeAt l (take (length b - (bt + nameWidth)) (drop (bt + nameWidth) b))) → No ≡ whole
-      merge-no w k e = refused (le-fields (v .fs) (v .gs)) at bt (size-fields (v .fs)) (size-fields (v .gs))
-          (in-step A B same-name ∙ ap (λ z. z && le-fields (A .more) (B .more)) (judge-no (le fixed (A .t) (B .t)) (size (A .t)) (size (B .t)) (sym (merge-called w e) ∙ k))) ∙ sym (v .goes)
-
-      pub merge-both : (w : Conform) (p q : ℕ) → w ≡ Yes p q → w ≡ conformOf (typeAt l (take (length a - (at + nameWidth)) (drop (at + nameWidth) a))) (typeAt l (take (length b - (bt + nameWidth)) (drop (bt + nameWidth) b))) → MergeInv l whole a n b m (at + nameWidth + p) (i + 1) (bt + nameWidth + q) (j + 1)
-      merge-both w p q k e = go A B same-name (merge-called w e)
-        where
-          go : (A : Here l (n - (i + 1)) at (v .least-a) a (v .fs)) (B : Here l (m - (j + 1)) bt (v .least-b) b (v .gs)) → A .name ≡ B .name → w ≡ judge (le fixed (A .t) (B .t)) (size (A .t)) (size (B .t)) → MergeInv l whole a n b m (at + nameWidth + p) (i + 1) (bt + nameWidth + q) (j + 1)
-          go A B s c =
-              let d = judge-yes (le fixed (A .t) (B .t)) (size (A .t)) (size (B .t)) p q (sym c ∙ k) in
-              let jm = b-more in
-              record {
-                fs = A .more;
-                gs = B .more;
-                least-a = suc (A .name);
-                least-b = suc (B .name);
-                below-a = omega arith;
-                below-b = omega arith;
-                in-a = omega (arith, A .fits, d .1);
-                in-b = omega (arith, B .fits, d .2);
-                read-a = ap (λ z. fieldsAt l (n - (i + 1)) (suc (A .name)) (drop (at + nameWidth + z) a)) (d .1) ∙ A .second;
-                read-b = ap (λ z. fieldsAt l (m - (j + 1)) (suc (B .name)) (drop (bt + nameWidth + z) b)) (d .2) ∙ B .second;
-                goes = v .goes ∙ moved (le-fields (v .fs) (v .gs)) (le-fields (A .more) (B .more)) at bt (size-fields (v .fs)) (size-fields (v .gs)) (at + nameWidth + p) (bt + nameWidth + q) (size-fields (A .more)) (size-fields (B .more))
-                    (in-step A B s ∙ ap (λ z. z && le-fields (A .more) (B .more)) (d .0)) (omega (arith, size-entry A, d .1)) (omega (arith, size-entry B, d .2));
-              }
 
 -- what a callee asks
 pub param-ok : {l n at : ℕ} {a : List ℕ} {f : Sig} (P : Param l n at a f) → Ok (typeAt l (take (length a - at) (drop at a)))

@@ -3,9 +3,9 @@
 use Prim.Native.Nat.{ℕ, _+_}
 use mathlib.Core.Bool.{Bool, true, false, _&&_, _||_}
 use mathlib.Core.Option.{Option, none, some}
-use Rattle.form.specs.Trees.{Ty, built, context, Fields}
+use Rattle.form.specs.Trees.{Ty, Fields}
 use Rattle.order.specs.Order.{up, fixed}
-use Rattle.order.specs.Types.{le, cmps}
+use Rattle.order.specs.Types.{look, found, all-fields, le, cmps}
 use Rattle.order.specs.Size.{size}
 use Rattle.types.specs.At.{Sig, sig}
 use Rattle.types.specs.declared.Conform.{Conform}
@@ -23,9 +23,9 @@ conformBy sz test none y = No
 abbrev pub conformOf : Option Ty → Option Ty → Conform
 conformOf x y = conformBy size (le fixed) x y
 
--- each name of the second is in the first, with a type that conforms
-abbrev pub le-fields : Fields → Fields → Bool
-le-fields fs gs = le fixed (built (context fs)) (built (context gs))
+-- each name of the second is in the first, with a type that passes the test
+abbrev pub entries : (Ty → Ty → Bool) → Fields → Fields → Bool
+entries test fs gs = all-fields (λ n t. found (look n fs) (λ a. test a t)) gs
 
 -- parameters the other way round; whether the results are looked at is told from outside
 abbrev pub le-sig : Bool → Sig → Sig → Bool

@@ -6,9 +6,11 @@ ghost use lib.ListN.{length};
 ghost use lib.Dec.{ltb, eqb};
 ghost use Rattle.form.specs.Limits.{nameWidth, nameEnd};
 ghost use Rattle.form.specs.Form.{numAt};
+ghost use Rattle.order.specs.Order.{fixed};
+ghost use Rattle.order.specs.Types.{le};
 ghost use Rattle.order.specs.Size.{size-fields};
 ghost use Rattle.types.specs.At.{typeAt, fieldsAt, sigAt, size-sig, sizeAt, Ok};
-ghost use Rattle.types.specs.Conform.{conformOf, conformBy, le-fields, le-sig, grown};
+ghost use Rattle.types.specs.Conform.{conformOf, conformBy, entries, le-sig, grown};
 ghost use Rattle.form.specs.Answers.{verdict};
 ghost use Rattle.types.specs.Calls.{isConformant, isSimpleBuiltInType, isNull};
 use form::Checked;
@@ -148,7 +150,7 @@ fn conform_sig(a: &[u8], b: &[u8], count: usize, left: usize) -> Conform
 fn conform_fields(a: &[u8], n: usize, b: &[u8], m: usize, left: usize) -> Conform
     requires { ⌜ Ok (fieldsAt left n 0 (now a)) ⌝ }
     requires { ⌜ Ok (fieldsAt left m 0 (now b)) ⌝ }
-    ensures { λ r. ⌜ r ≡ conformBy (size-fields) le-fields (fieldsAt left n 0 (now (a .entry))) (fieldsAt left m 0 (now (b .entry))) ⌝ }
+    ensures { λ r. ⌜ r ≡ conformBy size-fields (entries (le fixed)) (fieldsAt left n 0 (now (a .entry))) (fieldsAt left m 0 (now (b .entry))) ⌝ }
 {
     let mut at: usize = 0;
     let mut i: usize = 0;

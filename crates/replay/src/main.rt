@@ -1,0 +1,612 @@
+// Replays stored cases: reads a list of them, runs each through the proved calls, and prints for each group how many answers are
+// the same as the stored ones.
+//
+// A list has a line `: K TITLE` for each group, K the number of a call, and below it a line `ANSWER ARG` for each case. ANSWER is
+// a level, or `!` and the number of a refusal; ARG is upper-case hex, or `.` for no bytes. Each line has a line end.
+ghost use mathlib.Core.Path.{_≡_};
+ghost use Prim.Native.Nat.{_+_, _<_, _≤_, _^_};
+ghost use lib.ListN.{length};
+ghost use Rattle.replay.specs.Lines.{Ends, Behind, Whole, Within};
+ghost use Rattle.replay.specs.Fields.{digitOf, numberOf, expectedOf, Decodes, Takes};
+ghost use Rattle.replay.specs.Tallies.{Judges, Both, sum, tallyOf};
+use form::Checked;
+use libc::STDIN_FILENO;
+use libc::STDOUT_FILENO;
+
+// The longest list.
+const LIST: usize = 1048576;
+
+// How many lines of a kind are shown in all, how much of a line, and how much of a title.
+const SHOWN: usize = 10;
+
+const LINE: usize = 200;
+
+const TITLE: usize = 100;
+
+// What a call answers, or a line expects; None where there is no such call, or the line does not say.
+enum Answer {
+    Accepted(usize),
+    Refused(usize),
+    None,
+}
+
+// What a line shows.
+enum Verdict {
+    Same,
+    Different,
+    Unreadable,
+}
+
+// How many lines show what.
+struct Tally {
+    same: usize,
+    different: usize,
+    unreadable: usize,
+}
+
+// How many lines of each kind may still be shown.
+struct Limit {
+    different: usize,
+    unreadable: usize,
+}
+
+// A number in decimal.
+enum Number {
+    Is(usize),
+    Bad,
+}
+
+// The fields taken so far: whether all could be read, where the last one ends, and how many bytes of the room they fill.
+struct Taken {
+    good: bool,
+    end: usize,
+    used: usize,
+}
+
+// A group's call, where its title stands, and where its cases begin.
+struct Head {
+    call: usize,
+    title: usize,
+    end: usize,
+    cases: usize,
+}
+
+// ---- lines and fields
+
+// The first place from `at` on where `mark` stands, or the end.
+fn end_of(s: &[u8], at: usize, mark: u8) -> usize
+    requires { ⌜ at ≤ length (now s) ⌝ }
+    ensures { λ r. ⌜ Ends (now (s .entry)) at mark r ⌝ }
+{
+    let mut i = at;
+    while i < s.len() {
+        if s[i] == mark {
+            return i;
+        }
+        i += 1;
+    }
+    i
+}
+
+// Where the line at `at` ends.
+fn line_end(s: &[u8], at: usize) -> usize
+    requires { ⌜ at ≤ length (now s) ⌝ }
+    ensures { λ r. ⌜ Ends (now (s .entry)) at 10 r ⌝ }
+{
+    end_of(s, at, b'\n')
+}
+
+// Where the field at `at` ends.
+fn field_end(line: &[u8], at: usize) -> usize
+    requires { ⌜ at ≤ length (now line) ⌝ }
+    ensures { λ r. ⌜ Ends (now (line .entry)) at 32 r ⌝ }
+{
+    end_of(line, at, b' ')
+}
+
+// Where the next line begins, behind one that ends at `end`.
+fn behind(s: &[u8], end: usize) -> usize
+    requires { ⌜ end ≤ length (now s) ⌝ }
+    ensures { λ r. ⌜ Behind (now (s .entry)) end r ⌝ }
+{
+    if end < s.len() { end + 1 } else { end }
+}
+
+// The first line behind the one at `at` that begins a group, or the end.
+fn group_end(s: &[u8], at: usize) -> usize
+    requires { ⌜ at < length (now s) ⌝ }
+    ensures { λ r. ⌜ (at < r) × (r ≤ length (now (s .entry))) ⌝ }
+{
+    let mut i = behind(s, line_end(s, at));
+    while i < s.len() {
+        if s[i] == b':' {
+            return i;
+        }
+        i = behind(s, line_end(s, i));
+    }
+    i
+}
+
+// How many bytes stand up to the last line end.
+fn whole_lines(s: &[u8]) -> usize
+    ensures { λ r. ⌜ Whole (now (s .entry)) r ⌝ }
+{
+    let mut n = s.len();
+    while n > 0 {
+        if s[n - 1] == b'\n' {
+            return n;
+        }
+        n -= 1;
+    }
+    n
+}
+
+// ---- numbers and bytes
+
+// The value of a hex digit; 16 for any other byte.
+fn digit(b: u8) -> u8
+    ensures { λ r. ⌜ r ≡ digitOf b ⌝ }
+    ensures { λ r. ⌜ r ≤ 16 ⌝ }
+{
+    match b {
+        b'0'..=b'9' => b - b'0',
+        b'A'..=b'F' => b - b'A' + 10,
+        _ => 16,
+    }
+}
+
+// The number in decimal that is all of `s`, below 1,000,000,000.
+fn decimal(s: &[u8]) -> Number
+    ensures { λ r. ⌜ r ≡ numberOf (now (s .entry)) ⌝ }
+{
+    if s.len() == 0 {
+        return Number::Bad;
+    }
+    let mut value: usize = 0;
+    let mut i = 0;
+    while i < s.len() {
+        let d = digit(s[i]);
+        if d > 9 {
+            return Number::Bad;
+        }
+        if value > 99999999 {
+            return Number::Bad;
+        }
+        value = value * 10 + d as usize;
+        i += 1;
+    }
+    Number::Is(value)
+}
+
+// Puts the `n` bytes that `text` says at the start of `out`, or finds a byte that is no digit.
+fn decode(text: &[u8], n: usize, out: &mut [u8]) -> bool
+    requires { ⌜ (n + n ≤ length (now text)) × (n ≤ length (now out)) ⌝ }
+    ensures { λ r. ⌜ Decodes (now (text .entry)) (now (out .exit)) n r ⌝ }
+{
+    let mut k = 0;
+    while k < n {
+        let high = digit(text[k + k]);
+        let low = digit(text[k + k + 1]);
+        if high > 15 {
+            return false;
+        }
+        if low > 15 {
+            return false;
+        }
+        out[k] = high * 16 + low;
+        k += 1;
+    }
+    true
+}
+
+// Takes one field more: puts the bytes that it says into `room` behind those of the fields before.
+fn take_field(line: &[u8], done: Taken, room: &mut [u8]) -> Taken
+    requires { ⌜ (done .end ≤ length (now line)) × (done .used ≤ length (now room)) ⌝ }
+    ensures { λ r. ⌜ Takes (now (line .entry)) (now (room .entry)) done (now (room .exit)) r ⌝ }
+{
+    let at = done.end;
+    let used = done.used;
+    let bad = Taken {
+        good: false,
+        end: at,
+        used,
+    };
+    if !done.good {
+        return bad;
+    }
+    if at == line.len() {
+        return bad;
+    }
+    let start = at + 1;
+    let end = field_end(line, start);
+    let size = end - start;
+    if size == 1 {
+        if line[start] == b'.' {
+            return Taken {
+                good: true,
+                end,
+                used,
+            };
+        }
+        return bad;
+    }
+    let count = size / 2;
+    if count == 0 {
+        return bad;
+    }
+    if count + count < size {
+        return bad;
+    }
+    if room.len() - used < count {
+        return bad;
+    }
+    let good = decode(&line[start..end], count, &mut room[used..]);
+    Taken {
+        good,
+        end,
+        used: used + count,
+    }
+}
+
+// Nothing is taken yet, and the first field ends at `end`.
+fn begin(end: usize) -> Taken
+    ensures { λ r. ⌜ (r .end ≡ end) × (r .used ≡ 0) ⌝ }
+{
+    Taken {
+        good: true,
+        end,
+        used: 0,
+    }
+}
+
+// All fields could be read, and the line has no more.
+fn is_whole(line: &[u8], t: Taken) -> bool {
+    if t.good { t.end == line.len() } else { false }
+}
+
+// ---- answers
+
+// The answer that a line expects.
+fn expected(text: &[u8]) -> Answer
+    ensures { λ r. ⌜ r ≡ expectedOf (now (text .entry)) ⌝ }
+{
+    if text.len() == 0 {
+        return Answer::None;
+    }
+    if text[0] == b'!' {
+        match decimal(&text[1..]) {
+            Number::Is(n) => Answer::Refused(n),
+            Number::Bad => Answer::None,
+        }
+    } else {
+        match decimal(text) {
+            Number::Is(n) => Answer::Accepted(n),
+            Number::Bad => Answer::None,
+        }
+    }
+}
+
+// The answer of a reader.
+fn answer_of(c: Checked) -> Answer {
+    match c {
+        Checked::Accepted { level } => Answer::Accepted(level),
+        Checked::Refused(n) => Answer::Refused(n as usize),
+    }
+}
+
+// Runs a call of one argument.
+fn run(call: usize, a: &[u8]) -> Answer {
+    match call {
+        1 => answer_of(form::check_value(a)),
+        2 => answer_of(form::check_type(a)),
+        _ => Answer::None,
+    }
+}
+
+// Same exactly where both are answers, and equal.
+fn compare(a: Answer, b: Answer) -> Verdict
+    ensures { λ r. ⌜ Judges a b r ⌝ }
+{
+    match a {
+        Answer::Accepted(n) => match b {
+            Answer::Accepted(m) => if n == m {
+                Verdict::Same
+            } else {
+                Verdict::Different
+            },
+            Answer::Refused(_) => Verdict::Different,
+            Answer::None => Verdict::Unreadable,
+        },
+        Answer::Refused(n) => match b {
+            Answer::Accepted(_) => Verdict::Different,
+            Answer::Refused(m) => if n == m {
+                Verdict::Same
+            } else {
+                Verdict::Different
+            },
+            Answer::None => Verdict::Unreadable,
+        },
+        Answer::None => Verdict::Unreadable,
+    }
+}
+
+// ---- cases
+
+// A case of a call of one argument: `ANSWER ARG`.
+fn one(line: &[u8], call: usize, room: &mut [u8]) -> Verdict {
+    let first = field_end(line, 0);
+    let want = expected(&line[..first]);
+    let arg = take_field(line, begin(first), room);
+    let used = arg.used;
+    if is_whole(line, arg) {
+        compare(want, run(call, &room[0..used]))
+    } else {
+        Verdict::Unreadable
+    }
+}
+
+// A case, by its call.
+fn case(line: &[u8], call: usize, room: &mut [u8]) -> Verdict {
+    match call {
+        1 | 2 => one(line, call, room),
+        _ => Verdict::Unreadable,
+    }
+}
+
+// The line from `at` to `end`. Without a line end it may be cut, and is not read.
+fn judge(g: &[u8], at: usize, end: usize, call: usize, room: &mut [u8]) -> Verdict
+    requires { ⌜ (at ≤ end) × (end ≤ length (now g)) ⌝ }
+{
+    if end == g.len() {
+        Verdict::Unreadable
+    } else {
+        case(&g[at..end], call, room)
+    }
+}
+
+// ---- groups
+
+// The head of a group. Where there is none that can be read the call is 0, and every line counts as a case of it.
+fn read_head(g: &[u8]) -> Head
+    ensures { λ r. ⌜ Within (length (now (g .entry))) r ⌝ }
+{
+    let none = Head {
+        call: 0,
+        title: 0,
+        end: 0,
+        cases: 0,
+    };
+    let end = line_end(g, 0);
+    if end == g.len() {
+        return none;
+    }
+    let line = &g[..end];
+    let mark = field_end(line, 0);
+    if mark != 1 {
+        return none;
+    }
+    if line[0] != b':' {
+        return none;
+    }
+    if line.len() < 2 {
+        return none;
+    }
+    let call = field_end(line, 2);
+    if line.len() < call + 2 {
+        return none;
+    }
+    match decimal(&line[2..call]) {
+        Number::Is(n) => Head {
+            call: n,
+            title: call + 1,
+            end,
+            cases: end + 1,
+        },
+        Number::Bad => none,
+    }
+}
+
+// Two tallies together.
+fn plus(a: Tally, b: Tally) -> Tally
+    requires { ⌜ sum a + sum b < 2 ^ 64 ⌝ }
+    ensures { λ r. ⌜ Both a b r ⌝ }
+{
+    Tally {
+        same: a.same + b.same,
+        different: a.different + b.different,
+        unreadable: a.unreadable + b.unreadable,
+    }
+}
+
+// The tally of one line.
+fn tally_of(v: Verdict) -> Tally
+    ensures { λ r. ⌜ r ≡ tallyOf v ⌝ }
+    ensures { λ r. ⌜ sum r ≡ 1 ⌝ }
+{
+    match v {
+        Verdict::Same => Tally {
+            same: 1,
+            different: 0,
+            unreadable: 0,
+        },
+        Verdict::Different => Tally {
+            same: 0,
+            different: 1,
+            unreadable: 0,
+        },
+        Verdict::Unreadable => Tally {
+            same: 0,
+            different: 0,
+            unreadable: 1,
+        },
+    }
+}
+
+// Runs the cases of a group from `from` on, shows lines within the limit, and counts.
+fn cases(g: &[u8], call: usize, from: usize, most: Limit, room: &mut [u8]) -> Tally
+    requires { ⌜ from ≤ length (now g) ⌝ }
+    ensures { λ r. ⌜ sum r ≤ length (now (g .entry)) ⌝ }
+{
+    let mut t = Tally {
+        same: 0,
+        different: 0,
+        unreadable: 0,
+    };
+    let mut at = from;
+    while at < g.len() {
+        let end = line_end(g, at);
+        let v = judge(g, at, end, call, room);
+        show(v, t, most, &g[at..end]);
+        t = plus(t, tally_of(v));
+        at = behind(g, end);
+    }
+    t
+}
+
+// How many more lines of a kind may be shown.
+fn left(n: usize) -> usize {
+    if n < SHOWN { SHOWN - n } else { 0 }
+}
+
+// Replays a group: counts first, then shows what is not the same below the group's line.
+fn group(g: &[u8], total: Tally, room: &mut [u8]) -> Tally
+    ensures { λ r. ⌜ sum r ≤ length (now (g .entry)) ⌝ }
+{
+    let h = read_head(g);
+    let title = h.title;
+    let end = h.end;
+    let none = Limit {
+        different: 0,
+        unreadable: 0,
+    };
+    let t = cases(g, h.call, h.cases, none, room);
+    print_group(&g[title..end], t);
+    if 0 < t.different + t.unreadable {
+        let most = Limit {
+            different: left(total.different),
+            unreadable: left(total.unreadable),
+        };
+        cases(g, h.call, h.cases, most, room);
+    }
+    t
+}
+
+// Replays a list, group by group, and prints the total.
+fn replay(list: &[u8], room: &mut [u8]) {
+    let mut total = Tally {
+        same: 0,
+        different: 0,
+        unreadable: 0,
+    };
+    let mut at = 0;
+    while at < list.len() {
+        let end = group_end(list, at);
+        total = plus(total, group(&list[at..end], total, room));
+        at = end;
+    }
+    print_total(total);
+}
+
+// ---- what is printed
+
+fn print(text: &[u8]) {
+    io::write_all(STDOUT_FILENO, text);
+}
+
+fn print_number(n: usize) {
+    io::print_decimal(STDOUT_FILENO, n as u64);
+}
+
+// The first `most` bytes.
+fn print_cut(text: &[u8], most: usize) {
+    if text.len() <= most {
+        print(text);
+    } else {
+        print(&text[..most]);
+    }
+}
+
+fn print_line(mark: &[u8], line: &[u8]) {
+    print(mark);
+    print_cut(line, LINE);
+    print(b"\n");
+}
+
+// Shows a line that is not the same, within the limit.
+fn show(v: Verdict, t: Tally, most: Limit, line: &[u8]) {
+    match v {
+        Verdict::Same => {}
+        Verdict::Different => if t.different < most.different {
+            print_line(b"different: ", line);
+        },
+        Verdict::Unreadable => if t.unreadable < most.unreadable {
+            print_line(b"unreadable: ", line);
+        },
+    }
+}
+
+// A count that is not 0.
+fn print_some(n: usize, what: &[u8]) {
+    if 0 < n {
+        print(b", ");
+        print_number(n);
+        print(what);
+    }
+}
+
+// The line of a group; lines that no group has are under `no group`.
+fn print_group(title: &[u8], t: Tally) {
+    if title.len() == 0 {
+        print(b"no group");
+    } else {
+        print_cut(title, TITLE);
+    }
+    print(b": ");
+    print_number(t.same);
+    print(b" same");
+    print_some(t.different, b" different");
+    print_some(t.unreadable, b" unreadable");
+    print(b"\n");
+}
+
+// The last line. An unreadable line is no case.
+fn print_total(t: Tally)
+    requires { ⌜ sum t < 2 ^ 64 ⌝ }
+{
+    print_number(t.same + t.different);
+    print(b" cases, ");
+    print_number(t.different);
+    print(b" different, ");
+    print_number(t.unreadable);
+    print(b" unreadable\n");
+}
+
+// Room for a list.
+fn list_room() -> [u8; LIST]
+    ensures { λ r. ⌜ 1048576 ≡ length r ⌝ }
+{
+    [0; LIST]
+}
+
+// Reads the list, and one byte more to see whether it was the whole. The arguments of a line share 65,536 bytes.
+fn main() {
+    let mut list = list_room();
+    let mut room = io::large_buffer();
+    let n = io::read_full(STDIN_FILENO, &mut list);
+    let mut more = [0u8; 1];
+    let got = libc::read(STDIN_FILENO, &mut more);
+    let text = &list[..n];
+    if got == 0 {
+        replay(text, &mut room);
+        return;
+    }
+    if got < 0 {
+        print(b"the list cannot be read to its end: only the lines before are replayed\n");
+    } else {
+        print(
+            b"the list is longer than 1048576 bytes: only the whole lines in these are replayed\n",
+        );
+    }
+    let whole = whole_lines(text);
+    replay(&text[..whole], &mut room);
+}
