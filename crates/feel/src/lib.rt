@@ -2,7 +2,7 @@
 ghost use mathlib.Core.Path.{_≡_};
 ghost use Rattle.form.specs.Answers.{checked, verdict};
 ghost use Rattle.form.specs.Read.{checkValue, checkType};
-ghost use Rattle.types.specs.Calls.{isConformant, isSimpleBuiltInType, isNull};
+ghost use Rattle.types.specs.Calls.{isConformant, instanceOf, isSimpleBuiltInType, isNull};
 ghost use Rattle.feel.specs.Numbers.{numbered, judged};
 use form::Checked;
 use form::Verdict;
@@ -53,6 +53,14 @@ pub extern "C" fn feel_type_is_conformant(a: &[u8], b: &[u8]) -> u64
     ensures { λ r. ⌜ r ≡ judged (isConformant (now (a .entry)) (now (b .entry))) ⌝ }
 {
     verdict_number(types::is_conformant(a, b))
+}
+
+// Is the type a an instance of the type b?
+#[no_mangle]
+pub extern "C" fn feel_type_instance_of(a: &[u8], b: &[u8]) -> u64
+    ensures { λ r. ⌜ r ≡ judged (instanceOf (now (a .entry)) (now (b .entry))) ⌝ }
+{
+    verdict_number(types::instance_of(a, b))
 }
 
 // Is this one of the ten simple types?

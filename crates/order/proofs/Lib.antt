@@ -6,3 +6,4 @@ pub mod Answers
 pub mod Laws
 pub mod Sentences
 pub mod Size
+pub mod Equal

@@ -4,3 +4,4 @@ pub mod Conforming
 pub mod InStep
 pub mod Merging
 pub mod Calling
+pub mod Instances

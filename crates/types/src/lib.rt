@@ -8,11 +8,12 @@ ghost use Rattle.form.specs.Limits.{nameWidth, nameEnd};
 ghost use Rattle.form.specs.Form.{numAt};
 ghost use Rattle.order.specs.Order.{fixed};
 ghost use Rattle.order.specs.Types.{le};
-ghost use Rattle.order.specs.Size.{size-fields};
+ghost use Rattle.order.specs.Document.{nullOrSame};
+ghost use Rattle.order.specs.Size.{size, size-fields};
 ghost use Rattle.types.specs.At.{typeAt, fieldsAt, sigAt, size-sig, sizeAt, Ok};
 ghost use Rattle.types.specs.Conform.{conformOf, conformBy, entries, le-sig, grown};
 ghost use Rattle.form.specs.Answers.{verdict};
-ghost use Rattle.types.specs.Calls.{isConformant, isSimpleBuiltInType, isNull};
+ghost use Rattle.types.specs.Calls.{isConformant, instanceOf, isSimpleBuiltInType, isNull};
 use form::Checked;
 use form::NAME_WIDTH;
 use form::TYPE_LEVELS;
@@ -223,6 +224,102 @@ pub fn is_null(t: &[u8]) -> Verdict
     }
     if t[0] == 0x29 {
         return Verdict::Yes;
+    }
+    Verdict::No
+}
+
+// ---- instance_of
+
+// Whether the type at the front of `a` is Null or the one at the front of `b`.
+fn null_or_same(a: &[u8], b: &[u8], left: usize) -> Conform
+    requires { ⌜ Ok (typeAt left (now a)) ⌝ }
+    requires { ⌜ Ok (typeAt left (now b)) ⌝ }
+    ensures { λ r. ⌜ r ≡ conformBy size nullOrSame (typeAt left (now (a .entry))) (typeAt left (now (b .entry))) ⌝ }
+{
+    let x = skip(a, left);
+    let y = skip(b, left);
+    if a[0] == 0x29 {
+        return Conform::Yes { a: x, b: y };
+    }
+    if check::same(&a[..x], &b[..y]) {
+        return Conform::Yes { a: x, b: y };
+    }
+    Conform::No
+}
+
+// n entries of one context against m of another: each name of the second is in the first with Null or the equal type.
+fn instance_fields(a: &[u8], n: usize, b: &[u8], m: usize, left: usize) -> Conform
+    requires { ⌜ Ok (fieldsAt left n 0 (now a)) ⌝ }
+    requires { ⌜ Ok (fieldsAt left m 0 (now b)) ⌝ }
+    ensures { λ r. ⌜ r ≡ conformBy size-fields (entries nullOrSame) (fieldsAt left n 0 (now (a .entry))) (fieldsAt left m 0 (now (b .entry))) ⌝ }
+{
+    let mut at: usize = 0;
+    let mut i: usize = 0;
+    let mut bt: usize = 0;
+    let mut j: usize = 0;
+    while i < n {
+        let x = form::name_at(a, at);
+        let y = peek(b, bt, j, m);
+        let p = at + NAME_WIDTH;
+        if y < x {
+            return Conform::No;
+        }
+        if x < y {
+            at = p + skip(&a[p..], left);
+            i += 1;
+            continue;
+        }
+        let q = bt + NAME_WIDTH;
+        match null_or_same(&a[p..], &b[q..], left) {
+            Conform::Yes { a: u, b: v } => {
+                at = p + u;
+                bt = q + v;
+            }
+            Conform::No => return Conform::No,
+        }
+        i += 1;
+        j += 1;
+    }
+    if j < m {
+        return Conform::No;
+    }
+    Conform::Yes { a: at, b: bt }
+}
+
+// `FeelType::instance_of`.
+pub fn instance_of(a: &[u8], b: &[u8]) -> Verdict
+    ensures { λ r. ⌜ verdict r ≡ instanceOf (now (a .entry)) (now (b .entry)) ⌝ }
+{
+    if let Checked::Refused(n) = form::check_type(a) {
+        return Verdict::Refused(n);
+    }
+    if let Checked::Refused(n) = form::check_type(b) {
+        return Verdict::Refused(n);
+    }
+    let c = a[0];
+    if c != b[0] {
+        return Verdict::No;
+    }
+    if c == 0x2A {
+        if b[1] == 0x20 {
+            return Verdict::Yes;
+        }
+        if check::same(a, b) {
+            return Verdict::Yes;
+        }
+        return Verdict::No;
+    }
+    if c == 0x2C {
+        match instance_fields(
+            &a[3..],
+            form::word_at(a, 1),
+            &b[3..],
+            form::word_at(b, 1),
+            TYPE_LEVELS - 1,
+        ) {
+            Conform::Yes { a: _, b: _ } => return Verdict::Yes,
+            Conform::No => return Verdict::No,
+        }
     }
     Verdict::No
 }
