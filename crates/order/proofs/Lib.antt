@@ -7,3 +7,7 @@ pub mod Laws
 pub mod Sentences
 pub mod Size
 pub mod Equal
+pub mod Holds
+pub mod WellFormed
+pub mod Dmn
+pub mod Theorems

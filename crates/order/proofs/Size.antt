@@ -328,4 +328,3 @@ module _ (O : Order) where
 
   pub level-sub : (a b : Ty) → level (sub O a b) ≤ max (level a) (level b)
   level-sub a b = omega (arith, level-reduce (bound O down a b), level-bound down a b)
-

@@ -22,4 +22,3 @@ unfoldable mutual
   pub AscTys : Tys → Type 0
   AscTys no-params = Unit {0}
   AscTys (param t ps) = Asc t × AscTys ps
-

@@ -3,3 +3,5 @@ pub mod Types
 pub mod Ascending
 pub mod Size
 pub mod Document
+pub mod Dmn
+pub mod Examples

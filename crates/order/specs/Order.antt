@@ -72,4 +72,3 @@ flat-order b = record { strict = b; sle = flat; sjoin = flat-join; smeet = flat-
 
 abbrev pub fixed : Order
 fixed = flat-order false
-

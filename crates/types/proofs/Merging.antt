@@ -191,4 +191,3 @@ module _ {test : Ty → Ty → Bool} {l : ℕ} {whole : Conform} {a : List ℕ} 
                 goes = v .goes ∙ moved (entries test (v .fs) (v .gs)) (entries test (A .more) (B .more)) at bt (size-fields (v .fs)) (size-fields (v .gs)) (at + nameWidth + p) (bt + nameWidth + q) (size-fields (A .more)) (size-fields (B .more))
                     (in-step A B s ∙ ap (λ z. z && entries test (A .more) (B .more)) (d .0)) (omega (arith, size-entry A, d .1)) (omega (arith, size-entry B, d .2));
               }
-

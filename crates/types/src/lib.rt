@@ -259,12 +259,12 @@ fn instance_fields(a: &[u8], n: usize, b: &[u8], m: usize, left: usize) -> Confo
     let mut j: usize = 0;
     while i < n {
         let x = form::name_at(a, at);
-        let y = peek(b, bt, j, m);
+        let next = peek(b, bt, j, m);
         let p = at + NAME_WIDTH;
-        if y < x {
+        if next < x {
             return Conform::No;
         }
-        if x < y {
+        if x < next {
             at = p + skip(&a[p..], left);
             i += 1;
             continue;
