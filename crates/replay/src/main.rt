@@ -1,8 +1,8 @@
 // Replays stored cases: reads a list of them, runs each through the proved calls, and prints for each group how many answers are
 // the same as the stored ones.
 //
-// A list has a line `: K TITLE` for each group, K the number of a call, and below it a line `ANSWER ARG` for each case. ANSWER is
-// a level, or `!` and the number of a refusal; ARG is upper-case hex, or `.` for no bytes. Each line has a line end.
+// A list has a line `: K TITLE` for each group, K the number of a call, and below it a line `ANSWER ARG ..` for each case. ANSWER is
+// a level, 1 for yes, 0 for no, or `!` and the number of a refusal; ARG is upper-case hex, or `.` for no bytes. Each line has a line end.
 ghost use mathlib.Core.Path.{_≡_};
 ghost use Prim.Native.Nat.{_+_, _<_, _≤_, _^_};
 ghost use lib.ListN.{length};
@@ -294,11 +294,31 @@ fn answer_of(c: Checked) -> Answer {
     }
 }
 
+// The answer of a call that judges: 1 for yes, 0 for no.
+fn judged(v: form::Verdict) -> Answer {
+    match v {
+        form::Verdict::Yes => Answer::Accepted(1),
+        form::Verdict::No => Answer::Accepted(0),
+        form::Verdict::Refused(n) => Answer::Refused(n as usize),
+    }
+}
+
 // Runs a call of one argument.
 fn run(call: usize, a: &[u8]) -> Answer {
     match call {
         1 => answer_of(form::check_value(a)),
         2 => answer_of(form::check_type(a)),
+        8 => judged(types::is_simple_built_in_type(a)),
+        9 => judged(types::is_null(a)),
+        _ => Answer::None,
+    }
+}
+
+// Runs a call that judges two arguments.
+fn run_two(call: usize, a: &[u8], b: &[u8]) -> Answer {
+    match call {
+        3 => judged(types::is_conformant(a, b)),
+        4 => judged(types::instance_of(a, b)),
         _ => Answer::None,
     }
 }
@@ -345,10 +365,27 @@ fn one(line: &[u8], call: usize, room: &mut [u8]) -> Verdict {
     }
 }
 
+// A case of a call that judges two arguments: `ANSWER ARG ARG`.
+fn two(line: &[u8], call: usize, room: &mut [u8]) -> Verdict {
+    let first = field_end(line, 0);
+    let want = expected(&line[..first]);
+    let a = take_field(line, begin(first), room);
+    let b = take_field(line, a, room);
+    let x = a.used;
+    let y = b.used;
+    if is_whole(line, b) {
+        let all = &room[..];
+        compare(want, run_two(call, &all[0..x], &all[x..y]))
+    } else {
+        Verdict::Unreadable
+    }
+}
+
 // A case, by its call.
 fn case(line: &[u8], call: usize, room: &mut [u8]) -> Verdict {
     match call {
-        1 | 2 => one(line, call, room),
+        1 | 2 | 8 | 9 => one(line, call, room),
+        3 | 4 => two(line, call, room),
         _ => Verdict::Unreadable,
     }
 }
