@@ -34,7 +34,7 @@
  *   18  output too short for the answer
  *   19  texts: table or parts malformed, or with bytes left over
  *   20  texts: a name's number is not in the table
- * The numbers 11 to 20 belong to calls that are not in this version.
+ * The numbers 11 to 13, 15 to 17, 19 and 20 belong to calls that are not in this version.
  */
 #ifndef FEEL_H
 #define FEEL_H
@@ -51,6 +51,31 @@ uint64_t feel_check_value(const uint8_t *v, size_t v_len);
 
 /* Reads a type. Answers its level, 1 to 32, or refusal 6 to 10. */
 uint64_t feel_check_type(const uint8_t *t, size_t t_len);
+
+/* FeelType::is_conformant: does the type a conform to the type b? Answers 1 or 0, or a's refusal 6 to 10, or b's. */
+uint64_t feel_type_is_conformant(const uint8_t *a, size_t a_len, const uint8_t *b, size_t b_len);
+
+/* FeelType::instance_of: is the type a an instance of the type b? Answers 1 or 0, or a's refusal 6 to 10, or b's. */
+uint64_t feel_type_instance_of(const uint8_t *a, size_t a_len, const uint8_t *b, size_t b_len);
+
+/* The least type to which both conform, reduced, at the front of out. Answers its length, or a's refusal 6 to 10, or b's; 14 where the
+ * scratch is shorter than a and b together; 18. The scratch's contents afterwards are free. */
+uint64_t feel_type_common_supertype(const uint8_t *a, size_t a_len, const uint8_t *b, size_t b_len,
+                                    uint8_t *scratch, size_t scratch_len, uint8_t *out, size_t out_len);
+
+/* The greatest type that conforms to both, reduced, at the front of out. Answers and refusals as above. */
+uint64_t feel_type_common_subtype(const uint8_t *a, size_t a_len, const uint8_t *b, size_t b_len,
+                                  uint8_t *scratch, size_t scratch_len, uint8_t *out, size_t out_len);
+
+/* The reduced form of the type t, at the front of out: the result of every function without parameters becomes Any. Answers its length, or
+ * refusal 6 to 10, or 18. */
+uint64_t feel_type_reduced(const uint8_t *t, size_t t_len, uint8_t *out, size_t out_len);
+
+/* FeelType::is_simple_built_in_type: is t one of the ten simple types? Answers 1 or 0, or refusal 6 to 10. */
+uint64_t feel_type_is_simple_built_in_type(const uint8_t *t, size_t t_len);
+
+/* FeelType::is_null: is t the type Null? Answers 1 or 0, or refusal 6 to 10. */
+uint64_t feel_type_is_null(const uint8_t *t, size_t t_len);
 
 #ifdef __cplusplus
 }

@@ -1,11 +1,14 @@
 // The exported C functions. Each answers one number: specs/Numbers.antt has the convention, include/feel.h the words for callers.
 ghost use mathlib.Core.Path.{_≡_};
-ghost use Rattle.form.specs.Answers.{checked, verdict};
+ghost use lib.ListN.{length};
+ghost use Rattle.form.specs.Answers.{checked, verdict, written};
 ghost use Rattle.form.specs.Read.{checkValue, checkType};
 ghost use Rattle.types.specs.Calls.{isConformant, instanceOf, isSimpleBuiltInType, isNull};
-ghost use Rattle.feel.specs.Numbers.{numbered, judged};
+ghost use Rattle.bounds.specs.Calls.{commonSupertype, commonSubtype, reducedCall};
+ghost use Rattle.feel.specs.Numbers.{numbered, judged, Exported};
 use form::Checked;
 use form::Verdict;
+use form::Written;
 
 // High word 1: refused.
 const REFUSED: u64 = 0x1_0000_0000;
@@ -28,6 +31,16 @@ fn verdict_number(v: Verdict) -> u64
         Verdict::Yes => 1,
         Verdict::No => 0,
         Verdict::Refused(n) => REFUSED + n as u64,
+    }
+}
+
+// The number of a length that was written.
+fn written_number(w: Written) -> u64
+    ensures { λ r. ⌜ r ≡ numbered (written w) ⌝ }
+{
+    match w {
+        Written::Bytes(n) => n as u64,
+        Written::Refused(n) => REFUSED + n as u64,
     }
 }
 
@@ -77,4 +90,38 @@ pub extern "C" fn feel_type_is_null(t: &[u8]) -> u64
     ensures { λ r. ⌜ r ≡ judged (isNull (now (t .entry))) ⌝ }
 {
     verdict_number(types::is_null(t))
+}
+
+// The common supertype of two types.
+#[no_mangle]
+pub extern "C" fn feel_type_common_supertype(
+    a: &[u8],
+    b: &[u8],
+    scratch: &mut [u8],
+    out: &mut [u8],
+) -> u64
+    ensures { λ r. ⌜ Exported (commonSupertype (now (a .entry)) (now (b .entry)) (length (now (scratch .entry))) (length (now (out .entry)))) (now (out .entry)) (now (out .exit)) r ⌝ }
+{
+    written_number(bounds::common_supertype(a, b, scratch, out))
+}
+
+// The common subtype of two types.
+#[no_mangle]
+pub extern "C" fn feel_type_common_subtype(
+    a: &[u8],
+    b: &[u8],
+    scratch: &mut [u8],
+    out: &mut [u8],
+) -> u64
+    ensures { λ r. ⌜ Exported (commonSubtype (now (a .entry)) (now (b .entry)) (length (now (scratch .entry))) (length (now (out .entry)))) (now (out .entry)) (now (out .exit)) r ⌝ }
+{
+    written_number(bounds::common_subtype(a, b, scratch, out))
+}
+
+// The reduced form of a type.
+#[no_mangle]
+pub extern "C" fn feel_type_reduced(t: &[u8], out: &mut [u8]) -> u64
+    ensures { λ r. ⌜ Exported (reducedCall (now (t .entry)) (length (now (out .entry)))) (now (out .entry)) (now (out .exit)) r ⌝ }
+{
+    written_number(bounds::reduced(t, out))
 }

@@ -2,7 +2,8 @@
 // the same as the stored ones.
 //
 // A list has a line `: K TITLE` for each group, K the number of a call, and below it a line `ANSWER ARG ..` for each case. ANSWER is
-// a level, 1 for yes, 0 for no, or `!` and the number of a refusal; ARG is upper-case hex, or `.` for no bytes. Each line has a line end.
+// a level, 1 for yes, 0 for no, a length written, or `!` and the number of a refusal; ARG is upper-case hex, or `.` for no bytes. Calls
+// that build have lengths in decimal behind the arguments, and the bytes that are written. Each line has a line end.
 ghost use mathlib.Core.Path.{_≡_};
 ghost use Prim.Native.Nat.{_+_, _<_, _≤_, _^_};
 ghost use lib.ListN.{length};
@@ -22,6 +23,9 @@ const SHOWN: usize = 10;
 const LINE: usize = 200;
 
 const TITLE: usize = 100;
+
+// What an output holds before a call.
+const MARK: u8 = 0xA5;
 
 // What a call answers, or a line expects; None where there is no such call, or the line does not say.
 enum Answer {
@@ -61,6 +65,13 @@ struct Taken {
     good: bool,
     end: usize,
     used: usize,
+}
+
+// A number that was taken, and where it ends.
+struct Counted {
+    good: bool,
+    end: usize,
+    value: usize,
 }
 
 // A group's call, where its title stands, and where its cases begin.
@@ -303,6 +314,14 @@ fn judged(v: form::Verdict) -> Answer {
     }
 }
 
+// The answer of a call that builds: the length.
+fn wrote(w: form::Written) -> Answer {
+    match w {
+        form::Written::Bytes(n) => Answer::Accepted(n),
+        form::Written::Refused(n) => Answer::Refused(n as usize),
+    }
+}
+
 // Runs a call of one argument.
 fn run(call: usize, a: &[u8]) -> Answer {
     match call {
@@ -381,11 +400,221 @@ fn two(line: &[u8], call: usize, room: &mut [u8]) -> Verdict {
     }
 }
 
+// Takes a field that is a number.
+fn take_number(line: &[u8], done: Taken) -> Counted
+    requires { ⌜ done .end ≤ length (now line) ⌝ }
+    ensures { λ r. ⌜ r .end ≤ length (now (line .entry)) ⌝ }
+{
+    let at = done.end;
+    let bad = Counted {
+        good: false,
+        end: at,
+        value: 0,
+    };
+    if !done.good {
+        return bad;
+    }
+    if at == line.len() {
+        return bad;
+    }
+    let start = at + 1;
+    let end = field_end(line, start);
+    match decimal(&line[start..end]) {
+        Number::Is(value) => Counted {
+            good: true,
+            end,
+            value,
+        },
+        Number::Bad => bad,
+    }
+}
+
+// From `from` on there is nothing but `mark`.
+fn only(s: &[u8], from: usize, mark: u8) -> bool {
+    let mut i = from;
+    while i < s.len() {
+        if s[i] != mark {
+            return false;
+        }
+        i += 1;
+    }
+    true
+}
+
+// The output holds the expected bytes at its front, and behind them what it held before.
+fn holds(out: &[u8], want: &[u8]) -> bool {
+    let n = want.len();
+    if out.len() < n {
+        return false;
+    }
+    if check::same(&out[0..n], want) {
+        only(out, n, MARK)
+    } else {
+        false
+    }
+}
+
+// Runs a call that builds, of one type or two, with the scratch and the output that are lent.
+fn build(call: usize, a: &[u8], b: &[u8], scratch: &mut [u8], out: &mut [u8]) -> Answer {
+    match call {
+        5 => wrote(bounds::common_supertype(a, b, scratch, out)),
+        6 => wrote(bounds::common_subtype(a, b, scratch, out)),
+        7 => wrote(bounds::reduced(a, out)),
+        _ => Answer::None,
+    }
+}
+
+// The lengths that a line lends.
+struct Lent {
+    scratch: usize,
+    output: usize,
+}
+
+// The lengths that are lent, and what is taken behind them.
+struct Sizes {
+    at: Taken,
+    lent: Lent,
+}
+
+// The same where the answer is, and the output too.
+fn built(
+    call: usize,
+    want: Answer,
+    a: &[u8],
+    b: &[u8],
+    lent: Lent,
+    bytes: &[u8],
+    work: &mut [u8],
+    out: &mut [u8],
+) -> Verdict {
+    let n = lent.scratch;
+    let m = lent.output;
+    if work.len() < n {
+        return Verdict::Unreadable;
+    }
+    if out.len() < m {
+        return Verdict::Unreadable;
+    }
+    let got = build(call, a, b, &mut work[0..n], &mut out[0..m]);
+    if out.len() < m {
+        return Verdict::Unreadable;
+    }
+    if holds(&out[0..m], bytes) {
+        compare(want, got)
+    } else {
+        Verdict::Different
+    }
+}
+
+// What is taken behind a number, with `used` bytes of the room as before.
+fn behind_number(n: Counted, used: usize) -> Taken
+    ensures { λ r. ⌜ (r .end ≡ n .end) × (r .used ≡ used) ⌝ }
+{
+    Taken {
+        good: n.good,
+        end: n.end,
+        used,
+    }
+}
+
+// Takes the lengths of scratch and output.
+fn take_sizes(line: &[u8], done: Taken) -> Sizes
+    requires { ⌜ done .end ≤ length (now line) ⌝ }
+    ensures { λ r. ⌜ (r .at .end ≤ length (now (line .entry))) × (r .at .used ≡ done .used) ⌝ }
+{
+    let s = take_number(line, done);
+    let o = take_number(line, behind_number(s, done.used));
+    let lent = Lent {
+        scratch: s.value,
+        output: o.value,
+    };
+    Sizes {
+        at: behind_number(o, done.used),
+        lent,
+    }
+}
+
+// Takes the length of the output, where no scratch is lent.
+fn take_size(line: &[u8], done: Taken) -> Sizes
+    requires { ⌜ done .end ≤ length (now line) ⌝ }
+    ensures { λ r. ⌜ (r .at .end ≤ length (now (line .entry))) × (r .at .used ≡ done .used) ⌝ }
+{
+    let o = take_number(line, done);
+    let lent = Lent {
+        scratch: 0,
+        output: o.value,
+    };
+    Sizes {
+        at: behind_number(o, done.used),
+        lent,
+    }
+}
+
+// The expected output, where the line has one more field.
+fn take_output(line: &[u8], done: Taken, room: &mut [u8]) -> Taken
+    requires { ⌜ (done .end ≤ length (now line)) × (done .used ≤ length (now room)) ⌝ }
+    ensures { λ r. ⌜ (r .end ≤ length (now (line .entry))) × ((done .used ≤ r .used) × (r .used ≤ length (now (room .exit)))) ⌝ }
+{
+    if done.end == line.len() {
+        return done;
+    }
+    take_field(line, done, room)
+}
+
+// Lends scratch and output to a call on the parts of `all` up to `x`, `y` and `z`.
+fn lend(call: usize, want: Answer, all: &[u8], x: usize, y: usize, z: usize, lent: Lent) -> Verdict
+    requires { ⌜ (x ≤ y) × ((y ≤ z) × (z ≤ length (now all))) ⌝ }
+{
+    let mut work = io::large_buffer();
+    let mut out = [MARK; 65536];
+    built(
+        call,
+        want,
+        &all[0..x],
+        &all[x..y],
+        lent,
+        &all[y..z],
+        &mut work,
+        &mut out,
+    )
+}
+
+// A case of a call that builds of two types: `ANSWER ARG ARG SCRATCH ROOM [OUT]`.
+fn bound(line: &[u8], call: usize, room: &mut [u8]) -> Verdict {
+    let first = field_end(line, 0);
+    let want = expected(&line[..first]);
+    let a = take_field(line, begin(first), room);
+    let b = take_field(line, a, room);
+    let n = take_sizes(line, b);
+    let o = take_output(line, n.at, room);
+    if is_whole(line, o) {
+        lend(call, want, room, a.used, b.used, o.used, n.lent)
+    } else {
+        Verdict::Unreadable
+    }
+}
+
+// A case of the reduced form: `ANSWER ARG ROOM [OUT]`.
+fn reduction(line: &[u8], call: usize, room: &mut [u8]) -> Verdict {
+    let first = field_end(line, 0);
+    let want = expected(&line[..first]);
+    let a = take_field(line, begin(first), room);
+    let n = take_size(line, a);
+    let o = take_output(line, n.at, room);
+    if is_whole(line, o) {
+        lend(call, want, room, a.used, a.used, o.used, n.lent)
+    } else {
+        Verdict::Unreadable
+    }
+}
+
 // A case, by its call.
 fn case(line: &[u8], call: usize, room: &mut [u8]) -> Verdict {
     match call {
         1 | 2 | 8 | 9 => one(line, call, room),
         3 | 4 => two(line, call, room),
+        5 | 6 => bound(line, call, room),
+        7 => reduction(line, call, room),
         _ => Verdict::Unreadable,
     }
 }

@@ -1,20 +1,29 @@
-//! Generators of cases for the readers, as plain bytes: all short strings, records at the limits of
-//! level and length, random well-formed records, and damaged copies. Nothing here reads or writes
-//! by the code of `feel-form`, so that a fault there does not shape the cases.
+//! Generators of cases, as plain bytes. For the readers: all short strings, records at the limits of
+//! level and length, random well-formed records, and damaged copies. For the calls over two types:
+//! all short types, types near each other, and pairs at the limits. Nothing here reads or writes by
+//! the code of `feel-form`, so that a fault there does not shape the cases.
 
 mod chains;
 mod damage;
 mod draft;
 mod lengths;
+mod limits;
+mod near;
 mod random;
+mod small;
 mod strings;
+mod tree;
 
 pub use chains::{Ending, TYPE_IN_TYPE, TYPE_IN_VALUE, VALUE_IN_VALUE, Wrapper, chain, each_chain};
 pub use damage::each_damage;
 pub use draft::{Draft, random_draft};
 pub use lengths::{each_long, long_records};
+pub use limits::{EachPair, each_deep_pair, each_long_pair};
+pub use near::{Move, instances, near};
 pub use random::Random;
+pub use small::{small_contexts, small_types};
 pub use strings::each_string;
+pub use tree::{ANY, NULL, Tree};
 
 /// What a record is to be read as.
 #[derive(Debug, Clone, Copy, PartialEq, Eq)]

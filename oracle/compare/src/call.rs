@@ -9,16 +9,23 @@ pub struct Options {
     pub length: usize,
     /// All strings over the small alphabets up to this length.
     pub alphabet_length: usize,
+    /// All pairs of types up to this length.
+    pub pair_length: usize,
     /// This many random records, each with its damaged copies.
     pub count: usize,
+    /// This many random pairs of short types, and as many of types near each other.
+    pub pairs: usize,
     /// The seed of the random records.
     pub seed: u64,
 }
 
 /// The arguments of one case, and the sizes of the buffers lent with them.
-#[derive(Debug, Clone, Copy)]
+#[derive(Debug, Clone, Copy, Default)]
 pub struct Case<'a> {
     pub args: &'a [&'a [u8]],
+    /// Further types for the checks of the theorems, which the call does not get; none where
+    /// nothing is to be checked.
+    pub others: Option<&'a [&'a [u8]]>,
     pub scratch: usize,
     pub output: usize,
 }
@@ -31,13 +38,43 @@ pub struct Expected {
     pub answer: Answer,
     /// The bytes at the front of the output; all bytes after them must be untouched.
     pub output: Vec<u8>,
-    /// For an accepted record: whether the Rust writer gives the same bytes again.
-    pub written_back: Option<bool>,
+    /// What was asked of the Rust's own answer.
+    pub checks: Checks,
+}
+
+/// Checks of the Rust's own answer: how many held, and the first that did not.
+#[derive(Debug, Default)]
+pub struct Checks {
+    pub held: u64,
+    pub failed: Option<&'static str>,
+}
+
+impl Checks {
+    /// Counts a check; `fault` says what is wrong where it does not hold.
+    pub fn check(&mut self, holds: bool, fault: &'static str) {
+        if holds {
+            self.held += 1;
+        } else {
+            self.failed.get_or_insert(fault);
+        }
+    }
+}
+
+/// What the low word of an answer is.
+#[derive(Debug, Clone, Copy, PartialEq, Eq)]
+pub enum Gives {
+    /// A level, and the record was accepted; the checks are that it is written back.
+    Level,
+    /// 0 no, 1 yes; the checks are of theorems.
+    YesOrNo,
+    /// The length written; the checks are of theorems.
+    Length,
 }
 
 /// A call: its name, its cases, and the two sides to be compared.
 pub struct Call {
     pub name: &'static str,
+    pub gives: Gives,
     /// The refusals it can give.
     pub refusals: &'static [u8],
     pub generate: fn(&Options, &mut EachCase),

@@ -1,91 +1,147 @@
 //! The calls that are compared.
 
 use crate::answer::Answer;
-use crate::call::{Call, Case, EachCase, Expected, Options};
+use crate::call::{Call, Gives};
 use crate::lent::Lent;
-use crate::library::{feel_check_type, feel_check_value};
-use feel_cases::{
-    Kind, Random, each_chain, each_damage, each_long, each_string, long_records, random_draft,
+use crate::library::{
+    feel_check_type, feel_check_value, feel_type_common_subtype, feel_type_common_supertype,
+    feel_type_instance_of, feel_type_is_conformant, feel_type_is_null,
+    feel_type_is_simple_built_in_type, feel_type_reduced,
 };
-use feel_form::{
-    MAX_LENGTH, MAX_TYPE_LEVEL, MAX_VALUE_LEVEL, read_type, read_value, write_type, write_value,
-};
+use crate::{records, type_answers, type_cases};
+use feel_cases::Kind;
+use feel_form::{calls, read_type, read_value, write_type, write_value};
 
-pub const CALLS: [Call; 2] = [
+const OF_A_TYPE: &[u8] = &[6, 7, 8, 9, 10];
+
+pub const CALLS: [Call; 9] = [
     Call {
         name: "check_value",
+        gives: Gives::Level,
         refusals: &[1, 2, 3, 4, 5],
-        generate: |options, each| records(Kind::Value, options, each),
-        expected: |case| expected(case, read_value, write_value),
-        actual: |lent| check(lent, feel_check_value),
+        generate: |options, each| records::cases(Kind::Value, options, each),
+        expected: |case| records::expected(case, read_value, write_value),
+        actual: |lent| one_record(lent, feel_check_value),
     },
     Call {
         name: "check_type",
-        refusals: &[6, 7, 8, 9, 10],
-        generate: |options, each| records(Kind::Type, options, each),
-        expected: |case| expected(case, read_type, write_type),
-        actual: |lent| check(lent, feel_check_type),
+        gives: Gives::Level,
+        refusals: OF_A_TYPE,
+        generate: |options, each| records::cases(Kind::Type, options, each),
+        expected: |case| records::expected(case, read_type, write_type),
+        actual: |lent| one_record(lent, feel_check_type),
+    },
+    Call {
+        name: "type_is_conformant",
+        gives: Gives::YesOrNo,
+        refusals: OF_A_TYPE,
+        generate: type_cases::two_types,
+        expected: type_answers::is_conformant,
+        actual: |lent| two_types(lent, feel_type_is_conformant),
+    },
+    Call {
+        name: "type_instance_of",
+        gives: Gives::YesOrNo,
+        refusals: OF_A_TYPE,
+        generate: type_cases::two_types,
+        expected: type_answers::instance_of,
+        actual: |lent| two_types(lent, feel_type_instance_of),
+    },
+    Call {
+        name: "type_common_supertype",
+        gives: Gives::Length,
+        refusals: &[6, 7, 8, 9, 10, 14, 18],
+        generate: |options, each| {
+            type_cases::two_types_and_buffers(calls::common_supertype, options, each)
+        },
+        expected: type_answers::common_supertype,
+        actual: |lent| two_types_and_buffers(lent, feel_type_common_supertype),
+    },
+    Call {
+        name: "type_common_subtype",
+        gives: Gives::Length,
+        refusals: &[6, 7, 8, 9, 10, 14, 18],
+        generate: |options, each| {
+            type_cases::two_types_and_buffers(calls::common_subtype, options, each)
+        },
+        expected: type_answers::common_subtype,
+        actual: |lent| two_types_and_buffers(lent, feel_type_common_subtype),
+    },
+    Call {
+        name: "type_reduced",
+        gives: Gives::Length,
+        refusals: &[6, 7, 8, 9, 10, 18],
+        generate: type_cases::one_type_and_output,
+        expected: type_answers::reduced,
+        actual: |lent| one_type_and_output(lent, feel_type_reduced),
+    },
+    Call {
+        name: "type_is_simple_built_in_type",
+        gives: Gives::YesOrNo,
+        refusals: OF_A_TYPE,
+        generate: type_cases::one_type,
+        expected: type_answers::is_simple_built_in_type,
+        actual: |lent| one_record(lent, feel_type_is_simple_built_in_type),
+    },
+    Call {
+        name: "type_is_null",
+        gives: Gives::YesOrNo,
+        refusals: OF_A_TYPE,
+        generate: type_cases::one_type,
+        expected: type_answers::is_null,
+        actual: |lent| one_record(lent, feel_type_is_null),
     },
 ];
 
-/// Cases of one record.
-fn records(kind: Kind, options: &Options, each: &mut EachCase) {
-    let mut each = |bytes: &[u8]| {
-        each(Case {
-            args: &[bytes],
-            scratch: 0,
-            output: 0,
-        })
-    };
-    let bytes: Vec<u8> = (0..=255).collect();
-    for length in 0..=options.length {
-        each_string(&bytes, length, &mut each);
-    }
-    let (alphabet, max_level): (Vec<u8>, _) = match kind {
-        Kind::Value => {
-            let types = [0x20, 0x22, 0x2A, 0x2D];
-            ((0x00..0x10).chain(types).collect(), MAX_VALUE_LEVEL)
-        }
-        Kind::Type => ((0..3).chain(0x20..0x2E).collect(), MAX_TYPE_LEVEL),
-    };
-    for length in 1..=options.alphabet_length {
-        each_string(&alphabet, length, &mut each);
-    }
-    each_chain(kind, max_level - 1..=max_level + 2, &mut each);
-    each_long(kind, &mut each);
-    for other in [Kind::Value, Kind::Type] {
-        for bytes in long_records(other, MAX_LENGTH) {
-            each(&bytes);
-        }
-    }
-    let mut random = Random::new(options.seed);
-    for _ in 0..options.count {
-        let draft = random_draft(kind, &mut random);
-        each(&draft.bytes);
-        each_damage(&draft, &mut random, &mut each);
-    }
-}
+/// A C function over one record.
+type OneRecord = unsafe extern "C" fn(*const u8, usize) -> u64;
 
-/// A reader of the Rust: the tree and its level, or the refusal.
-type Read<T> = fn(&[u8]) -> Result<(T, usize), u8>;
+/// A C function over two types.
+type TwoTypes = unsafe extern "C" fn(*const u8, usize, *const u8, usize) -> u64;
 
-/// The Rust's answer to a record: its level or its refusal.
-fn expected<T>(case: Case, read: Read<T>, write: fn(&T) -> Vec<u8>) -> Expected {
-    let bytes = case.args[0];
-    let (answer, written_back) = match read(bytes) {
-        Ok((tree, level)) => (Answer::given(level as u32), Some(write(&tree) == bytes)),
-        Err(refusal) => (Answer::refused(refusal), None),
-    };
-    Expected {
-        answer,
-        output: vec![],
-        written_back,
-    }
-}
+/// A C function over two types, with scratch and an output.
+type TwoTypesAndBuffers =
+    unsafe extern "C" fn(*const u8, usize, *const u8, usize, *mut u8, usize, *mut u8, usize) -> u64;
 
-/// The answer of a C function over one record.
-fn check(lent: &mut Lent, function: unsafe extern "C" fn(*const u8, usize) -> u64) -> Answer {
+/// A C function over one type, with an output.
+type OneTypeAndOutput = unsafe extern "C" fn(*const u8, usize, *mut u8, usize) -> u64;
+
+// In each of the following the pointer and the length of an argument are those of one buffer, which
+// lives through the call.
+
+fn one_record(lent: &mut Lent, function: OneRecord) -> Answer {
     let record = &lent.args[0];
-    // SAFETY: the pointer and the length are those of one buffer, which lives through the call.
+    // SAFETY: as said above.
     Answer(unsafe { function(record.as_ptr(), record.len()) })
+}
+
+fn two_types(lent: &mut Lent, function: TwoTypes) -> Answer {
+    let [a, b] = [&lent.args[0], &lent.args[1]];
+    // SAFETY: as said above.
+    Answer(unsafe { function(a.as_ptr(), a.len(), b.as_ptr(), b.len()) })
+}
+
+fn two_types_and_buffers(lent: &mut Lent, function: TwoTypesAndBuffers) -> Answer {
+    let [a, b] = [&lent.args[0], &lent.args[1]];
+    let (scratch, output) = (&mut lent.scratch, &mut lent.output);
+    // SAFETY: as said above; scratch and output are buffers of their own.
+    Answer(unsafe {
+        function(
+            a.as_ptr(),
+            a.len(),
+            b.as_ptr(),
+            b.len(),
+            scratch.as_mut_ptr(),
+            scratch.len(),
+            output.as_mut_ptr(),
+            output.len(),
+        )
+    })
+}
+
+fn one_type_and_output(lent: &mut Lent, function: OneTypeAndOutput) -> Answer {
+    let t = &lent.args[0];
+    let output = &mut lent.output;
+    // SAFETY: as said above; the output is a buffer of its own.
+    Answer(unsafe { function(t.as_ptr(), t.len(), output.as_mut_ptr(), output.len()) })
 }

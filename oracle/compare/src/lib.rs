@@ -6,6 +6,10 @@ pub mod call;
 pub mod calls;
 pub mod lent;
 pub mod library;
+mod records;
 pub mod run;
+mod theorems;
 #[cfg(feature = "self-check")]
 mod twin;
+mod type_answers;
+mod type_cases;

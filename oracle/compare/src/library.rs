@@ -1,11 +1,15 @@
 //! The C functions under comparison.
 
 #[cfg(feature = "self-check")]
-pub use crate::twin::{feel_check_type, feel_check_value};
+pub use crate::twin::{
+    feel_check_type, feel_check_value, feel_type_common_subtype, feel_type_common_supertype,
+    feel_type_instance_of, feel_type_is_conformant, feel_type_is_null,
+    feel_type_is_simple_built_in_type, feel_type_reduced,
+};
 
 /// What the answers are compared with, for the first printed line.
 pub const COMPARED: &str = if cfg!(feature = "self-check") {
-    "the second Rust reader (self-check)"
+    "the second Rust (self-check)"
 } else {
     "libfeel.a"
 };
@@ -14,4 +18,29 @@ pub const COMPARED: &str = if cfg!(feature = "self-check") {
 unsafe extern "C" {
     pub fn feel_check_value(v: *const u8, len: usize) -> u64;
     pub fn feel_check_type(t: *const u8, len: usize) -> u64;
+    pub fn feel_type_is_conformant(a: *const u8, a_len: usize, b: *const u8, b_len: usize) -> u64;
+    pub fn feel_type_instance_of(a: *const u8, a_len: usize, b: *const u8, b_len: usize) -> u64;
+    pub fn feel_type_common_supertype(
+        a: *const u8,
+        a_len: usize,
+        b: *const u8,
+        b_len: usize,
+        scratch: *mut u8,
+        scratch_len: usize,
+        out: *mut u8,
+        out_len: usize,
+    ) -> u64;
+    pub fn feel_type_common_subtype(
+        a: *const u8,
+        a_len: usize,
+        b: *const u8,
+        b_len: usize,
+        scratch: *mut u8,
+        scratch_len: usize,
+        out: *mut u8,
+        out_len: usize,
+    ) -> u64;
+    pub fn feel_type_reduced(t: *const u8, t_len: usize, out: *mut u8, out_len: usize) -> u64;
+    pub fn feel_type_is_simple_built_in_type(t: *const u8, t_len: usize) -> u64;
+    pub fn feel_type_is_null(t: *const u8, t_len: usize) -> u64;
 }

@@ -7,23 +7,39 @@ use compare::library::COMPARED;
 use compare::run::run;
 use std::process::ExitCode;
 
-const USAGE: &str =
-    "usage: compare [--quick] [--length N] [--alphabet-length N] [--count N] [--seed N]
-  --quick              all byte strings up to 2 bytes, 1,000 random records
+const USAGE: &str = "usage: compare [--quick] [--only NAME,..] [--length N] [--alphabet-length N] \
+[--pair-length N] [--count N] [--pairs N] [--seed N]
+  --quick              all byte strings up to 2 bytes, all pairs of types up to 3 bytes,
+                       1,000 random records, 5,000 random pairs
+  --only NAME,..       these calls only; may stand several times
   --length N           all byte strings up to N bytes (3)
   --alphabet-length N  all strings up to N bytes over the small alphabets (5)
+  --pair-length N      all pairs of types up to N bytes (4)
   --count N            N random records for each call, with their damaged copies (10000)
+  --pairs N            N random pairs of short types, and of types near each other (100000)
   --seed N             the seed of the random records (1)";
 
+/// What is to be run.
+struct Arguments {
+    options: Options,
+    /// The names of the calls; all calls when there is none.
+    only: Vec<String>,
+}
+
 fn main() -> ExitCode {
-    let Some(options) = options(std::env::args().skip(1)) else {
+    let Some(Arguments { options, only }) = arguments(std::env::args().skip(1)) else {
         eprintln!("{USAGE}");
+        let names: Vec<&str> = CALLS.iter().map(|call| call.name).collect();
+        eprintln!("calls: {}", names.join(", "));
         return ExitCode::from(2);
     };
     println!("compared with {COMPARED}");
     let mut cases = 0;
     let mut differences = 0;
     for call in CALLS {
+        if !only.is_empty() && !only.iter().any(|name| name == call.name) {
+            continue;
+        }
         let tally = run(&call, &options);
         println!("{tally}");
         if let Some(smallest) = &tally.smallest {
@@ -39,28 +55,43 @@ fn main() -> ExitCode {
     ExitCode::from(u8::from(differences > 0))
 }
 
-fn options(mut args: impl Iterator<Item = String>) -> Option<Options> {
+fn arguments(mut args: impl Iterator<Item = String>) -> Option<Arguments> {
     let mut options = Options {
         length: 3,
         alphabet_length: 5,
+        pair_length: 4,
         count: 10_000,
+        pairs: 100_000,
         seed: 1,
     };
+    let mut only = vec![];
     while let Some(arg) = args.next() {
         if arg == "--quick" {
             options.length = 2;
             options.alphabet_length = 4;
+            options.pair_length = 3;
             options.count = 1_000;
+            options.pairs = 5_000;
             continue;
         }
-        let number = args.next()?.parse::<u64>().ok()?;
+        let value = args.next()?;
+        if arg == "--only" {
+            only.extend(value.split(',').map(str::to_string));
+            continue;
+        }
+        let number = value.parse::<u64>().ok()?;
         match arg.as_str() {
             "--length" => options.length = number as usize,
             "--alphabet-length" => options.alphabet_length = number as usize,
+            "--pair-length" => options.pair_length = number as usize,
             "--count" => options.count = number as usize,
+            "--pairs" => options.pairs = number as usize,
             "--seed" => options.seed = number,
             _ => return None,
         }
     }
-    Some(options)
+    let known = |name: &String| CALLS.iter().any(|call| call.name == name);
+    only.iter()
+        .all(known)
+        .then_some(Arguments { options, only })
 }

@@ -1,7 +1,7 @@
 //! Runs the cases of a call through both sides, counts them, and keeps the smallest difference.
 
 use crate::answer::Answer;
-use crate::call::{Call, Case, Options};
+use crate::call::{Call, Case, Gives, Options};
 use crate::lent::Lent;
 use std::collections::BTreeMap;
 use std::fmt;
@@ -10,6 +10,8 @@ use std::fmt;
 #[derive(Debug, Clone, PartialEq, Eq)]
 pub struct Difference {
     pub args: Vec<Vec<u8>>,
+    /// The other types, where a check of the Rust's own answer failed.
+    pub others: Vec<Vec<u8>>,
     pub scratch: usize,
     pub output: usize,
     pub expected: Answer,
@@ -24,10 +26,14 @@ pub struct Difference {
 #[derive(Debug)]
 pub struct Tally {
     pub name: &'static str,
+    pub gives: Gives,
     pub cases: u64,
     pub accepted: u64,
+    /// How many of the accepted have the answer 1.
+    pub ones: u64,
     pub none: u64,
-    pub written_back: u64,
+    /// How many checks of the Rust's own answer held.
+    pub checks: u64,
     /// For each refusal the call can give, how often it is expected.
     pub refused: BTreeMap<u32, u64>,
     pub differences: u64,
@@ -38,10 +44,12 @@ pub struct Tally {
 pub fn run(call: &Call, options: &Options) -> Tally {
     let mut tally = Tally {
         name: call.name,
+        gives: call.gives,
         cases: 0,
         accepted: 0,
+        ones: 0,
         none: 0,
-        written_back: 0,
+        checks: 0,
         refused: call.refusals.iter().map(|&n| (u32::from(n), 0)).collect(),
         differences: 0,
         smallest: None,
@@ -62,17 +70,18 @@ impl Tally {
             1 => *self.refused.entry(expected.answer.low()).or_default() += 1,
             _ => self.none += 1,
         }
-        self.written_back += u64::from(expected.written_back == Some(true));
+        self.ones += u64::from(expected.answer == Answer::given(1));
+        self.checks += expected.checks.held;
         let what = if actual != expected.answer {
             Some("the answers differ")
-        } else if expected.written_back == Some(false) {
-            Some("the Rust writer gives other bytes")
         } else {
-            lent.fault(case, &expected.output)
+            let fault = || lent.fault(case, &expected.output);
+            expected.checks.failed.or_else(fault)
         };
         let Some(what) = what else {
             return;
         };
+        let others = expected.checks.failed.and(case.others).unwrap_or_default();
         self.differences += 1;
         if self
             .smallest
@@ -81,6 +90,7 @@ impl Tally {
         {
             self.smallest = Some(Difference {
                 args: case.args.iter().map(|arg| arg.to_vec()).collect(),
+                others: others.iter().map(|other| other.to_vec()).collect(),
                 scratch: case.scratch,
                 output: case.output,
                 expected: expected.answer,
@@ -104,9 +114,19 @@ impl fmt::Display for Tally {
     fn fmt(&self, f: &mut fmt::Formatter<'_>) -> fmt::Result {
         write!(
             f,
-            "{}: {} cases, {} accepted, {} written back",
-            self.name, self.cases, self.accepted, self.written_back
+            "{}: {} cases, {} accepted",
+            self.name, self.cases, self.accepted
         )?;
+        if self.gives == Gives::YesOrNo {
+            write!(f, ", {} yes", self.ones)?;
+        }
+        let checked = match self.gives {
+            Gives::Level => "written back",
+            Gives::YesOrNo | Gives::Length => "checks of theorems",
+        };
+        if self.checks > 0 {
+            write!(f, ", {} {checked}", self.checks)?;
+        }
         if self.none > 0 {
             write!(f, ", {} none", self.none)?;
         }
@@ -122,6 +142,9 @@ impl fmt::Display for Difference {
         writeln!(f, "{}", self.what)?;
         for arg in &self.args {
             writeln!(f, "  argument {}", hex(arg))?;
+        }
+        for other in &self.others {
+            writeln!(f, "  other type {}", hex(other))?;
         }
         if self.scratch > 0 {
             writeln!(f, "  scratch of {} bytes", self.scratch)?;
@@ -147,13 +170,15 @@ fn hex(bytes: &[u8]) -> String {
 #[cfg(test)]
 mod tests {
     use super::*;
-    use crate::call::{EachCase, Expected};
+    use crate::call::{Checks, EachCase, Expected};
     use feel_cases::each_string;
 
     const OPTIONS: Options = Options {
         length: 0,
         alphabet_length: 0,
+        pair_length: 0,
         count: 0,
+        pairs: 0,
         seed: 0,
     };
 
@@ -163,6 +188,7 @@ mod tests {
             each_string(&[1, 2], length, &mut |bytes| {
                 each(Case {
                     args: &[bytes, &[9]],
+                    others: Some(&[&[8]]),
                     scratch: 2,
                     output: 4,
                 })
@@ -178,7 +204,10 @@ mod tests {
         Expected {
             answer: Answer::given(sum(case.args[0]).into()),
             output: vec![sum(case.args[0])],
-            written_back: None,
+            checks: Checks {
+                held: 2,
+                failed: None,
+            },
         }
     }
 
@@ -190,14 +219,18 @@ mod tests {
     }
 
     fn run_sums(actual: fn(&mut Lent) -> Answer) -> Tally {
-        let call = Call {
+        run(&call(actual), &OPTIONS)
+    }
+
+    fn call(actual: fn(&mut Lent) -> Answer) -> Call {
+        Call {
             name: "sum",
+            gives: Gives::Length,
             refusals: &[3],
             generate: sums,
             expected: expected_sum,
             actual,
-        };
-        run(&call, &OPTIONS)
+        }
     }
 
     fn what(tally: &Tally) -> &'static str {
@@ -214,7 +247,36 @@ mod tests {
         assert_eq!(tally.smallest, None);
         assert_eq!(
             tally.to_string(),
-            "sum: 15 cases, 15 accepted, 0 written back, refusal 3: 0"
+            "sum: 15 cases, 15 accepted, 30 checks of theorems, refusal 3: 0"
+        );
+        let yes_or_no = Call {
+            gives: Gives::YesOrNo,
+            ..call(actual_sum)
+        };
+        assert_eq!(
+            run(&yes_or_no, &OPTIONS).to_string(),
+            "sum: 15 cases, 15 accepted, 1 yes, 30 checks of theorems, refusal 3: 0"
+        );
+    }
+
+    #[test]
+    fn a_failed_check_is_a_difference() {
+        let failing = Call {
+            expected: |case| {
+                let mut expected = expected_sum(case);
+                expected.checks.check(sum(case.args[0]) != 3, "a sum is 3");
+                expected.checks.check(false, "not the first fault");
+                expected
+            },
+            ..call(actual_sum)
+        };
+        let tally = run(&failing, &OPTIONS);
+        // 1 2, 2 1 and 1 1 1 fail the first check.
+        assert_eq!((tally.differences, tally.checks), (15, 15 * 2 + 12));
+        let smallest = tally.smallest.expect("a difference");
+        assert_eq!(
+            (smallest.what, smallest.others),
+            ("not the first fault", vec![vec![8]])
         );
     }
 

@@ -1,197 +1,157 @@
-//! A second reader, which takes the place of `libfeel.a` under the feature `self-check`. It builds
-//! no tree and does not recurse: it keeps a stack of what is still to come.
+//! The second Rust, which takes the place of `libfeel.a` under the feature `self-check`. It works on
+//! the bytes and builds no tree, and shares no code with the first.
 
-/// A command: the width of its operands, and what may follow.
-#[derive(Clone, Copy)]
-enum Command {
-    Unknown,
-    /// A leaf whose operand bytes are free.
-    Free(usize),
-    /// A leaf with one operand byte below the bound.
-    Below(u8),
-    Range,
-    List,
-    Context,
-    Definition,
-    TypeValue,
-    OneType,
-    ContextType,
-    Function,
-}
+mod bounds;
+mod conformance;
+mod parts;
+mod read;
 
-const VALUES: [Command; 16] = [
-    Command::Below(4),
-    Command::Below(2),
-    Command::Free(8),
-    Command::Free(2),
-    Command::Free(8),
-    Command::Free(8),
-    Command::Free(8),
-    Command::Free(8),
-    Command::Free(8),
-    Command::Range,
-    Command::List,
-    Command::Context,
-    Command::Definition,
-    Command::Below(86),
-    Command::TypeValue,
-    Command::Free(0),
-];
+use std::slice::{from_raw_parts, from_raw_parts_mut};
 
-const TYPES: [Command; 14] = [
-    Command::Free(0),
-    Command::Free(0),
-    Command::Free(0),
-    Command::Free(0),
-    Command::Free(0),
-    Command::Free(0),
-    Command::Free(0),
-    Command::Free(0),
-    Command::Free(0),
-    Command::Free(0),
-    Command::OneType,
-    Command::OneType,
-    Command::ContextType,
-    Command::Function,
-];
+/// The answer, or the refusal.
+type Judged = Result<u64, u64>;
 
-impl Command {
-    fn width(self) -> usize {
-        match self {
-            Command::Unknown | Command::TypeValue | Command::OneType => 0,
-            Command::Free(width) => width,
-            Command::Below(_) | Command::Function => 1,
-            Command::Range | Command::List | Command::Context | Command::ContextType => 2,
-            Command::Definition => 3,
-        }
-    }
-}
-
-/// Whether names stand before the children.
-#[derive(Clone, Copy, PartialEq)]
-enum Names {
-    Absent,
-    Free,
-    /// Each must be at least this.
-    From(u32),
-}
-
-/// Children that are still to come, all at one level.
-struct Due {
-    types: bool,
-    names: Names,
-    left: u32,
-    level: u32,
-}
-
-/// The level of what `bytes` spell, or the refusal; `first` is the refusal of the length, and the
-/// others follow it in the order of the table.
-fn judge(bytes: &[u8], types: bool, max_level: u32, first: u64) -> Result<u32, u64> {
-    let (form, order, level, left_over) = (first + 1, first + 2, first + 3, first + 4);
-    if !(1..=16_384).contains(&bytes.len()) {
-        return Err(first);
-    }
-    let word = |at: usize| u32::from(bytes[at]) | u32::from(bytes[at + 1]) << 8;
-    let mut deepest = 0;
-    let mut at = 0;
-    let mut stack = vec![Due {
-        types,
-        names: Names::Absent,
-        left: 1,
-        level: 1,
-    }];
-    while let Some(due) = stack.last_mut() {
-        if due.left == 0 {
-            stack.pop();
-            continue;
-        }
-        due.left -= 1;
-        if due.names != Names::Absent {
-            if at + 2 > bytes.len() {
-                return Err(form);
-            }
-            if let Names::From(least) = due.names {
-                if word(at) < least {
-                    return Err(order);
-                }
-                due.names = Names::From(word(at) + 1);
-            }
-            at += 2;
-        }
-        if at == bytes.len() {
-            return Err(form);
-        }
-        if due.level > max_level {
-            return Err(level);
-        }
-        deepest = deepest.max(due.level);
-        let command = match (due.types, bytes[at]) {
-            (false, byte @ 0x00..=0x0F) => VALUES[usize::from(byte)],
-            (true, byte @ 0x20..=0x2D) => TYPES[usize::from(byte - 0x20)],
-            _ => Command::Unknown,
-        };
-        let operands = at + 1;
-        at = operands + command.width();
-        if at > bytes.len() {
-            return Err(form);
-        }
-        let below = due.level + 1;
-        let mut then = |types, names, left| {
-            stack.push(Due {
-                types,
-                names,
-                left,
-                level: below,
-            })
-        };
-        match command {
-            Command::Unknown => return Err(form),
-            Command::Free(_) => {}
-            Command::Below(bound) => {
-                if bytes[operands] >= bound {
-                    return Err(form);
-                }
-            }
-            Command::Range => {
-                if bytes[operands] > 3 || bytes[operands + 1] > 3 {
-                    return Err(form);
-                }
-                then(false, Names::Absent, 2);
-            }
-            Command::List => then(false, Names::Absent, word(operands)),
-            Command::Context => then(false, Names::From(0), word(operands)),
-            Command::Definition => {
-                then(true, Names::Free, u32::from(bytes[operands]));
-                then(true, Names::Absent, 1);
-            }
-            Command::TypeValue | Command::OneType => then(true, Names::Absent, 1),
-            Command::ContextType => then(true, Names::From(0), word(operands)),
-            Command::Function => then(true, Names::Absent, u32::from(bytes[operands]) + 1),
-        }
-    }
-    if at < bytes.len() {
-        return Err(left_over);
-    }
-    Ok(deepest)
-}
-
-fn answer(judged: Result<u32, u64>) -> u64 {
+fn answer(judged: Judged) -> u64 {
     match judged {
-        Ok(level) => u64::from(level),
+        Ok(low) => low,
         Err(refusal) => (1 << 32) | refusal,
     }
+}
+
+fn read_value(bytes: &[u8]) -> Judged {
+    read::judge(bytes, false, 31, 1).map(u64::from)
+}
+
+fn read_type(bytes: &[u8]) -> Judged {
+    read::judge(bytes, true, 32, 6).map(u64::from)
+}
+
+fn of_one_type(t: &[u8], decide: fn(&[u8]) -> bool) -> u64 {
+    answer(read_type(t).map(|_| u64::from(decide(t))))
+}
+
+fn of_two_types(a: &[u8], b: &[u8], decide: fn(&[u8], &[u8]) -> bool) -> u64 {
+    let judged = read_type(a).and_then(|_| read_type(b));
+    answer(judged.map(|_| u64::from(decide(a, b))))
+}
+
+/// Copies the written bytes to the front of the output.
+fn deliver(written: &[u8], out: &mut [u8]) -> Judged {
+    let front = out.get_mut(..written.len()).ok_or(18u64)?;
+    front.copy_from_slice(written);
+    Ok(written.len() as u64)
+}
+
+/// The bound of two types, built in the scratch.
+fn bound(a: &[u8], b: &[u8], side: bounds::Side, scratch: &mut [u8], out: &mut [u8]) -> Judged {
+    read_type(a)?;
+    read_type(b)?;
+    if scratch.len() < a.len() + b.len() {
+        return Err(14);
+    }
+    let end = bounds::put_bound(a, b, side, scratch, 0);
+    deliver(&scratch[..end], out)
 }
 
 /// # Safety
 /// `v` points to `len` readable bytes.
 pub unsafe extern "C" fn feel_check_value(v: *const u8, len: usize) -> u64 {
-    let bytes = unsafe { std::slice::from_raw_parts(v, len) };
-    answer(judge(bytes, false, 31, 1))
+    answer(read_value(unsafe { from_raw_parts(v, len) }))
 }
 
 /// # Safety
 /// `t` points to `len` readable bytes.
 pub unsafe extern "C" fn feel_check_type(t: *const u8, len: usize) -> u64 {
-    let bytes = unsafe { std::slice::from_raw_parts(t, len) };
-    answer(judge(bytes, true, 32, 6))
+    answer(read_type(unsafe { from_raw_parts(t, len) }))
+}
+
+/// # Safety
+/// `a` and `b` point to as many readable bytes as their lengths say.
+pub unsafe extern "C" fn feel_type_is_conformant(
+    a: *const u8,
+    a_len: usize,
+    b: *const u8,
+    b_len: usize,
+) -> u64 {
+    let (a, b) = unsafe { (from_raw_parts(a, a_len), from_raw_parts(b, b_len)) };
+    of_two_types(a, b, conformance::conforms)
+}
+
+/// # Safety
+/// `a` and `b` point to as many readable bytes as their lengths say.
+pub unsafe extern "C" fn feel_type_instance_of(
+    a: *const u8,
+    a_len: usize,
+    b: *const u8,
+    b_len: usize,
+) -> u64 {
+    let (a, b) = unsafe { (from_raw_parts(a, a_len), from_raw_parts(b, b_len)) };
+    of_two_types(a, b, conformance::is_instance)
+}
+
+/// # Safety
+/// `a` and `b` point to as many readable bytes as their lengths say, `scratch` and `out` to as many
+/// writable ones; none of the four overlap where one is written.
+pub unsafe extern "C" fn feel_type_common_supertype(
+    a: *const u8,
+    a_len: usize,
+    b: *const u8,
+    b_len: usize,
+    scratch: *mut u8,
+    scratch_len: usize,
+    out: *mut u8,
+    out_len: usize,
+) -> u64 {
+    let (a, b) = unsafe { (from_raw_parts(a, a_len), from_raw_parts(b, b_len)) };
+    let scratch = unsafe { from_raw_parts_mut(scratch, scratch_len) };
+    let out = unsafe { from_raw_parts_mut(out, out_len) };
+    answer(bound(a, b, bounds::Side::Above, scratch, out))
+}
+
+/// # Safety
+/// As for [feel_type_common_supertype].
+pub unsafe extern "C" fn feel_type_common_subtype(
+    a: *const u8,
+    a_len: usize,
+    b: *const u8,
+    b_len: usize,
+    scratch: *mut u8,
+    scratch_len: usize,
+    out: *mut u8,
+    out_len: usize,
+) -> u64 {
+    let (a, b) = unsafe { (from_raw_parts(a, a_len), from_raw_parts(b, b_len)) };
+    let scratch = unsafe { from_raw_parts_mut(scratch, scratch_len) };
+    let out = unsafe { from_raw_parts_mut(out, out_len) };
+    answer(bound(a, b, bounds::Side::Below, scratch, out))
+}
+
+/// # Safety
+/// `t` points to `t_len` readable bytes, `out` to `out_len` writable ones, and they do not overlap.
+pub unsafe extern "C" fn feel_type_reduced(
+    t: *const u8,
+    t_len: usize,
+    out: *mut u8,
+    out_len: usize,
+) -> u64 {
+    let t = unsafe { from_raw_parts(t, t_len) };
+    let out = unsafe { from_raw_parts_mut(out, out_len) };
+    let judged = read_type(t).and_then(|_| {
+        let mut written = vec![0; t.len()];
+        let end = bounds::put_reduced(t, &mut written, 0);
+        deliver(&written[..end], out)
+    });
+    answer(judged)
+}
+
+/// # Safety
+/// `t` points to `t_len` readable bytes.
+pub unsafe extern "C" fn feel_type_is_simple_built_in_type(t: *const u8, t_len: usize) -> u64 {
+    of_one_type(unsafe { from_raw_parts(t, t_len) }, |t| t[0] < 0x2A)
+}
+
+/// # Safety
+/// `t` points to `t_len` readable bytes.
+pub unsafe extern "C" fn feel_type_is_null(t: *const u8, t_len: usize) -> u64 {
+    of_one_type(unsafe { from_raw_parts(t, t_len) }, |t| t == [0x29])
 }

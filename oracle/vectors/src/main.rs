@@ -1,6 +1,9 @@
 //! Writes the list of cases with the Rust's answers, which the program `replay` runs.
 
+mod bounds;
+mod kinds;
 mod list;
+mod pairs;
 mod shared;
 mod types;
 mod values;
@@ -12,6 +15,9 @@ fn groups() -> Vec<Group> {
     values::groups()
         .into_iter()
         .chain(types::groups())
+        .chain(pairs::groups())
+        .chain(bounds::groups())
+        .chain(kinds::groups())
         .collect()
 }
 
@@ -23,12 +29,25 @@ fn main() -> io::Result<()> {
 mod tests {
     use super::*;
     use feel_form::MAX_LENGTH;
+    use list::{Answer, Call, Case};
     use std::collections::{BTreeMap, BTreeSet};
+
+    /// Every case with its call and its answer.
+    fn cases() -> Vec<(Call, Case, Answer)> {
+        let mut all = vec![];
+        for group in groups() {
+            for case in group.cases {
+                let answer = group.call.answer(&case);
+                all.push((group.call, case, answer));
+            }
+        }
+        all
+    }
 
     #[test]
     fn groups_have_distinct_plain_titles() {
         let groups = groups();
-        assert!((20..=40).contains(&groups.len()), "{}", groups.len());
+        assert!((60..=80).contains(&groups.len()), "{}", groups.len());
         let titles: BTreeSet<&str> = groups.iter().map(|group| &group.title[..]).collect();
         assert_eq!(titles.len(), groups.len());
         for title in titles {
@@ -37,22 +56,30 @@ mod tests {
     }
 
     #[test]
-    fn every_answer_occurs_often() {
+    fn the_calls_stand_in_their_order() {
+        let calls: Vec<Call> = groups().iter().map(|group| group.call).collect();
+        assert!(calls.is_sorted(), "{calls:?}");
+    }
+
+    #[test]
+    fn every_answer_of_the_readers_occurs_often() {
         let mut refusals = BTreeMap::new();
         let mut levels = BTreeSet::new();
-        let mut cases = 0;
-        for group in groups() {
-            for case in &group.cases {
-                cases += 1;
-                match group.answer(case) {
-                    Ok(level) => {
-                        levels.insert(level);
-                    }
-                    Err(refusal) => *refusals.entry(refusal).or_insert(0) += 1,
+        let mut count = 0;
+        for (_, _, answer) in cases()
+            .iter()
+            .filter(|(call, _, _)| *call <= Call::CheckType)
+        {
+            count += 1;
+            match answer {
+                Answer::Number(level) => {
+                    levels.insert(*level);
                 }
+                Answer::Refused(refusal) => *refusals.entry(*refusal).or_insert(0) += 1,
+                Answer::Bytes(bytes) => panic!("{bytes:?}"),
             }
         }
-        assert!(cases >= 500, "{cases}");
+        assert!(count >= 500, "{count}");
         assert!(levels.contains(&1) && levels.contains(&31) && levels.contains(&32));
         for refusal in 1..=10 {
             // Of the refusals by length: no bytes, and one byte too many.
@@ -62,10 +89,47 @@ mod tests {
     }
 
     #[test]
+    fn every_answer_of_the_other_calls_occurs() {
+        let mut answers: BTreeMap<Call, Vec<Answer>> = BTreeMap::new();
+        for (call, case, answer) in cases() {
+            if call > Call::CheckType {
+                assert!(case.args.iter().all(|arg| arg.len() <= 400));
+                answers.entry(call).or_default().push(answer);
+            }
+        }
+        assert_eq!(answers.len(), 7);
+        for (call, answers) in answers {
+            assert!(
+                (25..=60).contains(&answers.len()),
+                "{call:?} {}",
+                answers.len()
+            );
+            let (own, least): (&[u8], _) = match call {
+                Call::CommonSupertype | Call::CommonSubtype => (&[14, 18], 3),
+                Call::Reduced => (&[18], 3),
+                _ => {
+                    assert!(answers.contains(&Answer::Number(0)));
+                    assert!(answers.contains(&Answer::Number(1)));
+                    (&[], 0)
+                }
+            };
+            let count = |refusal: &u8| {
+                let refused = Answer::Refused(*refusal);
+                answers.iter().filter(|answer| **answer == refused).count()
+            };
+            assert!((6..=10).all(|refusal| count(&refusal) > 0), "{call:?}");
+            assert!(
+                own.iter().all(|refusal| count(refusal) >= least),
+                "{call:?}"
+            );
+        }
+    }
+
+    #[test]
     fn few_cases_are_long() {
-        let groups = groups();
-        let cases = groups.iter().flat_map(|group| &group.cases);
-        let long: Vec<usize> = cases
+        let long: Vec<usize> = cases()
+            .iter()
+            .flat_map(|(_, case, _)| &case.args)
             .map(Vec::len)
             .filter(|&length| length > 1_000)
             .collect();
@@ -78,22 +142,37 @@ mod tests {
     #[test]
     fn the_text_is_small_and_in_its_form() {
         let text = list::text(&groups());
-        assert!(text.len() < 300_000, "{}", text.len());
+        assert!(text.len() < 320_000, "{}", text.len());
         assert_eq!(text, list::text(&groups()));
         assert!(text.ends_with('\n'));
+        let is_hex = |byte: u8| byte.is_ascii_digit() || (b'A'..=b'F').contains(&byte);
+        let is_bytes =
+            |word: &str| word == "." || (word.len().is_multiple_of(2) && word.bytes().all(is_hex));
+        let is_number = |word: &str| word.parse::<usize>().is_ok();
+        let mut call = 0;
         for line in text.lines() {
-            let (front, rest) = line.split_once(' ').expect("two words");
-            if front == ":" {
-                assert!(rest.starts_with("1 check_value: ") || rest.starts_with("2 check_type: "));
+            if let Some(title) = line.strip_prefix(": ") {
+                call = title[..1].parse().expect("the number of a call");
                 continue;
             }
-            let answer = front.strip_prefix('!').unwrap_or(front);
-            assert!(answer.parse::<u8>().is_ok(), "{line}");
-            let is_hex = |byte: u8| byte.is_ascii_digit() || (b'A'..=b'F').contains(&byte);
-            assert!(
-                rest == "." || (rest.len() % 2 == 0 && rest.bytes().all(is_hex)),
-                "{line}"
-            );
+            let mut words = line.split(' ');
+            let answer = words.next().expect("an answer");
+            let accepted = !answer.starts_with('!');
+            assert!(is_number(answer.trim_start_matches('!')), "{line}");
+            let (args, lent) = match call {
+                1 | 2 | 8 | 9 => (1, 0),
+                3 | 4 => (2, 0),
+                5 | 6 => (2, 2),
+                _ => (1, 1),
+            };
+            assert!(words.by_ref().take(args).all(is_bytes), "{line}");
+            assert!(words.by_ref().take(lent).all(is_number), "{line}");
+            let out: Vec<&str> = words.collect();
+            assert_eq!(out.len(), usize::from(accepted && lent > 0), "{line}");
+            for bytes in out {
+                assert!(is_bytes(bytes), "{line}");
+                assert_eq!(answer, (bytes.len() / 2).to_string(), "{line}");
+            }
         }
     }
 }

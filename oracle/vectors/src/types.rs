@@ -1,6 +1,6 @@
 //! The groups of `check_type`.
 
-use crate::list::{Group, all, bytes};
+use crate::list::{Call, Group, all, bytes};
 use crate::shared::{
     at_levels, beginnings, changed, each_byte_changed, each_byte_dropped_or_doubled, framed,
     random_records,
@@ -23,7 +23,7 @@ const FAULTS: [&str; 6] = [
 ];
 
 pub fn groups() -> Vec<Group> {
-    let group = |words, cases| Group::new(Kind::Type, words, cases);
+    let group = |words, cases| Group::of_records(Call::CheckType, words, cases);
     let record = bytes(RECORD);
     let last = record.len() - 1;
     let faults = all(&FAULTS);

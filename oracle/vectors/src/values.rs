@@ -1,6 +1,6 @@
 //! The groups of `check_value`.
 
-use crate::list::{Group, all, bytes};
+use crate::list::{Call, Group, all, bytes};
 use crate::shared::{
     at_levels, beginnings, changed, each_byte_changed, each_byte_dropped_or_doubled, framed,
     random_records,
@@ -27,7 +27,7 @@ const FAULTS: [&str; 10] = [
 ];
 
 pub fn groups() -> Vec<Group> {
-    let group = |words, cases| Group::new(Kind::Value, words, cases);
+    let group = |words, cases| Group::of_records(Call::CheckValue, words, cases);
     let record = bytes(RECORD);
     let last = record.len() - 1;
     let faults = all(&FAULTS);

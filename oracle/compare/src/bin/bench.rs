@@ -1,10 +1,12 @@
-//! The speed of the exported readers beside the Rust, which reads the same bytes into its trees.
-//! Both run on the same accepted records in turn; the best of several rounds counts, so only the
-//! ratio in one run says something.
+//! The speed of exported functions beside the Rust: of the readers beside the Rust reading the same
+//! bytes into its trees; of conformance beside the Rust reading both types and answering, and
+//! beside its answer alone on trees that were built before. All run on the same accepted records in
+//! turn; the best of several rounds counts, so only the ratios in one run say something.
 
-use compare::library::{COMPARED, feel_check_type, feel_check_value};
-use feel_cases::{Kind, Random, random_draft};
-use feel_form::{read_type, read_value};
+use compare::library::{COMPARED, feel_check_type, feel_check_value, feel_type_is_conformant};
+use dsntk_feel::FeelType;
+use feel_cases::{ANY, Kind, Move, Random, Tree, near, random_draft};
+use feel_form::{calls, read_type, read_value};
 use std::hint::black_box;
 use std::time::{Duration, Instant};
 
@@ -38,6 +40,78 @@ fn main() {
             );
         }
     }
+    for (least, most) in SIZES {
+        conformance(least, most);
+    }
+}
+
+/// Conformance of types of these lengths to types near them.
+fn conformance(least: usize, most: usize) {
+    let pairs = pairs(least, most);
+    let tree = |bytes: &[u8]| read_type(bytes).expect("accepted").0;
+    let trees: Vec<[FeelType; 2]> = pairs.iter().map(|[a, b]| [tree(a), tree(b)]).collect();
+    let bytes: usize = pairs.iter().flatten().map(Vec::len).sum();
+    let firsts: usize = pairs.iter().map(|[a, _]| a.len()).sum();
+    let repeats = ROUND.div_ceil(bytes);
+    let [mut ours, mut rust, mut alone] = [Duration::MAX; 3];
+    for _ in 0..ROUNDS {
+        ours = ours.min(timed(repeats, &pairs, |[a, b]| conforms(a, b)));
+        rust = rust.min(timed(repeats, &pairs, |[a, b]| calls::is_conformant(a, b)));
+        alone = alone.min(timed(repeats, &trees, |[a, b]| a.is_conformant(b)));
+    }
+    let per_byte = |time: Duration| time.as_nanos() as f64 / (bytes * repeats) as f64;
+    println!(
+        "type_is_conformant, {} bytes: {:.2} ns a byte, the Rust {:.2} ns, ratio {:.1}, \
+         its answer alone {:.2} ns, ratio {:.2}",
+        firsts / pairs.len(),
+        per_byte(ours),
+        per_byte(rust),
+        per_byte(rust) / per_byte(ours),
+        per_byte(alone),
+        per_byte(alone) / per_byte(ours)
+    );
+}
+
+/// Accepted types of these lengths, each with one near it to which it conforms and which is not
+/// much shorter. Every function has a parameter, so that its result counts.
+fn pairs(least: usize, most: usize) -> Vec<[Vec<u8>; 2]> {
+    let mut random = Random::new(7);
+    let mut pairs = vec![];
+    let mut bytes = 0;
+    while bytes < 200_000 {
+        let tree = with_parameters(Tree::random(20, most / 3, &mut random));
+        let a = tree.bytes();
+        if !(least..=most).contains(&a.len()) {
+            continue;
+        }
+        let b = near(&tree, Move::Up, &mut random).bytes();
+        let is_close = b != a && 10 * b.len() >= 8 * a.len();
+        if is_close && conforms(&a, &b) == 1 {
+            bytes += a.len() + b.len();
+            pairs.push([a, b]);
+        }
+    }
+    pairs
+}
+
+/// The type, with a parameter for each parameterless function.
+fn with_parameters(tree: Tree) -> Tree {
+    let inside = |child: Box<Tree>| Box::new(with_parameters(*child));
+    match tree {
+        Tree::Simple(_) => tree,
+        Tree::One(command, inner) => Tree::One(command, inside(inner)),
+        Tree::Context(entries) => {
+            let entry = |(name, child)| (name, with_parameters(child));
+            Tree::Context(entries.into_iter().map(entry).collect())
+        }
+        Tree::Function(parameters, result) if parameters.is_empty() => {
+            Tree::Function(vec![ANY], inside(result))
+        }
+        Tree::Function(parameters, result) => {
+            let parameters = parameters.into_iter().map(with_parameters).collect();
+            Tree::Function(parameters, inside(result))
+        }
+    }
 }
 
 /// Accepted records of these lengths.
@@ -55,7 +129,7 @@ fn records(kind: Kind, least: usize, most: usize) -> Vec<Vec<u8>> {
     records
 }
 
-fn timed<T>(repeats: usize, records: &[Vec<u8>], mut work: impl FnMut(&[u8]) -> T) -> Duration {
+fn timed<R, T>(repeats: usize, records: &[R], mut work: impl FnMut(&R) -> T) -> Duration {
     let start = Instant::now();
     for _ in 0..repeats {
         for record in records {
@@ -73,6 +147,11 @@ fn check(kind: Kind, record: &[u8]) -> u64 {
             Kind::Type => feel_check_type(record.as_ptr(), record.len()),
         }
     }
+}
+
+fn conforms(a: &[u8], b: &[u8]) -> u64 {
+    // SAFETY: each pointer and length are those of one slice, which lives through the call.
+    unsafe { feel_type_is_conformant(a.as_ptr(), a.len(), b.as_ptr(), b.len()) }
 }
 
 fn read(kind: Kind, record: &[u8]) -> usize {

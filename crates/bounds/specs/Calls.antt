@@ -1,0 +1,31 @@
+-- Common supertype, common subtype and reduced form: the calls.
+-- Assumes nothing.
+use mathlib.Core.List.{List}
+use Prim.Native.Nat.{ℕ, _+_}
+use lib.ListN.{length}
+use lib.Dec.{leb}
+use Rattle.form.specs.Outcome.{Outcome, _>>=_, _>>_, check, fits}
+use Rattle.form.specs.Trees.{Ty}
+use Rattle.form.specs.Form.{enc}
+use Rattle.form.specs.Read.{readType}
+use Rattle.order.specs.Order.{fixed}
+use Rattle.order.specs.Types.{reduce, sup, sub}
+
+-- of two types; 14: the scratch is shorter than both together
+abbrev pub combined : (Ty → Ty → Ty) → List ℕ → List ℕ → ℕ → ℕ → Outcome (List ℕ)
+combined answer a b scratch room = do
+  s ← readType a
+  t ← readType b
+  check 14 (leb (length a + length b) scratch)
+  fits room (enc (answer s t))
+
+abbrev pub commonSupertype : List ℕ → List ℕ → ℕ → ℕ → Outcome (List ℕ)
+commonSupertype a b scratch room = combined (sup fixed) a b scratch room
+
+abbrev pub commonSubtype : List ℕ → List ℕ → ℕ → ℕ → Outcome (List ℕ)
+commonSubtype a b scratch room = combined (sub fixed) a b scratch room
+
+abbrev pub reducedCall : List ℕ → ℕ → Outcome (List ℕ)
+reducedCall t room = do
+  s ← readType t
+  fits room (enc (reduce fixed s))

@@ -1,0 +1,90 @@
+-- What the builders of a common supertype (`up`) or subtype (`down`) ask and leave: of two types, of the entries of two contexts,
+-- of two functions.
+-- Assumes nothing.
+use mathlib.Core.Path.{_≡_}
+use mathlib.Core.Bool.{Bool, true, false}
+use mathlib.Core.Option.{Option, none, some}
+use mathlib.Core.List.{List, _++_}
+use Prim.Native.Nat.{ℕ, _≤_}
+use lib.ListN.{take, drop}
+use Rattle.form.specs.Trees.{Ty, Fields}
+use Rattle.form.specs.Form.{enc, encFields, encTys, countFields}
+use Rattle.form.specs.Answers.{onto}
+use Rattle.order.specs.Order.{Dir, up, down, flip, pick, fixed}
+use Rattle.order.specs.Types.{reduce, reduce-fields, reduce-tys, bound, bounds, common, merge}
+use Rattle.order.specs.Size.{size, size-fields}
+use Rattle.types.specs.At.{Sig, sig, size-sig}
+
+-- the direction of a call
+abbrev pub toward : Bool → Dir
+toward true = up
+toward false = down
+
+-- ---- the answers
+abbrev pub answer : Dir → Ty → Ty → Ty
+answer d t u = reduce fixed (bound fixed d t u)
+
+abbrev pub answerFields : Dir → Fields → Fields → Fields
+answerFields d fs gs = reduce-fields fixed (pick d (common fixed fs gs) (merge fixed fs gs))
+
+unfoldable pub answerSig : Dir → Sig → Sig → Sig
+answerSig d (sig ps r) (sig qs s) = sig (reduce-tys fixed (bounds fixed (flip d) ps qs)) (answer d r s)
+
+unfoldable pub encSig : Sig → List ℕ
+encSig (sig ps r) = encTys ps ++ enc r
+
+-- ---- a way to take two things together: the answer, its size, its bytes
+pub record Joining (X : Type 0) : Type 0 where
+  pub join : X → X → X
+  pub sized : X → ℕ
+  pub text : X → List ℕ
+
+abbrev pub ofTypes : Dir → Joining Ty
+ofTypes d = record { join = answer d; sized = size; text = enc }
+
+abbrev pub ofFields : Dir → Joining Fields
+ofFields d = record { join = answerFields d; sized = size-fields; text = encFields }
+
+abbrev pub ofSigs : Dir → Joining Sig
+ofSigs d = record { join = answerSig d; sized = size-sig; text = encSig }
+
+-- the most bytes that an answer has
+abbrev pub mostAnswer : ℕ
+mostAnswer = 65535
+
+-- both are there, and the answer has room
+unfoldable pub Ready : {X : Type 0} → Joining X → Option X → Option X → ℕ → Type 0
+Ready J (some t) (some u) n = (J .sized (J .join t u) ≤ n) × (J .sized (J .join t u) ≤ mostAnswer)
+Ready J (some t) none n = ⊥
+Ready J none y n = ⊥
+
+-- `first` and `second` bytes were read of the two, and the answer's `wrote` bytes are over the front of the output
+pub record Wrote {X : Type 0} (J : Joining X) (t u : X) (old new : List ℕ) (first second wrote : ℕ) : Type 0 where
+  pub one : first ≡ J .sized t
+  pub two : second ≡ J .sized u
+  pub long : wrote ≡ J .sized (J .join t u)
+  pub out : new ≡ onto (J .text (J .join t u)) old
+
+unfoldable pub Combined : {X : Type 0} → Joining X → Option X → Option X → List ℕ → List ℕ → ℕ → ℕ → ℕ → Type 0
+Combined J (some t) (some u) old new first second wrote = Wrote J t u old new first second wrote
+Combined J (some t) none old new first second wrote = Unit {0}
+Combined J none y old new first second wrote = Unit {0}
+
+-- so many entries
+unfoldable pub Counted : Dir → Option Fields → Option Fields → ℕ → Type 0
+Counted d (some fs) (some gs) n = n ≡ countFields (answerFields d fs gs)
+Counted d (some fs) none n = Unit {0}
+Counted d none y n = Unit {0}
+
+-- `bs` over `old` from n on
+unfoldable pub over : ℕ → List ℕ → List ℕ → List ℕ
+over n bs old = take n old ++ onto bs (drop n old)
+
+-- ---- reduced forms
+unfoldable pub reduceSig : Sig → Sig
+reduceSig (sig ps r) = sig (reduce-tys fixed ps) (reduce fixed r)
+
+-- the size of what stands there, and of its reduced form
+unfoldable pub Measured : {X : Type 0} → (X → X) → (X → ℕ) → Option X → ℕ → ℕ → Type 0
+Measured red sized (some x) read short = (read ≡ sized x) × (short ≡ sized (red x))
+Measured red sized none read short = Unit {0}

@@ -1,0 +1,218 @@
+//! The theorems on samples: what holds of the answers, with the published `is_conformant` as the
+//! judge. The arguments are accepted types; of the other types those that are accepted count.
+
+use crate::call::Checks;
+use dsntk_feel::FeelType;
+use feel_form::{common_subtype, common_supertype, read_type, reduced, type_level, write_type};
+
+/// Conformance is reflexive and transitive, and mutual exactly when the reduced forms are equal.
+pub fn of_conformance(a: &[u8], b: &[u8], others: &[&[u8]]) -> Checks {
+    let mut checks = Checks::default();
+    let (a, b) = (read(a), read(b));
+    checks.check(
+        a.is_conformant(&a),
+        "theorem fails: a type conforms to itself",
+    );
+    mutual(&mut checks, &a, &b);
+    let a_to_b = a.is_conformant(&b);
+    for other in accepted(others) {
+        let passed_on = !(a_to_b && b.is_conformant(&other)) || a.is_conformant(&other);
+        checks.check(passed_on, "theorem fails: conformance is transitive");
+    }
+    checks
+}
+
+/// The supertype is the least upper bound, reduced, and no larger than it may be.
+pub fn of_supertype(a: &[u8], b: &[u8], others: &[&[u8]]) -> Checks {
+    let mut checks = Checks::default();
+    let length = a.len() + b.len();
+    let (a, b) = (read(a), read(b));
+    let answer = common_supertype(&a, &b);
+    least_above(&mut checks, &a, &b, &answer, others);
+    size(&mut checks, &answer, length, level(&a, &b));
+    checks
+}
+
+/// The subtype is the greatest lower bound, reduced, and no larger than it may be.
+pub fn of_subtype(a: &[u8], b: &[u8], others: &[&[u8]]) -> Checks {
+    let mut checks = Checks::default();
+    let length = a.len() + b.len();
+    let (a, b) = (read(a), read(b));
+    let answer = common_subtype(&a, &b);
+    greatest_below(&mut checks, &a, &b, &answer, others);
+    size(&mut checks, &answer, length, level(&a, &b));
+    checks
+}
+
+/// A type and its reduced form conform to each other; with any other type, as [mutual] says.
+pub fn of_reduced(t: &[u8], others: &[&[u8]]) -> Checks {
+    let mut checks = Checks::default();
+    let tree = read(t);
+    let answer = reduced(&tree);
+    checks.check(
+        tree.is_conformant(&answer) && answer.is_conformant(&tree),
+        "theorem fails: a type and its reduced form conform to each other",
+    );
+    for other in accepted(others) {
+        mutual(&mut checks, &tree, &other);
+    }
+    size(&mut checks, &answer, t.len(), type_level(&tree));
+    checks
+}
+
+/// Both types conform to the answer, and it conforms to whatever both conform to.
+fn least_above(
+    checks: &mut Checks,
+    a: &FeelType,
+    b: &FeelType,
+    answer: &FeelType,
+    others: &[&[u8]],
+) {
+    checks.check(
+        a.is_conformant(answer),
+        "theorem fails: the first type conforms to the supertype",
+    );
+    checks.check(
+        b.is_conformant(answer),
+        "theorem fails: the second type conforms to the supertype",
+    );
+    let mut third = |other: &FeelType| {
+        checks.check(
+            answer.is_conformant(other) == (a.is_conformant(other) && b.is_conformant(other)),
+            "theorem fails: the supertype conforms to a third type exactly when both types do",
+        );
+    };
+    third(a);
+    third(b);
+    accepted(others).for_each(|other| third(&other));
+}
+
+/// The answer conforms to both types, and whatever conforms to both conforms to it.
+fn greatest_below(
+    checks: &mut Checks,
+    a: &FeelType,
+    b: &FeelType,
+    answer: &FeelType,
+    others: &[&[u8]],
+) {
+    checks.check(
+        answer.is_conformant(a),
+        "theorem fails: the subtype conforms to the first type",
+    );
+    checks.check(
+        answer.is_conformant(b),
+        "theorem fails: the subtype conforms to the second type",
+    );
+    let mut third = |other: &FeelType| {
+        checks.check(
+            other.is_conformant(answer) == (other.is_conformant(a) && other.is_conformant(b)),
+            "theorem fails: a third type conforms to the subtype exactly when it does to both",
+        );
+    };
+    third(a);
+    third(b);
+    accepted(others).for_each(|other| third(&other));
+}
+
+/// Two types conform to each other exactly when their reduced forms are equal.
+fn mutual(checks: &mut Checks, a: &FeelType, b: &FeelType) {
+    checks.check(
+        (a.is_conformant(b) && b.is_conformant(a)) == (reduced(a) == reduced(b)),
+        "theorem fails: conformance is mutual exactly when the reduced forms are equal",
+    );
+}
+
+/// An answer is reduced, and neither its length nor its level passes the bound.
+fn size(checks: &mut Checks, answer: &FeelType, length: usize, level: usize) {
+    checks.check(
+        reduced(answer) == *answer,
+        "theorem fails: an answer is reduced",
+    );
+    checks.check(
+        write_type(answer).len() <= length,
+        "theorem fails: an answer is never longer than the inputs together",
+    );
+    checks.check(
+        type_level(answer) <= level,
+        "theorem fails: the level of an answer is at most the larger of the inputs",
+    );
+}
+
+/// The larger level of two types.
+fn level(a: &FeelType, b: &FeelType) -> usize {
+    type_level(a).max(type_level(b))
+}
+
+fn read(bytes: &[u8]) -> FeelType {
+    read_type(bytes).expect("accepted before").0
+}
+
+fn accepted(others: &[&[u8]]) -> impl Iterator<Item = FeelType> {
+    let types = others.iter().filter_map(|other| read_type(other).ok());
+    types.map(|(tree, _)| tree)
+}
+
+#[cfg(test)]
+mod tests {
+    use super::*;
+
+    type Theorem = fn(&mut Checks, &FeelType, &FeelType, &FeelType, &[&[u8]]);
+
+    /// What fails of an answer for two types, with a third.
+    fn failed(theorem: Theorem, a: &[u8], b: &[u8], answer: &[u8], other: &[u8]) -> &'static str {
+        let mut checks = Checks::default();
+        theorem(&mut checks, &read(a), &read(b), &read(answer), &[other]);
+        checks.failed.unwrap_or("nothing")
+    }
+
+    const NUMBERS: &[u8] = &[0x2A, 0x22];
+    const STRINGS: &[u8] = &[0x2A, 0x23];
+    const LISTS: &[u8] = &[0x2A, 0x20];
+    const NULLS: &[u8] = &[0x2A, 0x29];
+
+    #[test]
+    fn wrong_supertypes_are_seen() {
+        let failed = |answer, other| failed(least_above, NUMBERS, STRINGS, answer, other);
+        assert_eq!(failed(LISTS, LISTS), "nothing");
+        assert!(failed(NUMBERS, LISTS).contains("the second type conforms"));
+        assert!(failed(STRINGS, LISTS).contains("the first type conforms"));
+        // Any is above both, but not the least.
+        assert!(failed(&[0x20], LISTS).contains("a third type exactly when"));
+    }
+
+    #[test]
+    fn wrong_subtypes_are_seen() {
+        let failed = |answer, other| failed(greatest_below, NUMBERS, STRINGS, answer, other);
+        assert_eq!(failed(NULLS, NULLS), "nothing");
+        assert!(failed(NUMBERS, NULLS).contains("conforms to the second type"));
+        assert!(failed(STRINGS, NULLS).contains("conforms to the first type"));
+        assert!(failed(&[0x29], NULLS).contains("a third type conforms"));
+    }
+
+    #[test]
+    fn the_size_of_an_answer_is_seen() {
+        let failed = |answer: &[u8], length, level| {
+            let mut checks = Checks::default();
+            size(&mut checks, &read(answer), length, level);
+            checks.failed.unwrap_or("nothing")
+        };
+        assert_eq!(failed(&[0x2D, 0, 0x20], 3, 2), "nothing");
+        assert!(failed(&[0x2D, 0, 0x22], 3, 2).ends_with("is reduced"));
+        assert!(failed(&[0x2D, 0, 0x20], 2, 2).contains("longer"));
+        assert!(failed(&[0x2D, 0, 0x20], 3, 1).contains("level"));
+    }
+
+    #[test]
+    fn samples_hold() {
+        let (a, b): (&[u8], &[u8]) = (&[0x2D, 0, 0x22], &[0x2D, 0, 0x23]);
+        let others: &[&[u8]] = &[LISTS, &[0x2E], &[0x20]];
+        for (checks, held) in [
+            (of_conformance(a, b, others), 4),
+            (of_supertype(a, b, others), 9),
+            (of_subtype(NUMBERS, b, others), 9),
+            (of_reduced(a, others), 6),
+        ] {
+            assert_eq!((checks.held, checks.failed), (held, None));
+        }
+    }
+}
