@@ -3,23 +3,21 @@
 use Prim.Native.Nat.{ℕ, zero, suc, _+_, _-_, _/_, _%_, _<_, _≤_}
 use mathlib.Core.Path.{_≡_, refl, sym, ap, ap₂, _∙_}
 use mathlib.Core.Option.{Option, none, some}
-use mathlib.Core.List.{List, [], _∷_, _++_}
+use mathlib.Core.List.{List, [], _∷_}
 use native.Mathlib.Omega.{arith}
-use lib.ListN.{length, getD, take, drop, set, length-set}
+use lib.ListN.{length, getD, take, drop, set}
 use borrow.Rule.Slice.PartMut.{putMid}
 use Rattle.form.specs.Trees.{Simple, any, boolean, number, string, date, time, dateTime, daysAndTime, yearsAndMonths, null, code, Ty, leaf, built, list, range, context, function, Fields, no-params}
 use Rattle.form.specs.Form.{numAt, enc, encFields, countFields, countTys}
 use Rattle.form.specs.Answers.{onto}
-use Rattle.order.specs.Order.{Dir, top, bottom, fixed}
-use Rattle.order.specs.Types.{reduce, bound}
-use Rattle.order.specs.Ascending.{Asc}
+use Rattle.order.specs.Order.{Dir, top, bottom}
 use Rattle.order.specs.Size.{size, size-fields}
 use Rattle.order.proofs.Size.{size-positive}
-use Rattle.types.specs.At.{typeAt, fieldsAt, Sig, funOf, size-sig, sigAt, sizeAt}
+use Rattle.types.specs.At.{typeAt, fieldsAt, Sig, funOf, sigAt, sizeAt}
 use Rattle.types.proofs.Reading.{rest, cmd, cmd-is, some-byte, some-level, is-list, is-range, is-ctx, is-fun, t-good, size-fun}
 use Rattle.types.proofs.Entries.{size-got}
 use Rattle.bounds.specs.Writing.{answer, answerFields, answerSig, encSig, Joining, ofTypes, ofFields, ofSigs, mostAnswer, Ready, Wrote, Combined, Counted}
-use Rattle.bounds.proofs.Laws.{length-rest, onto-first, onto-two, onto-three, late-three, back, back-length}
+use Rattle.bounds.proofs.Laws.{length-rest, onto-first, onto-two, onto-three, late-three, back}
 use Rattle.bounds.proofs.Trees.{enc-ctx, enc-fun, count-size, countSig, sig-count, count-answer, functions, functions-none, functions-other, lists, ranges, contexts, self, same-simple, least, least-right, other, leaves}
 
 -- ---- the predicates of the contracts, in and out

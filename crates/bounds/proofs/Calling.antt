@@ -1,10 +1,10 @@
 -- The calls: their arguments are read, the answer is built and copied.
 -- Assumes nothing.
 use Prim.Native.Nat.{ℕ, _+_, _≤_, _<_}
-use mathlib.Core.Path.{_≡_, refl, sym, ap, ap₂, _∙_}
+use mathlib.Core.Path.{_≡_, refl, sym, ap, _∙_}
 use mathlib.Core.Bool.{Bool, true, false}
 use mathlib.Core.Option.{Option, some}
-use mathlib.Core.List.{List, [], _++_, append-nil}
+use mathlib.Core.List.{List, [], append-nil}
 use native.Mathlib.Omega.{arith}
 use lib.ListN.{length, take}
 use borrow.Author.Tests.{le-leb, lt-leb}
@@ -12,7 +12,7 @@ use Rattle.form.specs.Trees.{Ty}
 use Rattle.form.specs.Limits.{mostBytes, typeLevels}
 use Rattle.form.specs.Outcome.{Outcome, done, refused, _>>=_, _>>_, fits}
 use Rattle.form.specs.Form.{Bytes, enc, level, Wf}
-use Rattle.form.specs.Read.{Got, got, readT, readType, checkType}
+use Rattle.form.specs.Read.{readT, readType, checkType}
 use Rattle.form.specs.Answers.{onto, Built}
 use Rattle.form.specs.declared.Written.the-variants as written-is
 use Rattle.form.proofs.ExactTypes.{read-enc}

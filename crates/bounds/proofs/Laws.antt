@@ -2,13 +2,13 @@
 -- Assumes nothing.
 use mathlib.Core.Path.{_≡_, refl, ap, sym, _∙_}
 use mathlib.Core.List.{List, [], _∷_, _++_, append-assoc, append-nil}
-use Prim.Native.Nat.{ℕ, suc, _+_, _-_, _*_, _/_, _%_, _≤_, _<_}
+use Prim.Native.Nat.{ℕ, suc, _+_, _-_, _≤_, _<_}
 use native.Mathlib.Numerals.{add-one}
 use native.Mathlib.Omega.{arith}
-use lib.ListN.{length, take, drop, getD, set, length-append, length-take, length-drop, length-set, take-append-drop, drop-of-length-le}
-use lib.Seq.{drop-cons, take-suc, take-all, drop-drop, take-at, drop-at, set-at, length-take-le, drop-nil}
+use lib.ListN.{length, take, drop, getD, set, length-append, length-take, length-drop, take-append-drop, drop-of-length-le}
+use lib.Seq.{drop-cons, take-suc, take-all, drop-drop, take-at, drop-at, set-at, length-take-le}
 use borrow.Rule.Slice.PartMut.{putMid, same-len-mid}
-use Rattle.form.specs.Form.{bytes, num, numAt, Bytes}
+use Rattle.form.specs.Form.{bytes, numAt, Bytes}
 use Rattle.form.proofs.Numbers.{bytes-num, bytes-take}
 use Rattle.form.proofs.Exact.{bytes-drop}
 use Rattle.form.specs.Answers.{onto}

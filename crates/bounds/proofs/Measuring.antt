@@ -2,20 +2,19 @@
 -- Assumes nothing.
 use Prim.Native.Nat.{ℕ, zero, suc, _+_, _-_, _<_, _≤_}
 use mathlib.Core.Path.{_≡_, refl, sym, ap, ap₂, _∙_}
-use mathlib.Core.Bool.{cond}
-use mathlib.Core.Option.{Option, none, some}
+use mathlib.Core.Option.{Option, some}
 use mathlib.Core.List.{List}
 use native.Mathlib.Omega.{arith}
-use lib.ListN.{length, getD, take, drop}
-use Rattle.form.specs.Trees.{Simple, any, Ty, leaf, built, list, range, context, function, Fields, no-fields, field, Tys, no-params, param}
+use lib.ListN.{length, getD, drop}
+use Rattle.form.specs.Trees.{Simple, Ty, leaf, built, list, range, context, Fields, no-fields, field, no-params, param}
 use Rattle.form.specs.Limits.{nameWidth}
 use Rattle.form.specs.Form.{numAt, countTys}
 use Rattle.order.specs.Order.{fixed}
-use Rattle.order.specs.Types.{reduce, reduce-fields, reduce-tys}
+use Rattle.order.specs.Types.{reduce, reduce-fields}
 use Rattle.order.specs.Size.{size, size-fields}
 use Rattle.order.proofs.Size.{size-reduce}
 use Rattle.types.specs.At.{typeAt, fieldsAt, Sig, sig, cons, funOf, size-sig, sigAt, Ok, sizeAt}
-use Rattle.types.proofs.Reading.{rest, is-ok, ok-got, cmd, cmd-is, some-byte, some-level, is-list, is-range, is-ctx, is-fun, t-good, size-fun, size-cons}
+use Rattle.types.proofs.Reading.{rest, is-ok, ok-got, cmd-is, some-byte, some-level, is-list, is-range, is-ctx, is-fun, t-good, size-fun, size-cons}
 use Rattle.types.proofs.Entries.{Here, here, gone, size-entry, size-got}
 use Rattle.bounds.specs.Writing.{reduceSig, Measured}
 use Rattle.bounds.proofs.Trees.{size-field, size-none, size-result, countSig, sig-count}

@@ -1,12 +1,12 @@
 -- The loops that write the entries of two contexts, their names taken in step.
 -- Assumes nothing.
-use Prim.Native.Nat.{ℕ, zero, suc, _+_, _-_, _<_, _≤_}
+use Prim.Native.Nat.{ℕ, suc, _+_, _-_, _<_, _≤_}
 use mathlib.Core.Path.{_≡_, refl, sym, ap, ap₂, _∙_}
 use mathlib.Core.Bool.{Bool, true, false, cond}
-use mathlib.Core.Option.{Option, none, some}
-use mathlib.Core.List.{List, [], _∷_, _++_, append-assoc, append-nil}
+use mathlib.Core.Option.{Option, some}
+use mathlib.Core.List.{List, [], _++_, append-assoc, append-nil}
 use native.Mathlib.Omega.{arith}
-use lib.ListN.{length, take, drop, length-append}
+use lib.ListN.{length, drop, length-append}
 use lib.Dec.{ltb}
 use borrow.Author.Tests.{ltb-true, ltb-false}
 use borrow.Rule.Slice.PartMut.{putMid}
@@ -23,7 +23,7 @@ use Rattle.order.proofs.Sentences.{sup-fields-first, sup-fields-second, sub-fie
 use Rattle.types.specs.At.{typeAt, fieldsAt, sizeAt}
 use Rattle.types.proofs.Reading.{rest, t-good}
 use Rattle.types.proofs.Entries.{Here, here, gone, ahead, next-is, size-entry, size-got}
-use Rattle.bounds.specs.Writing.{answer, answerFields, ofTypes, ofFields, mostAnswer, Ready, Wrote, Combined, Counted, over}
+use Rattle.bounds.specs.Writing.{answer, answerFields, ofTypes, ofFields, mostAnswer, Ready, Combined, Counted, over}
 use Rattle.bounds.proofs.Laws.{onto-nil, back, back-length, length-rest, over-onto, length-over}
 use Rattle.bounds.proofs.Trees.{enc-field, enc-none, size-field, size-none, count-field, count-none, count-size, fields-none, fields-both, self}
 use Rattle.bounds.proofs.Building.{both, Both, ready, is-combined, combined-is, is-counted, behind}

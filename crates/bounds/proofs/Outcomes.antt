@@ -1,10 +1,9 @@
 -- The ways in which a call that builds ends, for any definition.
 -- Assumes nothing.
 use Prim.Native.Nat.{ℕ, _≤_, _<_}
-use mathlib.Core.Path.{_≡_, refl, sym, ap, _∙_}
+use mathlib.Core.Path.{_≡_, refl, ap, _∙_}
 use mathlib.Core.List.{List}
 use lib.ListN.{length}
-use lib.Dec.{leb}
 use borrow.Author.Tests.{le-leb, lt-leb}
 use Rattle.form.specs.Outcome.{Outcome, done, refused, _>>=_, pick, fits}
 use Rattle.form.specs.Answers.{onto, leaves, lengthOf, Built}

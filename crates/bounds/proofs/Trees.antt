@@ -1,29 +1,28 @@
 -- The bytes of trees, and the common supertype and subtype by the command bytes, said once over the direction.
 -- Assumes nothing.
 use Prim.Native.Nat.{ℕ, zero, suc, _+_, _/_, _%_, _<_, _≤_}
-use mathlib.Core.Path.{_≡_, refl, sym, ap, ap₂, _∙_}
-use mathlib.Core.Bool.{Bool, true, false, cond, not, _&&_, _||_}
-use mathlib.Core.Option.{Option, none, some}
+use mathlib.Core.Path.{_≡_, refl, sym, ap, _∙_}
+use mathlib.Core.Bool.{Bool, true, false, cond}
+use mathlib.Core.Option.{some}
 use mathlib.Core.List.{List, [], _∷_, _++_, append-assoc}
 use native.Mathlib.Omega.{arith}
 use lib.ListN.{length, length-append, drop}
-use lib.Dec.{eqb}
-use borrow.Author.Tests.{eq-eqb, ne-eqb}
+use borrow.Author.Tests.{ne-eqb}
 use Rattle.form.specs.Trees.{Simple, any, null, code, decode, Ty, leaf, built, Built, list, range, context, function, Fields, no-fields, field, Tys, no-params, param}
 use Rattle.form.specs.Limits.{nameWidth}
 use Rattle.form.specs.Form.{bytes, enc, encFields, encTys, countFields, countTys}
-use Rattle.order.specs.Order.{Dir, up, down, flip, pick, top, bottom, fixed, flat, flat-join, flat-meet, same}
-use Rattle.order.specs.Types.{same-count, reduce, reduce-fields, reduce-tys, bound, bounds, common, merge, sup, sub}
+use Rattle.order.specs.Order.{Dir, up, down, flip, top, bottom, fixed, same}
+use Rattle.order.specs.Types.{same-count, reduce, reduce-tys, bound, bounds, sup, sub}
 use Rattle.order.specs.Ascending.{Asc, AscFields}
-use Rattle.order.specs.Size.{size, size-fields, size-tys}
+use Rattle.order.specs.Size.{size, size-fields}
 use Rattle.form.proofs.ExactTypes.{decode-code}
 use Rattle.order.proofs.Simple.{fixed-laws, same-eq}
-use Rattle.order.proofs.Sentences.{sup-simple, sup-simple-built, sup-built-simple, sub-simple, sub-simple-built, sub-built-simple, sup-functions, sub-functions, sup-functions-other, sub-functions-other, sup-fields-none, sup-fields-first, sup-fields-second, sup-fields-both, sub-fields-none, sub-fields-first, sub-fields-second, sub-fields-both}
-use Rattle.order.proofs.Laws.{le-refl, mutual-reduce, sup-left, sup-least, sup-reduced, sup-comm, sub-left, sub-greatest, sub-reduced}
+use Rattle.order.proofs.Sentences.{sup-simple-built, sup-built-simple, sub-simple-built, sub-built-simple, sup-functions, sub-functions, sup-functions-other, sub-functions-other, sup-fields-both, sub-fields-both}
+use Rattle.order.proofs.Laws.{le-refl, mutual-reduce, sup-left, sup-least, sup-reduced, sub-left, sub-greatest, sub-reduced}
 use Rattle.order.proofs.Answers.{asc-sup, asc-sub}
-use Rattle.order.proofs.Size.{length-enc, length-tys, size-positive}
+use Rattle.order.proofs.Size.{length-enc, length-tys}
 use Rattle.types.specs.At.{Sig, sig, cons, funOf, size-sig, sigAt}
-use Rattle.types.proofs.Reading.{cmd, Then, parameter, result}
+use Rattle.types.proofs.Reading.{cmd, parameter, result}
 use Rattle.bounds.specs.Writing.{answer, answerFields, answerSig, encSig}
 
 -- ---- the bytes of trees

@@ -8,8 +8,7 @@ use Rattle.form.specs.Outcome.{Outcome, _>>=_, _>>_, check, fits}
 use Rattle.form.specs.Trees.{Ty}
 use Rattle.form.specs.Form.{enc}
 use Rattle.form.specs.Read.{readType}
-use Rattle.order.specs.Order.{fixed}
-use Rattle.order.specs.Types.{reduce, sup, sub}
+use Rattle.order.specs.Document.{reducedForm, supertype, subtype}
 
 -- of two types; 14: the scratch is shorter than both together
 abbrev pub combined : (Ty → Ty → Ty) → List ℕ → List ℕ → ℕ → ℕ → Outcome (List ℕ)
@@ -20,12 +19,12 @@ combined answer a b scratch room = do
   fits room (enc (answer s t))
 
 abbrev pub commonSupertype : List ℕ → List ℕ → ℕ → ℕ → Outcome (List ℕ)
-commonSupertype a b scratch room = combined (sup fixed) a b scratch room
+commonSupertype a b scratch room = combined supertype a b scratch room
 
 abbrev pub commonSubtype : List ℕ → List ℕ → ℕ → ℕ → Outcome (List ℕ)
-commonSubtype a b scratch room = combined (sub fixed) a b scratch room
+commonSubtype a b scratch room = combined subtype a b scratch room
 
 abbrev pub reducedCall : List ℕ → ℕ → Outcome (List ℕ)
 reducedCall t room = do
   s ← readType t
-  fits room (enc (reduce fixed s))
+  fits room (enc (reducedForm s))

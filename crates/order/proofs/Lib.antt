@@ -11,3 +11,6 @@ pub mod Holds
 pub mod WellFormed
 pub mod Dmn
 pub mod Theorems
+pub mod Least
+pub mod LeastSize
+pub mod ValueTheorems

@@ -37,13 +37,13 @@ mutual
   asc-tys (param t ts) w = (asc-of t (w .0), asc-tys ts (w .1))
 
 -- every name and every parameter count fits its place
-abbrev Fits : Ty → Type 0
+abbrev pub Fits : Ty → Type 0
 Fits t = Holds (λ n. n < nameEnd) (λ c. c < 256) t
 
 mutual
   unfolding Wf Holds
 
-  fits-of : (t : Ty) → Wf t → Fits t
+  pub fits-of : (t : Ty) → Wf t → Fits t
   fits-of (leaf s) w = tt
   fits-of (built x) w = fits-built x w
 

@@ -3,5 +3,7 @@ pub mod Types
 pub mod Ascending
 pub mod Size
 pub mod Document
+pub mod Values
+pub mod Inferred
 pub mod Dmn
 pub mod Examples

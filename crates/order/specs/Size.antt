@@ -1,7 +1,7 @@
--- The number of bytes of a type, counted on the tree.
+-- The number of bytes of a type and of a value, counted on the tree.
 -- Assumes nothing.
 use Prim.Native.Nat.{ℕ, _+_}
-use Rattle.form.specs.Trees.{Ty, leaf, built, Built, list, range, context, function, Fields, no-fields, field, Tys, no-params, param}
+use Rattle.form.specs.Trees.{Ty, leaf, built, Built, list, range, context, function, Fields, no-fields, field, Tys, no-params, param, Leaf, l-null, l-boolean, l-number, l-string, l-temporal, Params, no-parameters, parameter, Val, v-leaf, v-range, v-list, v-context, v-function, v-built-in, v-type, v-irrelevant, Vals, no-items, item, Entries, no-entries, entry}
 use Rattle.form.specs.Limits.{nameWidth}
 
 unfoldable mutual
@@ -22,3 +22,33 @@ unfoldable mutual
   pub size-tys : Tys → ℕ
   size-tys no-params = 0
   size-tys (param t ps) = size t + size-tys ps
+
+abbrev pub size-leaf : Leaf → ℕ
+size-leaf (l-null t) = 2
+size-leaf (l-boolean b) = 2
+size-leaf (l-number k) = 9
+size-leaf (l-string n) = 1 + nameWidth
+size-leaf (l-temporal t k) = 9
+
+unfoldable pub size-params : Params → ℕ
+size-params no-parameters = 0
+size-params (parameter m t ps) = nameWidth + size t + size-params ps
+
+unfoldable mutual
+  pub size-val : Val → ℕ
+  size-val (v-leaf l) = size-leaf l
+  size-val (v-range i j v w) = 3 + size-val v + size-val w
+  size-val (v-list vs) = 3 + size-vals vs
+  size-val (v-context es) = 3 + size-entries es
+  size-val (v-function ps b r) = 4 + size r + size-params ps
+  size-val (v-built-in n) = 2
+  size-val (v-type t) = 1 + size t
+  size-val v-irrelevant = 1
+
+  pub size-vals : Vals → ℕ
+  size-vals no-items = 0
+  size-vals (item v vs) = size-val v + size-vals vs
+
+  pub size-entries : Entries → ℕ
+  size-entries no-entries = 0
+  size-entries (entry n v es) = nameWidth + size-val v + size-entries es
