@@ -1,10 +1,22 @@
-/* Reads lines of a file, each `value` or `type` and a record in hexadecimal, and says of each whether it is accepted.
- * A line that is no such line is said to be so, and the next one is read. */
+/* Reads lines of a file and answers each:
+ *   value V           is V an accepted value?
+ *   type T            is T an accepted type?
+ *   conforms A / B    does the type A conform to the type B?
+ *   supertype A / B   the common supertype of two types
+ * Records are in hexadecimal. A line that is none of these is said to be so, and the next one is read. */
 #include "feel.h"
 #include <stdio.h>
 #include <string.h>
 
-static uint8_t record[16400];
+#define MOST 16400 /* more than a record may have, so that a longer one is refused and not cut */
+
+struct record {
+    uint8_t bytes[MOST];
+    size_t len;
+};
+
+static struct record a, b;
+static uint8_t scratch[2 * MOST], out[2 * MOST];
 
 static int digit(char c)
 {
@@ -13,27 +25,79 @@ static int digit(char c)
     return -1;
 }
 
-/* The bytes that the text stands for, or -1. Blanks between bytes are passed over. */
-static long bytes(const char *text)
+/* Reads bytes up to the end of the line or a `/`. Answers where the text goes on, or NULL. Blanks between bytes are passed over. */
+static const char *read_record(const char *text, struct record *r)
 {
-    size_t n = 0;
-    while (*text && *text != '\n') {
+    r->len = 0;
+    while (*text && *text != '\n' && *text != '/') {
         if (*text == ' ') {
             text++;
             continue;
         }
         int high = digit(text[0]);
         int low = high < 0 ? -1 : digit(text[1]);
-        if (low < 0 || n == sizeof record) return -1;
-        record[n++] = (uint8_t)(high * 16 + low);
+        if (low < 0 || r->len == MOST) return NULL;
+        r->bytes[r->len++] = (uint8_t)(high * 16 + low);
         text += 2;
     }
-    return (long)n;
+    return text;
+}
+
+static int at_end(const char *text)
+{
+    return text && (*text == 0 || *text == '\n');
+}
+
+static int read_one(const char *text)
+{
+    return at_end(read_record(text, &a));
+}
+
+static int read_two(const char *text)
+{
+    text = read_record(text, &a);
+    return text && *text == '/' && at_end(read_record(text + 1, &b));
+}
+
+static int refused(uint64_t answer)
+{
+    if (answer >> 32 == 0) return 0;
+    printf("refused, %u\n", (unsigned)answer);
+    return 1;
+}
+
+static void answer_line(const char *line)
+{
+    uint64_t answer;
+    if (strncmp(line, "value ", 6) == 0 && read_one(line + 6)) {
+        printf("value of %zu bytes: ", a.len);
+        answer = feel_check_value(a.bytes, a.len);
+        if (!refused(answer)) printf("accepted, level %u\n", (unsigned)answer);
+    } else if (strncmp(line, "type ", 5) == 0 && read_one(line + 5)) {
+        printf("type of %zu bytes: ", a.len);
+        answer = feel_check_type(a.bytes, a.len);
+        if (!refused(answer)) printf("accepted, level %u\n", (unsigned)answer);
+    } else if (strncmp(line, "conforms ", 9) == 0 && read_two(line + 9)) {
+        printf("type of %zu bytes to type of %zu bytes: ", a.len, b.len);
+        answer = feel_type_is_conformant(a.bytes, a.len, b.bytes, b.len);
+        if (!refused(answer)) printf(answer ? "conforms\n" : "does not conform\n");
+    } else if (strncmp(line, "supertype ", 10) == 0 && read_two(line + 10)) {
+        printf("supertype of %zu and %zu bytes: ", a.len, b.len);
+        answer = feel_type_common_supertype(a.bytes, a.len, b.bytes, b.len, scratch, sizeof scratch, out, sizeof out);
+        if (!refused(answer)) {
+            for (uint64_t i = 0; i < answer; i++)
+                printf(i ? " %02X" : "%02X", out[i]);
+            printf("\n");
+        }
+    } else {
+        printf("no such line: %s", line);
+        if (!strchr(line, '\n')) printf("\n");
+    }
 }
 
 int main(int argc, char **argv)
 {
-    static char line[50000];
+    static char line[120000];
     if (argc != 2) {
         fprintf(stderr, "usage: check FILE\n");
         return 2;
@@ -43,20 +107,8 @@ int main(int argc, char **argv)
         perror(argv[1]);
         return 2;
     }
-    while (fgets(line, sizeof line, file)) {
-        int is_value = strncmp(line, "value ", 6) == 0;
-        int is_type = strncmp(line, "type ", 5) == 0;
-        long n = is_value ? bytes(line + 6) : is_type ? bytes(line + 5) : -1;
-        if (n < 0) {
-            printf("no record: %s", line);
-            continue;
-        }
-        uint64_t answer = is_value ? feel_check_value(record, (size_t)n) : feel_check_type(record, (size_t)n);
-        if (answer >> 32 == 0)
-            printf("%s of %ld bytes: accepted, level %u\n", is_value ? "value" : "type", n, (unsigned)answer);
-        else
-            printf("%s of %ld bytes: refused, %u\n", is_value ? "value" : "type", n, (unsigned)answer);
-    }
+    while (fgets(line, sizeof line, file))
+        answer_line(line);
     fclose(file);
     return 0;
 }

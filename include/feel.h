@@ -8,7 +8,7 @@
  *
  * WHAT A CALLER OWES AT THE BOUNDARY. A slice is a pointer and a length in elements. The pointer is
  * valid for that many elements, also where the length is 0 (it is then not read, and must not be null).
- * Nothing else changes the bytes during the call. An output overlaps no other argument. Nothing has to
+ * Nothing else changes the bytes during the call. Scratch and output overlap no other argument. Nothing has to
  * be checked beforehand: every length and every content has an answer or a refusal.
  *
  * REFUSALS. The first one that applies is given, and the output is then untouched. Arguments are

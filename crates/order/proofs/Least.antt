@@ -20,6 +20,12 @@ use Rattle.order.proofs.Answers.{asc-reduce, asc-sup}
 use Rattle.order.proofs.WellFormed.{asc-of}
 use Rattle.order.proofs.Laws.{le-sup, le-reduce-left, le-refl, mutual-reduce}
 
+-- the names of a parameter's type ascend
+pub asc-params : (ps : Params) → WfParams ps → AscTys (types-of ps)
+unfolding WfParams types-of Asc
+asc-params no-parameters h = tt
+asc-params (parameter m t ps) h = (asc-of t (h .1 .0), asc-params ps (h .1 .1))
+
 module _ (O : Order) where
   -- a built type against a type, as a built value
   le-range : (a t : Ty) → le O (built (range a)) t ≡ to-range O t (λ u. le O a u)
@@ -99,11 +105,6 @@ module _ (O : Order) where
     entries-reduced (entry n v es) = ap₂ (field n) (least-reduced v) (entries-reduced es)
 
   -- the names of a least type ascend
-  asc-params : (ps : Params) → WfParams ps → AscTys (types-of ps)
-  unfolding WfParams types-of Asc
-  asc-params no-parameters h = tt
-  asc-params (parameter m t ps) h = (asc-of t (h .1 .0), asc-params ps (h .1 .1))
-
   pub asc-null : Asc (leaf null)
   unfolding Asc
   asc-null = tt

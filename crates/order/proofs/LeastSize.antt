@@ -60,29 +60,29 @@ mutual
       omega (arith, length-encV v, length-entries es, length-append (encV v) (encEntries es), length-front nameWidth m (encV v ++ encEntries es))
 
 -- ---- lengths
-size-types-of : (ps : Params) → size-tys (types-of ps) ≤ size-params ps
+pub size-types-of : (ps : Params) → size-tys (types-of ps) ≤ size-params ps
 unfolding size types-of size-params
 size-types-of no-parameters = omega arith
 size-types-of (parameter n t ps) = omega (arith, size-types-of ps)
 
-size-one : (l : Leaf) → 1 ≤ size-leaf l
+pub size-one : (l : Leaf) → 1 ≤ size-leaf l
 size-one (l-null t) = omega arith
 size-one (l-boolean b) = omega arith
 size-one (l-number z) = omega arith
 size-one (l-string n) = omega arith
 size-one (l-temporal k z) = omega arith
 
-level-types-of : (ps : Params) → levelTys (types-of ps) ≤ levelParams ps
+pub level-types-of : (ps : Params) → levelTys (types-of ps) ≤ levelParams ps
 unfolding level types-of levelParams
 level-types-of no-parameters = omega arith
 level-types-of (parameter n t ps) = omega (arith, level-types-of ps)
 
-count-types-of : (ps : Params) → countTys (types-of ps) ≡ countParams ps
+pub count-types-of : (ps : Params) → countTys (types-of ps) ≡ countParams ps
 unfolding countTys types-of countParams
 count-types-of no-parameters = refl
 count-types-of (parameter n t ps) = omega (arith, count-types-of ps)
 
-fits-params : (ps : Params) → WfParams ps → HoldsTys (λ n. n < nameEnd) (λ c. c < 256) (types-of ps)
+pub fits-params : (ps : Params) → WfParams ps → HoldsTys (λ n. n < nameEnd) (λ c. c < 256) (types-of ps)
 unfolding WfParams types-of Holds
 fits-params no-parameters h = tt
 fits-params (parameter m t ps) h = (fits-of t (h .1 .0), fits-params ps (h .1 .1))

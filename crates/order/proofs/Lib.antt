@@ -9,8 +9,10 @@ pub mod Size
 pub mod Equal
 pub mod Holds
 pub mod WellFormed
+pub mod Reduced
 pub mod Dmn
 pub mod Theorems
 pub mod Least
 pub mod LeastSize
+pub mod TypeOf
 pub mod ValueTheorems
