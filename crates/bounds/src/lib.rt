@@ -23,10 +23,10 @@ const ANY: u8 = 0x20;
 const NULL: u8 = 0x29;
 
 // How many bytes of each were read, and how many written.
-struct Ends {
-    first: usize,
-    second: usize,
-    wrote: usize,
+pub struct Ends {
+    pub first: usize,
+    pub second: usize,
+    pub wrote: usize,
 }
 
 // The same for a run of entries, with how many were written.
@@ -59,7 +59,7 @@ fn high(n: usize) -> u8
 }
 
 // `src` over the front of the output.
-fn copy(src: &[u8], out: &mut [u8])
+pub fn copy(src: &[u8], out: &mut [u8])
     requires { ⌜ length (now src) ≤ length (now out) ⌝ }
     ensures { λ _. ⌜ now (out .exit) ≡ onto (now (src .entry)) (now (out .entry)) ⌝ }
 {
@@ -71,7 +71,7 @@ fn copy(src: &[u8], out: &mut [u8])
 }
 
 // The name that stands at `at`, written at `to`.
-fn copy_name(s: &[u8], at: usize, out: &mut [u8], to: usize)
+pub fn copy_name(s: &[u8], at: usize, out: &mut [u8], to: usize)
     requires { ⌜ at + nameWidth ≤ length (now s) ⌝ }
     requires { ⌜ to + nameWidth ≤ length (now out) ⌝ }
     ensures { λ _. ⌜ now (out .exit) ≡ over to (bytes nameWidth (numAt nameWidth at (now (s .entry)))) (now (out .entry)) ⌝ }
@@ -83,7 +83,7 @@ fn copy_name(s: &[u8], at: usize, out: &mut [u8], to: usize)
 // ---- supertype and subtype: each calls the other for the parameters of functions
 
 // Common supertype of any two types.
-fn write_super(a: &[u8], b: &[u8], out: &mut [u8], left: usize) -> Ends
+pub fn write_super(a: &[u8], b: &[u8], out: &mut [u8], left: usize) -> Ends
     requires { ⌜ Ready (ofTypes up) (typeAt left (now a)) (typeAt left (now b)) (length (now out)) ⌝ }
     ensures { λ r. ⌜ Combined (ofTypes up) (typeAt left (now (a .entry))) (typeAt left (now (b .entry))) (now (out .entry)) (now (out .exit)) (r .first) (r .second) (r .wrote) ⌝ }
 {

@@ -4,6 +4,8 @@ ghost use lib.ListN.{length};
 ghost use Rattle.form.specs.Answers.{checked, verdict, written};
 ghost use Rattle.form.specs.Read.{checkValue, checkType};
 ghost use Rattle.types.specs.Calls.{isConformant, instanceOf, isSimpleBuiltInType, isNull};
+ghost use Rattle.values.specs.Calls as values;
+ghost use Rattle.infer.specs.Calls.{leastTypeCall, typeOfCall};
 ghost use Rattle.bounds.specs.Calls.{commonSupertype, commonSubtype, reducedCall};
 ghost use Rattle.feel.specs.Numbers.{numbered, judged, Exported};
 use form::Checked;
@@ -124,4 +126,28 @@ pub extern "C" fn feel_type_reduced(t: &[u8], out: &mut [u8]) -> u64
     ensures { λ r. ⌜ Exported (reducedCall (now (t .entry)) (length (now (out .entry)))) (now (out .entry)) (now (out .exit)) r ⌝ }
 {
     written_number(bounds::reduced(t, out))
+}
+
+// Does the value conform to the type?
+#[no_mangle]
+pub extern "C" fn feel_value_is_conformant(v: &[u8], t: &[u8]) -> u64
+    ensures { λ r. ⌜ r ≡ judged (values.isConformant (now (v .entry)) (now (t .entry))) ⌝ }
+{
+    verdict_number(values::is_conformant(v, t))
+}
+
+// The least type of a data value.
+#[no_mangle]
+pub extern "C" fn feel_value_least_type(v: &[u8], scratch: &mut [u8], out: &mut [u8]) -> u64
+    ensures { λ r. ⌜ Exported (leastTypeCall (now (v .entry)) (length (now (scratch .entry))) (length (now (out .entry)))) (now (out .entry)) (now (out .exit)) r ⌝ }
+{
+    written_number(infer::least_type(v, scratch, out))
+}
+
+// The type of a value as the Rust infers it.
+#[no_mangle]
+pub extern "C" fn feel_value_type_of(v: &[u8], scratch: &mut [u8], out: &mut [u8]) -> u64
+    ensures { λ r. ⌜ Exported (typeOfCall (now (v .entry)) (length (now (scratch .entry))) (length (now (out .entry)))) (now (out .entry)) (now (out .exit)) r ⌝ }
+{
+    written_number(infer::type_of(v, scratch, out))
 }

@@ -52,7 +52,7 @@ pub fn peek(s: &[u8], at: usize, i: usize, n: usize) -> usize
 }
 
 // i and j bytes in front of what was compared.
-fn grow(w: Conform, i: usize, j: usize, p: usize, q: usize) -> Conform
+pub fn grow(w: Conform, i: usize, j: usize, p: usize, q: usize) -> Conform
     requires { ⌜ ((x y : ℕ) → w ≡ Conform.Yes x y → (x + i ≤ p) × (y + j ≤ q)) ⌝ }
     ensures { λ r. ⌜ r ≡ grown i j w ⌝ }
 {
@@ -63,7 +63,7 @@ fn grow(w: Conform, i: usize, j: usize, p: usize, q: usize) -> Conform
 }
 
 // Whether the type at the front of `a` conforms to the one at the front of `b`: one pass over both.
-fn conforms(a: &[u8], b: &[u8], left: usize) -> Conform
+pub fn conforms(a: &[u8], b: &[u8], left: usize) -> Conform
     requires { ⌜ Ok (typeAt left (now a)) ⌝ }
     requires { ⌜ Ok (typeAt left (now b)) ⌝ }
     ensures { λ r. ⌜ r ≡ conformOf (typeAt left (now (a .entry))) (typeAt left (now (b .entry))) ⌝ }

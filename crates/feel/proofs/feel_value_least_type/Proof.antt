@@ -1,0 +1,27 @@
+-- `feel::feel_value_least_type` meets its contract.
+-- Assumes nothing.
+use borrow.Author.Needs.{needs}
+use Rattle.feel.proofs.feel_value_least_type.Statement.{statement}
+use Rattle.feel.proofs.feel_value_least_type.Tie as tie
+use mathlib.Core.Path.{ap, _∙_}
+use Rattle.feel.specs.Numbers.{numbered}
+
+least-type-requires : tie.Need-least-type-requires
+least-type-requires c κs = search needs
+
+written-number-requires : tie.Need-written-number-requires
+written-number-requires c κs = search needs
+
+same-length : tie.Need-same-length
+same-length c = search needs
+
+same-length-2 : tie.Need-same-length-2
+same-length-2 c = search needs
+
+returns : tie.Need-returns
+returns c = record { answer = c .written-number .ensures ∙ ap numbered (c .before .before .before .before .before .least-type .ensures .answer); output = c .before .before .before .before .before .least-type .ensures .output }
+
+pub feel-value-least-type-spec : {M : Type 1} → statement M
+feel-value-least-type-spec =
+    tie.close
+    (tie.spec least-type-requires written-number-requires same-length same-length-2 returns)

@@ -1,0 +1,210 @@
+-- The loop that writes the entries of a context: what is left of them, and what stands at the front of the output.
+-- Assumes nothing.
+use Prim.Native.Nat.{ℕ, suc, _+_, _-_, _<_, _≤_}
+use mathlib.Core.Path.{_≡_, refl, sym, ap, subst, _∙_}
+use mathlib.Core.Bool.{Bool, true}
+use mathlib.Core.Option.{some}
+use mathlib.Core.List.{List, [], _++_, append-assoc, append-nil}
+use native.Mathlib.Omega.{arith}
+use lib.ListN.{length, drop, length-append, length-drop}
+use lib.Seq.{drop-drop}
+use borrow.Rule.Slice.PartMut.{putMid, same-len-mid}
+use Rattle.form.specs.Limits.{nameWidth, mostBytes}
+use Rattle.form.specs.Trees.{Val, Entries, no-entries, entry}
+use Rattle.form.specs.Form.{bytes, numAt, Bytes, encFields, WfV}
+use Rattle.form.proofs.Exact.{bytes-drop}
+use Rattle.form.proofs.Numbers.{length-bytes}
+use Rattle.order.specs.Order.{fixed}
+use Rattle.order.specs.Size.{size-val, size-entries}
+use Rattle.order.specs.Values.{hold-data}
+use Rattle.order.specs.Inferred.{isData}
+use Rattle.order.proofs.Size.{length-enc}
+use Rattle.types.proofs.Reading.{rest}
+use Rattle.types.proofs.Entries.{step}
+use Rattle.values.specs.At.{valueAt, entriesAt}
+use Rattle.values.proofs.Reading.{v-inside, Entry, next-entry, no-entry}
+use Rattle.bounds.specs.Writing.{over}
+use Rattle.bounds.proofs.Laws.{length-rest, length-over}
+use Rattle.bounds.proofs.Trees.{enc-field, enc-none}
+use Rattle.infer.specs.Typing.{typeBy, fieldsBy, FitVal, FitEntries, Starts, Wrote, Typed, typeText, fieldsText}
+use Rattle.infer.proofs.Trees.{fine, fields-none, fields-entry, data-entry}
+use Rattle.infer.proofs.Writing.{starts, lent-starts, over-starts, encoded, open-fit, fit, typed, typed-is, behind}
+
+pub record EntriesInv (m : Bool) (l : ℕ) (v : List ℕ) (n : ℕ) (old spare₀ out spare : List ℕ) (at to i : ℕ) : Type 0 where
+  -- all, what is left of them, and what was written
+  pub whole : Entries
+  pub left : Entries
+  pub name : ℕ
+  pub done : List ℕ
+  pub read-all : entriesAt l n 0 v ≡ some whole
+  pub below : i ≤ n
+  pub in-v : at ≤ length v
+  pub read : entriesAt l (n - i) name (drop at v) ≡ some left
+  pub sized : at + size-entries left ≡ size-entries whole
+  pub text : done ++ fieldsText m left ≡ fieldsText m whole
+  pub long : length done ≡ to
+  pub low : to ≤ at
+  pub apt : m ≡ true → hold-data fixed left ≡ true
+  pub room : size-entries whole ≤ length old
+  pub spared : size-entries whole ≤ length spare₀
+  pub small : size-entries whole ≤ mostBytes
+  pub out-len : length out ≡ length old
+  pub spare-len : length spare ≡ length spare₀
+  pub state : Starts done out
+
+pub entries-start : (m : Bool) (l : ℕ) (v : List ℕ) (n : ℕ) (old spare₀ : List ℕ) → FitEntries m (entriesAt l n 0 v) (length old) (length spare₀) → EntriesInv m l v n old spare₀ old spare₀ 0 0 0
+entries-start m l v n old spare₀ p =
+    let K = open-fit (entriesAt l n 0 v) (length old) (length spare₀) p in
+    let en : n - 0 ≡ n = omega arith in
+    record {
+      whole = K .x;
+      left = K .x;
+      name = 0;
+      done = [];
+      read-all = K .read;
+      below = omega arith;
+      in-v = omega arith;
+      read = ap (λ (z : ℕ). entriesAt l z 0 v) en ∙ K .read;
+      sized = omega arith;
+      text = refl;
+      long = refl;
+      low = omega arith;
+      apt = K .fits .apt;
+      room = K .fits .roomy;
+      spared = K .fits .spared;
+      small = K .fits .small;
+      out-len = refl;
+      spare-len = refl;
+      state = starts [] old old refl;
+    }
+
+-- the entry that stands at `at`
+pub record Here (m : Bool) (l n at : ℕ) (s : List ℕ) (es : Entries) : Type 0 where
+  pub name : ℕ
+  pub v : Val
+  pub more : Entries
+  pub two : at + nameWidth ≤ length s
+  pub named : name ≡ numAt nameWidth at s
+  pub first : valueAt l (behind (at + nameWidth) s) ≡ some v
+  pub well : WfV v
+  pub fits : at + nameWidth + size-val v ≤ length s
+  pub second : entriesAt l n (suc name) (drop (at + nameWidth + size-val v) s) ≡ some more
+  pub sized : size-entries es ≡ nameWidth + size-val v + size-entries more
+  pub text : fieldsText m es ≡ bytes nameWidth name ++ (typeText m v ++ fieldsText m more)
+  pub apt : (m ≡ true → hold-data fixed es ≡ true) → (m ≡ true → isData v ≡ true) × (m ≡ true → hold-data fixed more ≡ true)
+
+size-entry : (n : ℕ) (v : Val) (es : Entries) → size-entries (entry n v es) ≡ nameWidth + size-val v + size-entries es
+unfolding size-entries
+size-entry n v es = refl
+
+size-no-entries : size-entries no-entries ≡ 0
+unfolding size-entries
+size-no-entries = refl
+
+here : (m : Bool) (l i n at k : ℕ) (s : List ℕ) (es : Entries) → Bytes s → i < n → at ≤ length s → entriesAt l (n - i) k (drop at s) ≡ some es → Here m l (n - (i + 1)) at s es
+here m l i n at k s es bs h in-s e = go (next-entry l (n - (i + 1)) k (drop at s) es (ap (λ (z : ℕ). entriesAt l z k (drop at s)) (sym (step i n h)) ∙ e))
+  where
+    go : Entry l (n - (i + 1)) k (drop at s) es → Here m l (n - (i + 1)) at s es
+    go E =
+        let d : drop nameWidth (drop at s) ≡ drop (at + nameWidth) s = drop-drop nameWidth at s in
+        let r : behind (at + nameWidth) s ≡ drop (at + nameWidth) s = rest s (at + nameWidth) in
+        let f : valueAt l (drop (at + nameWidth) s) ≡ some (E .v) = ap (valueAt l) (sym d) ∙ E .first in
+        let two : at + nameWidth ≤ length s = omega (arith, simp length-drop at (E .two)) in
+        record {
+          name = E .name;
+          v = E .v;
+          more = E .more;
+          two = two;
+          named = E .named;
+          first = ap (valueAt l) r ∙ f;
+          well = encoded l (drop (at + nameWidth) s) (E .v) (bytes-drop (at + nameWidth) s bs) f .well;
+          fits = omega (arith, two, simp length-drop at (v-inside l (drop (at + nameWidth) s) (E .v) f));
+          second = ap (entriesAt l (n - (i + 1)) (suc (E .name))) (sym (drop-drop (size-val (E .v)) (at + nameWidth) s) ∙ ap (drop (size-val (E .v))) (sym d)) ∙ E .second;
+          sized = ap size-entries (E .is) ∙ size-entry (E .name) (E .v) (E .more);
+          text = ap (fieldsText m) (E .is) ∙ ap encFields (fields-entry m (E .name) (E .v) (E .more)) ∙ enc-field (E .name) (typeBy m (E .v)) (fieldsBy m (E .more));
+          apt = λ d. data-entry m (E .name) (E .v) (E .more) (λ q. ap (hold-data fixed) (sym (E .is)) ∙ d q);
+        }
+
+module _ {m : Bool} {l : ℕ} {s : List ℕ} {n : ℕ} {old spare₀ out spare : List ℕ} {at to i : ℕ} (Q : EntriesInv m l s n old spare₀ out spare at to i) (bs : Bytes s) where
+  module _ (h : i < n) where
+    abbrev H : Here m l (n - (i + 1)) at s (Q .left)
+    H = here m l i n at (Q .name) s (Q .left) bs h (Q .in-v) (Q .read)
+
+    pub entry-name : at + nameWidth ≤ length s
+    entry-name = H .two
+
+    pub entry-room : to + nameWidth ≤ length out
+    entry-room = omega (arith, Q .room, Q .out-len, Q .low, Q .sized, H .sized)
+
+    pub entry-fits : (xs : List ℕ) → length xs ≡ length out → FitVal m (valueAt l (behind (at + nameWidth) s)) (length (behind (to + nameWidth) xs)) (length spare)
+    entry-fits xs e =
+        let a = H .apt (Q .apt) in
+        fit (valueAt l (behind (at + nameWidth) s)) (H .v) (length (behind (to + nameWidth) xs)) (length spare) (H .first)
+        (record {
+          well = H .well;
+          apt = a .0;
+          roomy = omega (arith, length-rest xs (to + nameWidth), Q .room, Q .out-len, Q .low, Q .sized, H .sized);
+          spared = omega (arith, Q .spared, Q .spare-len, Q .sized, H .sized);
+          small = omega (arith, Q .small, Q .sized, H .sized);
+        })
+
+    pub name-len : (xs : List ℕ) → xs ≡ over to (bytes nameWidth (numAt nameWidth at s)) out → length xs ≡ length out
+    name-len xs named = ap length named ∙ length-over to (bytes nameWidth (numAt nameWidth at s)) out (omega (arith, length-bytes nameWidth (numAt nameWidth at s), entry-room))
+
+    -- the name was copied, and the type written behind it
+    module _ (xs ys : List ℕ) (e w : ℕ) (named : xs ≡ over to (bytes nameWidth (numAt nameWidth at s)) out) (T : Typed size-val (typeText m) (valueAt l (behind (at + nameWidth) s)) (behind (to + nameWidth) xs) ys e w) where
+      abbrev W : Wrote size-val (typeText m) (H .v) (behind (to + nameWidth) xs) ys e w
+      W = typed-is (valueAt l (behind (at + nameWidth) s)) (H .v) (behind (to + nameWidth) xs) ys e w (H .first) T
+
+      pub entry-read : at + nameWidth + e ≤ length s
+      entry-read = omega (arith, H .fits, W .all)
+
+      short : w ≤ e
+      short = omega (arith, W .all, W .long, length-enc (typeBy m (H .v)), fine m (H .v) (H .well) (omega (arith, Q .small, Q .sized, H .sized)) .short)
+
+      pub entry-wrote : to + nameWidth + w ≤ length s
+      entry-wrote = omega (arith, short, Q .low, entry-read)
+
+      pub entry-next : (sp : List ℕ) → length sp ≡ length spare → EntriesInv m l s n old spare₀ (putMid (to + nameWidth) (length xs - (to + nameWidth)) xs ys) sp (at + nameWidth + e) (to + nameWidth + w) (i + 1)
+      entry-next sp k =
+          let name = bytes nameWidth (H .name) in
+          let p = Q .done ++ name in
+          let fs = over-starts (Q .done) name out to (Q .state) (Q .long) in
+          let nm : xs ≡ over to name out = named ∙ ap (λ (z : ℕ). over to (bytes nameWidth z) out) (sym (H .named)) in
+          let lp : length p ≡ to + nameWidth = omega (arith, length-append (Q .done) name, Q .long, length-bytes nameWidth (H .name)) in
+          let sx : Starts p xs = subst (λ (z : List ℕ). Starts p z) (sym nm) fs in
+          record {
+            whole = Q .whole;
+            left = H .more;
+            name = suc (H .name);
+            done = p ++ typeText m (H .v);
+            read-all = Q .read-all;
+            below = omega arith;
+            in-v = entry-read;
+            read = ap (λ (z : ℕ). entriesAt l (n - (i + 1)) (suc (H .name)) (drop (at + nameWidth + z) s)) (W .all) ∙ H .second;
+            sized = omega (arith, Q .sized, H .sized, W .all);
+            text = append-assoc p (typeText m (H .v)) (fieldsText m (H .more)) ∙ append-assoc (Q .done) name (typeText m (H .v) ++ fieldsText m (H .more)) ∙ ap (λ (z : List ℕ). Q .done ++ z) (sym (H .text)) ∙ Q .text;
+            long = omega (arith, length-append p (typeText m (H .v)), W .long);
+            low = omega (arith, short, Q .low);
+            apt = H .apt (Q .apt) .1;
+            room = Q .room;
+            spared = Q .spared;
+            small = Q .small;
+            out-len = same-len-mid (to + nameWidth) (length xs - (to + nameWidth)) xs ys (W .kept) ∙ name-len xs named ∙ Q .out-len;
+            spare-len = k ∙ Q .spare-len;
+            state = lent-starts p (typeText m (H .v)) xs ys (to + nameWidth) sx lp (W .out);
+          }
+
+  pub entries-done : n ≤ i → Typed size-entries (fieldsText m) (entriesAt l n 0 s) old out at to
+  entries-done h =
+      let z : n - i ≡ 0 = omega arith in
+      let e : Q .left ≡ no-entries = no-entry l (Q .name) (drop at s) (Q .left) (ap (λ (k : ℕ). entriesAt l k (Q .name) (drop at s)) (sym z) ∙ Q .read) in
+      let t : Q .done ≡ fieldsText m (Q .whole) =
+      sym (append-nil (Q .done)) ∙ ap (λ (k : List ℕ). Q .done ++ k) (sym (ap (fieldsText m) e ∙ ap encFields (fields-none m) ∙ enc-none)) ∙ Q .text in
+      typed (entriesAt l n 0 s) (Q .whole) old out at to (Q .read-all)
+      (record {
+        all = omega (arith, Q .sized, ap size-entries e, size-no-entries);
+        long = sym (Q .long) ∙ ap length t;
+        out = subst (λ (k : List ℕ). Starts k out) t (Q .state);
+        kept = Q .out-len;
+      })

@@ -1,0 +1,286 @@
+-- The loop that writes one type for all items: what is left of them, and the type so far at the front of the output.
+-- Assumes nothing.
+use Prim.Native.Nat.{ℕ, _+_, _-_, _<_, _≤_}
+use mathlib.Core.Path.{_≡_, refl, sym, ap, subst, _∙_}
+use mathlib.Core.Bool.{Bool, true}
+use mathlib.Core.Option.{some}
+use mathlib.Core.List.{List, [], _∷_}
+use native.Mathlib.Omega.{arith}
+use lib.ListN.{length, drop, set, length-drop, length-set}
+use lib.Seq.{drop-drop}
+use borrow.Rule.Slice.PartMut.{putMid, same-len-mid}
+use Rattle.form.specs.Limits.{mostBytes, valueLevels, typeLevels}
+use Rattle.form.specs.Trees.{null, Ty, leaf, Val, Vals, no-items, item}
+use Rattle.form.specs.Form.{Bytes, enc, level, levelV, Wf, WfV, WfVals}
+use Rattle.form.proofs.Exact.{bytes-drop}
+use Rattle.order.specs.Order.{fixed}
+use Rattle.order.specs.Size.{size, size-val, size-vals}
+use Rattle.order.specs.Values.{are-data}
+use Rattle.order.specs.Inferred.{isData}
+use Rattle.order.proofs.Size.{length-enc}
+use Rattle.types.specs.At.{typeAt}
+use Rattle.types.proofs.Reading.{rest}
+use Rattle.types.proofs.Entries.{step}
+use Rattle.values.specs.At.{valueAt, itemsAt}
+use Rattle.values.proofs.Reading.{v-inside, Item, next-item, no-item}
+use Rattle.bounds.proofs.Laws.{length-rest, onto-first}
+use Rattle.infer.specs.Typing.{typeBy, joined, taken, inner, FitVal, FitItems, Starts, Wrote, Typed, typeText, innerText, Sides, Joined}
+use Rattle.infer.proofs.Trees.{Fine, fine, Sound, sound, data-item}
+use Rattle.infer.proofs.Writing.{starts-onto, starts-read, lent-front, lent-back, encoded, Opened, open-fit, fit, typed, typed-is, sides, joined-is, behind}
+
+pub record ItemsInv (m equal : Bool) (l : ℕ) (v : List ℕ) (n : ℕ) (old spare₀ out spare : List ℕ) (at to i : ℕ) : Type 0 where
+  -- all, what is left of them, and the type so far
+  pub whole : Vals
+  pub left : Vals
+  pub t : Ty
+  pub read-all : itemsAt l n v ≡ some whole
+  pub below : i ≤ n
+  pub in-v : at ≤ length v
+  pub read : itemsAt l (n - i) (drop at v) ≡ some left
+  pub sized : at + size-vals left ≡ size-vals whole
+  pub type : taken m equal t left ≡ inner m equal whole
+  pub wf : Wf t
+  pub long : size t ≡ to
+  pub low : to ≤ at
+  pub levels : level t ≤ typeLevels
+  pub apt : m ≡ true → are-data fixed left ≡ true
+  pub room : size-vals whole + 1 ≤ length old
+  pub spared : size-vals whole + 1 ≤ length spare₀
+  pub small : size-vals whole + 1 ≤ mostBytes
+  pub out-len : length out ≡ length old
+  pub spare-len : length spare ≡ length spare₀
+  pub state : Starts (enc t) out
+
+size-item : (v : Val) (vs : Vals) → size-vals (item v vs) ≡ size-val v + size-vals vs
+unfolding size-vals
+size-item v vs = refl
+
+size-no-items : size-vals no-items ≡ 0
+unfolding size-vals
+size-no-items = refl
+
+leaf-text : enc (leaf null) ≡ 41 ∷ []
+unfolding enc
+leaf-text = refl
+
+inner-none : (m equal : Bool) → inner m equal no-items ≡ leaf null
+unfolding inner
+inner-none m equal = refl
+
+inner-item : (m equal : Bool) (v : Val) (vs : Vals) → taken m equal (typeBy m v) vs ≡ inner m equal (item v vs)
+unfolding inner
+inner-item m equal v vs = refl
+
+taken-none : (m equal : Bool) (t : Ty) → taken m equal t no-items ≡ t
+unfolding taken
+taken-none m equal t = refl
+
+taken-item : (m equal : Bool) (t : Ty) (v : Val) (vs : Vals) → taken m equal (joined m equal t (typeBy m v)) vs ≡ taken m equal t (item v vs)
+unfolding taken
+taken-item m equal t v vs = refl
+
+-- the item that stands at `at`
+pub record Nth (m : Bool) (l n at : ℕ) (s : List ℕ) (vs : Vals) : Type 0 where
+  pub v : Val
+  pub more : Vals
+  pub first : valueAt l (drop at s) ≡ some v
+  pub well : WfV v
+  pub depth : levelV v ≤ l
+  pub fits : at + size-val v ≤ length s
+  pub second : itemsAt l n (drop (at + size-val v) s) ≡ some more
+  pub is : vs ≡ item v more
+  pub sized : size-vals vs ≡ size-val v + size-vals more
+  pub apt : (m ≡ true → are-data fixed vs ≡ true) → (m ≡ true → isData v ≡ true) × (m ≡ true → are-data fixed more ≡ true)
+
+nth : (m : Bool) (l i n at : ℕ) (s : List ℕ) (vs : Vals) → Bytes s → i < n → at ≤ length s → itemsAt l (n - i) (drop at s) ≡ some vs → Nth m l (n - (i + 1)) at s vs
+nth m l i n at s vs bs h in-s e = go (next-item l (n - (i + 1)) (drop at s) vs (ap (λ (z : ℕ). itemsAt l z (drop at s)) (sym (step i n h)) ∙ e))
+  where
+    go : Item l (n - (i + 1)) (drop at s) vs → Nth m l (n - (i + 1)) at s vs
+    go E =
+        let F = encoded l (drop at s) (E .v) (bytes-drop at s bs) (E .first) in
+        record {
+          v = E .v;
+          more = E .more;
+          first = E .first;
+          well = F .well;
+          depth = F .low;
+          fits = omega (arith, simp length-drop at (v-inside l (drop at s) (E .v) (E .first)));
+          second = ap (itemsAt l (n - (i + 1))) (sym (drop-drop (size-val (E .v)) at s)) ∙ E .second;
+          is = E .is;
+          sized = ap size-vals (E .is) ∙ size-item (E .v) (E .more);
+          apt = λ d. data-item m (E .v) (E .more) (λ q. ap (are-data fixed) (sym (E .is)) ∙ d q);
+        }
+
+module _ (m equal : Bool) (l : ℕ) (s : List ℕ) (n : ℕ) (old spare₀ : List ℕ) (p : FitItems m (itemsAt l n s) (length old) (length spare₀)) where
+  abbrev K : Opened WfVals (are-data fixed) (λ vs. size-vals vs + 1) m (itemsAt l n s) (length old) (length spare₀)
+  K = open-fit (itemsAt l n s) (length old) (length spare₀) p
+
+  pub items-one : 1 ≤ length old
+  items-one = omega (arith, K .fits .roomy)
+
+  pub items-none : n ≡ 0 → Typed size-vals (innerText m equal) (itemsAt l n s) old (set old 0 41) 0 1
+  items-none z =
+      let e : K .x ≡ no-items = no-item l s (K .x) (ap (λ (k : ℕ). itemsAt l k s) (sym z) ∙ K .read) in
+      let t : innerText m equal (K .x) ≡ 41 ∷ [] = ap (innerText m equal) e ∙ ap enc (inner-none m equal) ∙ leaf-text in
+      typed (itemsAt l n s) (K .x) old (set old 0 41) 0 1 (K .read)
+      (record {
+        all = sym (ap size-vals e ∙ size-no-items);
+        long = sym (ap length t);
+        out = subst (λ (k : List ℕ). Starts k (set old 0 41)) (sym t) (starts-onto (41 ∷ []) old (set old 0 41) (onto-first old 41 items-one));
+        kept = length-set old 0 41;
+      })
+
+  module _ (bs : Bytes s) (levels : l ≤ valueLevels) (h : n ≡ 0 → ⊥) where
+    abbrev F : Nth m l (n - (0 + 1)) 0 s (K .x)
+    F = let en : n - 0 ≡ n = omega arith in nth m l 0 n 0 s (K .x) bs (omega arith) (omega arith) (ap (λ (z : ℕ). itemsAt l z s) en ∙ K .read)
+
+    pub items-first : FitVal m (valueAt l s) (length old) (length spare₀)
+    items-first =
+        fit (valueAt l s) (F .v) (length old) (length spare₀) (F .first)
+        (record {
+          well = F .well;
+          apt = F .apt (K .fits .apt) .0;
+          roomy = omega (arith, K .fits .roomy, F .sized);
+          spared = omega (arith, K .fits .spared, F .sized);
+          small = omega (arith, K .fits .small, F .sized);
+        })
+
+    pub items-kept : (out : List ℕ) (e w : ℕ) → Typed size-val (typeText m) (valueAt l s) old out e w → length out ≡ length old
+    items-kept out e w T = typed-is (valueAt l s) (F .v) old out e w (F .first) T .kept
+
+    pub items-start : (out spare : List ℕ) (e w : ℕ) → Typed size-val (typeText m) (valueAt l s) old out e w → length spare ≡ length spare₀ → ItemsInv m equal l s n out spare out spare e w 1
+    items-start out spare e w T k =
+        let W = typed-is (valueAt l s) (F .v) old out e w (F .first) T in
+        let G = fine m (F .v) (F .well) (omega (arith, K .fits .small, F .sized)) in
+        let z : 0 + size-val (F .v) ≡ e = omega (arith, W .all) in
+        record {
+          whole = K .x;
+          left = F .more;
+          t = typeBy m (F .v);
+          read-all = K .read;
+          below = omega arith;
+          in-v = omega (arith, F .fits, W .all);
+          read = ap (λ (z : ℕ). itemsAt l (n - 1) (drop z s)) (sym z) ∙ F .second;
+          sized = omega (arith, F .sized, W .all);
+          type = inner-item m equal (F .v) (F .more) ∙ ap (inner m equal) (sym (F .is));
+          wf = G .wf;
+          long = omega (arith, W .long, length-enc (typeBy m (F .v)));
+          low = omega (arith, W .all, W .long, length-enc (typeBy m (F .v)), G .short);
+          levels = omega (arith, G .low, F .depth);
+          apt = F .apt (K .fits .apt) .1;
+          room = omega (arith, K .fits .roomy, W .kept);
+          spared = omega (arith, K .fits .spared, k);
+          small = K .fits .small;
+          out-len = refl;
+          spare-len = refl;
+          state = W .out;
+        }
+
+module _ {m equal : Bool} {l : ℕ} {s : List ℕ} {n : ℕ} {old spare₀ out spare : List ℕ} {at to i : ℕ} (Q : ItemsInv m equal l s n old spare₀ out spare at to i) (bs : Bytes s) where
+  pub item-room : to ≤ length out
+  item-room = omega (arith, Q .room, Q .out-len, Q .low, Q .sized)
+
+  module _ (h : i < n) where
+    abbrev N : Nth m l (n - (i + 1)) at s (Q .left)
+    N = nth m l i n at s (Q .left) bs h (Q .in-v) (Q .read)
+
+    first-behind : valueAt l (behind at s) ≡ some (N .v)
+    first-behind = ap (valueAt l) (rest s at) ∙ N .first
+
+    pub item-fits : FitVal m (valueAt l (behind at s)) (length (behind to out)) (length spare)
+    item-fits =
+        fit (valueAt l (behind at s)) (N .v) (length (behind to out)) (length spare) first-behind
+        (record {
+          well = N .well;
+          apt = N .apt (Q .apt) .0;
+          roomy = omega (arith, length-rest out to, Q .room, Q .out-len, Q .low, Q .sized, N .sized);
+          spared = omega (arith, Q .spared, Q .spare-len, Q .sized, N .sized);
+          small = omega (arith, Q .small, Q .sized, N .sized);
+        })
+
+    module _ (levels : l ≤ valueLevels) (ys sp : List ℕ) (e w : ℕ) (T : Typed size-val (typeText m) (valueAt l (behind at s)) (behind to out) ys e w) (k : length sp ≡ length spare) where
+      abbrev W : Wrote size-val (typeText m) (N .v) (behind to out) ys e w
+      W = typed-is (valueAt l (behind at s)) (N .v) (behind to out) ys e w first-behind T
+
+      abbrev xs : List ℕ
+      xs = putMid to (length out - to) out ys
+
+      abbrev u : Ty
+      u = typeBy m (N .v)
+
+      good : Fine m (N .v)
+      good = fine m (N .v) (N .well) (omega (arith, Q .small, Q .sized, N .sized))
+
+      both : Sound (Q .t) u (joined m equal (Q .t) u)
+      both = sound m equal (Q .t) u (Q .wf) (good .wf) (omega (arith, good .short, Q .small, Q .low, Q .long, Q .sized, N .sized))
+
+      pub item-read : at + e ≤ length s
+      item-read = omega (arith, N .fits, W .all)
+
+      front-long : length (enc (Q .t)) ≡ to
+      front-long = length-enc (Q .t) ∙ Q .long
+
+      read-t : typeAt typeLevels xs ≡ some (Q .t)
+      read-t = starts-read typeLevels (Q .t) xs (Q .wf) (Q .levels) (lent-front (enc (Q .t)) out ys to (Q .state) front-long)
+
+      read-u : typeAt typeLevels (drop to xs) ≡ some u
+      read-u = ap (typeAt typeLevels) (lent-back (enc (Q .t)) out ys to (Q .state) front-long) ∙ starts-read typeLevels u ys (good .wf) (omega (arith, good .low, N .depth)) (W .out)
+
+      xs-len : length xs ≡ length out
+      xs-len = same-len-mid to (length out - to) out ys (W .kept)
+
+      second-size : w ≡ size u
+      second-size = W .long ∙ length-enc u
+
+      pub item-sides : Sides (typeAt typeLevels xs) (typeAt typeLevels (drop to xs)) xs to w (length sp)
+      item-sides =
+          sides (typeAt typeLevels xs) (typeAt typeLevels (drop to xs)) (Q .t) u xs to w (length sp) read-t read-u
+          (record {
+            first = sym (Q .long);
+            second = second-size;
+            inside = omega (arith, xs-len, second-size, good .short, Q .room, Q .out-len, Q .low, Q .sized, N .sized);
+            spared = omega (arith, k, second-size, good .short, Q .spared, Q .spare-len, Q .low, Q .sized, N .sized);
+            small = omega (arith, second-size, good .short, Q .small, Q .low, Q .sized, N .sized);
+            wf-first = Q .wf;
+            wf-second = good .wf;
+          })
+
+      pub item-next : (zs sp₂ : List ℕ) (r : ℕ) → Joined m equal (typeAt typeLevels xs) (typeAt typeLevels (drop to xs)) xs zs r → length sp₂ ≡ length sp → ItemsInv m equal l s n old spare₀ zs sp₂ (at + e) r (i + 1)
+      item-next zs sp₂ r J k₂ =
+          let S = joined-is m equal (typeAt typeLevels xs) (typeAt typeLevels (drop to xs)) (Q .t) u xs zs r read-t read-u J in
+          let j = joined m equal (Q .t) u in
+          record {
+            whole = Q .whole;
+            left = N .more;
+            t = j;
+            read-all = Q .read-all;
+            below = omega arith;
+            in-v = item-read;
+            read = ap (λ (z : ℕ). itemsAt l (n - (i + 1)) (drop (at + z) s)) (W .all) ∙ N .second;
+            sized = omega (arith, Q .sized, N .sized, W .all);
+            type = taken-item m equal (Q .t) (N .v) (N .more) ∙ ap (taken m equal (Q .t)) (sym (N .is)) ∙ Q .type;
+            wf = both .wf;
+            long = sym (length-enc j) ∙ sym (S .long);
+            low = omega (arith, S .long, length-enc j, both .short, Q .long, Q .low, good .short, W .all);
+            levels = omega (arith, both .low, Q .levels, good .low, N .depth);
+            apt = N .apt (Q .apt) .1;
+            room = Q .room;
+            spared = Q .spared;
+            small = Q .small;
+            out-len = S .kept ∙ xs-len ∙ Q .out-len;
+            spare-len = k₂ ∙ k ∙ Q .spare-len;
+            state = S .out;
+          }
+
+  pub items-done : n ≤ i → (first : List ℕ) → length old ≡ length first → Typed size-vals (innerText m equal) (itemsAt l n s) first out at to
+  items-done h first k =
+      let z : n - i ≡ 0 = omega arith in
+      let e : Q .left ≡ no-items = no-item l (drop at s) (Q .left) (ap (λ (k : ℕ). itemsAt l k (drop at s)) (sym z) ∙ Q .read) in
+      let t : Q .t ≡ inner m equal (Q .whole) = sym (ap (taken m equal (Q .t)) e ∙ taken-none m equal (Q .t)) ∙ Q .type in
+      typed (itemsAt l n s) (Q .whole) first out at to (Q .read-all)
+      (record {
+        all = omega (arith, Q .sized, ap size-vals e, size-no-items);
+        long = sym (Q .long) ∙ sym (length-enc (Q .t)) ∙ ap (λ x. length (enc x)) t;
+        out = subst (λ x. Starts (enc x) out) t (Q .state);
+        kept = Q .out-len ∙ k;
+      })

@@ -1,0 +1,9 @@
+pub mod OnlyData
+pub mod Joining
+pub mod Signing
+pub mod Calling
+pub mod Trees
+pub mod Writing
+pub mod Entries
+pub mod Items
+pub mod Commands

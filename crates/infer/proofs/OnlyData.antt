@@ -1,0 +1,333 @@
+-- Whether a value is data, item by item and entry by entry.
+-- Assumes nothing.
+use Prim.Native.Nat.{ℕ, zero, suc, _+_, _-_, _<_, _≤_}
+use mathlib.Core.Path.{_≡_, refl, sym, ap, subst, _∙_}
+use mathlib.Core.Bool.{Bool, true, false, cond, _&&_}
+use mathlib.Core.Option.{Option, none, some}
+use mathlib.Core.List.{List}
+use native.Mathlib.Omega.{arith}
+use lib.ListN.{length, getD, take, drop, length-drop}
+use lib.Seq.{drop-drop}
+use Rattle.form.specs.Trees.{Val, v-leaf, v-range, v-list, v-context, v-function, v-built-in, v-type, v-irrelevant, Leaf, l-null, l-boolean, l-number, l-string, l-temporal, Vals, no-items, item, Entries, no-entries, entry}
+use Rattle.form.specs.Limits.{nameWidth}
+use Rattle.form.specs.Form.{numAt}
+use Rattle.form.specs.Layout.{ValueKind, kNull, kBoolean, kNumber, kString, kTemporal, ofValue, kindOf, operandsV, operands, widthOf}
+use Rattle.form.proofs.Commands.{kind-temporal, width-is}
+use Rattle.order.specs.Order.{fixed}
+use Rattle.order.specs.Size.{size-val, size-vals, size-entries}
+use Rattle.order.specs.Values.{is-data, are-data, hold-data}
+use Rattle.order.specs.Inferred.{isData}
+use Rattle.types.specs.At.{Ok}
+use Rattle.types.proofs.Reading.{rest, is-ok, ok-got}
+use Rattle.types.proofs.Entries.{step}
+use Rattle.values.specs.At.{valueAt, itemsAt, entriesAt}
+use Rattle.values.proofs.Reading as reading
+use Rattle.values.proofs.Reading.{IsVal, is-null, is-boolean, is-number, is-string, is-temporal, is-range, is-list, is-context, is-definition, is-built-in, is-type, is-irrelevant, is-val, some-byte, some-level, v-inside, items-inside, entries-inside, Item, next-item, no-item, Entry, next-entry, no-entry}
+use Rattle.infer.specs.Typing.{dataBy, grown}
+use Rattle.infer.specs.declared.Data.{Data}
+use Rattle.infer.specs.declared.Data.the-variants.{Yes, No}
+
+abbrev told : Bool → ℕ → Data
+told q n = cond q (Yes n) No
+
+yes-no : {n : ℕ} → Yes n ≡ No → ⊥
+yes-no p = let z : _≡_ {A = ℕ} 0 1 = cc in omega arith
+
+pub told-yes : (q : Bool) (n x : ℕ) → told q n ≡ Yes x → (q ≡ true) × (n ≡ x)
+told-yes true n x e = (refl, cc)
+told-yes false n x e = absurd (yes-no (sym e))
+
+pub told-no : (q : Bool) (n : ℕ) → told q n ≡ No → q ≡ false
+told-no true n e = absurd (yes-no e)
+told-no false n e = refl
+
+pub by-got : {X : Type 0} (test : X → Bool) (sz : X → ℕ) (r : Option X) (x : X) → r ≡ some x → dataBy test sz r ≡ told (test x) (sz x)
+unfolding dataBy
+by-got test sz r x e = ap (dataBy test sz) e
+
+-- what remains of n items from `at` on, i of them being passed
+pub record ItemsInv (l : ℕ) (v : List ℕ) (n at i : ℕ) : Type 0 where
+  pub more : Vals
+  pub read : itemsAt l (n - i) (drop at v) ≡ some more
+  pub here : i ≤ n
+  pub inside : at + size-vals more ≤ length v
+  pub whole : dataBy (are-data fixed) size-vals (itemsAt l n v) ≡ told (are-data fixed more) (at + size-vals more)
+
+-- and of n entries, the next name being at least k
+pub record EntriesInv (l : ℕ) (v : List ℕ) (n at i : ℕ) : Type 0 where
+  pub k : ℕ
+  pub more : Entries
+  pub read : entriesAt l (n - i) k (drop at v) ≡ some more
+  pub here : i ≤ n
+  pub inside : at + size-entries more ≤ length v
+  pub whole : dataBy (hold-data fixed) size-entries (entriesAt l n 0 v) ≡ told (hold-data fixed more) (at + size-entries more)
+
+-- a child that is data, or is not, and the others
+and-data : (q s : Bool) (n x at m : ℕ) → told q n ≡ Yes x → told (q && s) (at + (n + m)) ≡ told s (at + x + m)
+and-data q s n x at m e = let d = told-yes q n x e in ap (λ b. told (b && s) (at + (n + m))) (d .0) ∙ ap (told s) (omega (arith, d .1))
+
+and-no : (q s : Bool) (n k : ℕ) → told q n ≡ No → told (q && s) k ≡ No
+and-no q s n k e = ap (λ b. told (b && s) k) (told-no q n e)
+
+-- ---- items
+pub items-start : (l : ℕ) (v : List ℕ) (n : ℕ) → Ok (itemsAt l n v) → ItemsInv l v n 0 0
+items-start l v n h =
+    let g = ok-got (itemsAt l n v) h in
+    let z : n - 0 ≡ n = omega arith in
+    record { more = g .0; read = ap (λ k. itemsAt l k v) z ∙ g .1; here = omega arith; inside = omega (arith, items-inside l n v (g .0) (g .1)); whole = by-got (are-data fixed) size-vals (itemsAt l n v) (g .0) (g .1) ∙ ap (told (are-data fixed (g .0))) (omega arith) }
+
+module _ {l : ℕ} {v : List ℕ} {n at i : ℕ} (I : ItemsInv l v n at i) where
+  pub items-end : at ≤ length v
+  items-end = omega (arith, I .inside)
+
+  pub items-done : n ≤ i → Yes at ≡ dataBy (are-data fixed) size-vals (itemsAt l n v)
+  unfolding are-data size-val
+  items-done h =
+      let z : n - i ≡ 0 = omega arith in
+      let e = no-item l (drop at v) (I .more) (ap (λ k. itemsAt l k (drop at v)) (sym z) ∙ I .read) in
+      let p : told (are-data fixed (I .more)) (at + size-vals (I .more)) ≡ Yes at = ap (λ vs. told (are-data fixed vs) (at + size-vals vs)) e ∙ ap Yes (omega arith) in
+      sym (I .whole ∙ p)
+
+  module _ (h : i < n) where
+    next : Item l (n - (i + 1)) (drop at v) (I .more)
+    next = next-item l (n - (i + 1)) (drop at v) (I .more) (ap (λ k. itemsAt l k (drop at v)) (sym (step i n h)) ∙ I .read)
+
+    pub items-ok : Ok (valueAt l (take (length v - at) (drop at v)))
+    items-ok = rw (rest v at) (is-ok (valueAt l (drop at v)) (next .v) (next .first))
+
+    -- the child's answer
+    item-told : (r : Data) → r ≡ dataBy isData size-val (valueAt l (take (length v - at) (drop at v))) → r ≡ told (isData (next .v)) (size-val (next .v))
+    item-told r e = e ∙ ap (λ s. dataBy isData size-val (valueAt l s)) (rest v at) ∙ by-got isData size-val (valueAt l (drop at v)) (next .v) (next .first)
+
+    item-whole : (dataBy (are-data fixed) size-vals (itemsAt l n v) ≡ told (isData (next .v) && are-data fixed (next .more)) (at + (size-val (next .v) + size-vals (next .more)))) × (at + (size-val (next .v) + size-vals (next .more)) ≤ length v)
+    unfolding are-data size-val
+    item-whole = (I .whole ∙ ap (λ vs. told (are-data fixed vs) (at + size-vals vs)) (next .is), subst (λ vs. at + size-vals vs ≤ length v) (next .is) (I .inside))
+
+    pub items-no : (r : Data) → r ≡ No → r ≡ dataBy isData size-val (valueAt l (take (length v - at) (drop at v))) → No ≡ dataBy (are-data fixed) size-vals (itemsAt l n v)
+    items-no r p e = sym (item-whole .0 ∙ and-no (isData (next .v)) (are-data fixed (next .more)) (size-val (next .v)) (at + (size-val (next .v) + size-vals (next .more))) (sym (item-told r e) ∙ p))
+
+    pub items-fit : (r : Data) (x : ℕ) → r ≡ Yes x → r ≡ dataBy isData size-val (valueAt l (take (length v - at) (drop at v))) → at + x ≤ length v
+    items-fit r x p e = omega (arith, told-yes (isData (next .v)) (size-val (next .v)) x (sym (item-told r e) ∙ p) .1, item-whole .1)
+
+    pub items-again : (r : Data) (x : ℕ) → r ≡ Yes x → r ≡ dataBy isData size-val (valueAt l (take (length v - at) (drop at v))) → ItemsInv l v n (at + x) (i + 1)
+    items-again r x p e =
+        let d = told-yes (isData (next .v)) (size-val (next .v)) x (sym (item-told r e) ∙ p) in
+        let w = item-whole in
+        let z : at + size-val (next .v) ≡ at + x = omega (arith, d .1) in
+        record {
+          more = next .more;
+          read = ap (itemsAt l (n - (i + 1))) (sym (drop-drop (size-val (next .v)) at v ∙ ap (λ k. drop k v) z)) ∙ next .second;
+          here = omega arith;
+          inside = omega (arith, d .1, w .1);
+          whole = w .0 ∙ and-data (isData (next .v)) (are-data fixed (next .more)) (size-val (next .v)) x at (size-vals (next .more)) (sym (item-told r e) ∙ p);
+        }
+
+-- ---- entries
+pub entries-start : (l : ℕ) (v : List ℕ) (n : ℕ) → Ok (entriesAt l n 0 v) → EntriesInv l v n 0 0
+entries-start l v n h =
+    let g = ok-got (entriesAt l n 0 v) h in
+    let z : n - 0 ≡ n = omega arith in
+    record { k = 0; more = g .0; read = ap (λ k. entriesAt l k 0 v) z ∙ g .1; here = omega arith; inside = omega (arith, entries-inside l n 0 v (g .0) (g .1)); whole = by-got (hold-data fixed) size-entries (entriesAt l n 0 v) (g .0) (g .1) ∙ ap (told (hold-data fixed (g .0))) (omega arith) }
+
+module _ {l : ℕ} {v : List ℕ} {n at i : ℕ} (I : EntriesInv l v n at i) where
+  pub entries-done : n ≤ i → Yes at ≡ dataBy (hold-data fixed) size-entries (entriesAt l n 0 v)
+  unfolding are-data size-val
+  entries-done h =
+      let z : n - i ≡ 0 = omega arith in
+      let e = no-entry l (I .k) (drop at v) (I .more) (ap (λ k. entriesAt l k (I .k) (drop at v)) (sym z) ∙ I .read) in
+      let p : told (hold-data fixed (I .more)) (at + size-entries (I .more)) ≡ Yes at = ap (λ es. told (hold-data fixed es) (at + size-entries es)) e ∙ ap Yes (omega arith) in
+      sym (I .whole ∙ p)
+
+  module _ (h : i < n) where
+    next-one : Entry l (n - (i + 1)) (I .k) (drop at v) (I .more)
+    next-one = next-entry l (n - (i + 1)) (I .k) (drop at v) (I .more) (ap (λ k. entriesAt l k (I .k) (drop at v)) (sym (step i n h)) ∙ I .read)
+
+    pub entries-two : at + nameWidth ≤ length v
+    entries-two = omega (arith, I .inside, simp length-drop at (next-one .two))
+
+    -- behind the name
+    behind : take (length v - (at + nameWidth)) (drop (at + nameWidth) v) ≡ drop nameWidth (drop at v)
+    behind = rest v (at + nameWidth) ∙ sym (drop-drop nameWidth at v)
+
+    pub entries-ok : Ok (valueAt l (take (length v - (at + nameWidth)) (drop (at + nameWidth) v)))
+    entries-ok = rw behind (is-ok (valueAt l (drop nameWidth (drop at v))) (next-one .v) (next-one .first))
+
+    entry-told : (r : Data) → r ≡ dataBy isData size-val (valueAt l (take (length v - (at + nameWidth)) (drop (at + nameWidth) v))) → r ≡ told (isData (next-one .v)) (size-val (next-one .v))
+    entry-told r e = e ∙ ap (λ s. dataBy isData size-val (valueAt l s)) behind ∙ by-got isData size-val (valueAt l (drop nameWidth (drop at v))) (next-one .v) (next-one .first)
+
+    entry-whole : (dataBy (hold-data fixed) size-entries (entriesAt l n 0 v) ≡ told (isData (next-one .v) && hold-data fixed (next-one .more)) (at + (nameWidth + size-val (next-one .v) + size-entries (next-one .more)))) × (at + (nameWidth + size-val (next-one .v) + size-entries (next-one .more)) ≤ length v)
+    unfolding are-data size-val
+    entry-whole = (I .whole ∙ ap (λ es. told (hold-data fixed es) (at + size-entries es)) (next-one .is), subst (λ es. at + size-entries es ≤ length v) (next-one .is) (I .inside))
+
+    pub entries-no : (r : Data) → r ≡ No → r ≡ dataBy isData size-val (valueAt l (take (length v - (at + nameWidth)) (drop (at + nameWidth) v))) → No ≡ dataBy (hold-data fixed) size-entries (entriesAt l n 0 v)
+    entries-no r p e = sym (entry-whole .0 ∙ and-no (isData (next-one .v)) (hold-data fixed (next-one .more)) (size-val (next-one .v)) (at + (nameWidth + size-val (next-one .v) + size-entries (next-one .more))) (sym (entry-told r e) ∙ p))
+
+    pub entries-fit : (r : Data) (x : ℕ) → r ≡ Yes x → r ≡ dataBy isData size-val (valueAt l (take (length v - (at + nameWidth)) (drop (at + nameWidth) v))) → at + nameWidth + x ≤ length v
+    entries-fit r x p e = omega (arith, told-yes (isData (next-one .v)) (size-val (next-one .v)) x (sym (entry-told r e) ∙ p) .1, entry-whole .1)
+
+    pub entries-again : (r : Data) (x : ℕ) → r ≡ Yes x → r ≡ dataBy isData size-val (valueAt l (take (length v - (at + nameWidth)) (drop (at + nameWidth) v))) → EntriesInv l v n (at + nameWidth + x) (i + 1)
+    entries-again r x p e =
+        let d = told-yes (isData (next-one .v)) (size-val (next-one .v)) x (sym (entry-told r e) ∙ p) in
+        let w = entry-whole in
+        let z : at + nameWidth + size-val (next-one .v) ≡ at + nameWidth + x = omega (arith, d .1) in
+        let y : drop (size-val (next-one .v)) (drop nameWidth (drop at v)) ≡ drop (at + nameWidth + x) v = ap (drop (size-val (next-one .v))) (drop-drop nameWidth at v) ∙ drop-drop (size-val (next-one .v)) (at + nameWidth) v ∙ ap (λ k. drop k v) z in
+        record {
+          k = suc (next-one .name);
+          more = next-one .more;
+          read = ap (entriesAt l (n - (i + 1)) (suc (next-one .name))) (sym y) ∙ next-one .second;
+          here = omega arith;
+          inside = omega (arith, d .1, w .1);
+          whole = w .0 ∙ ap (told (isData (next-one .v) && hold-data fixed (next-one .more))) (omega arith) ∙ and-data (isData (next-one .v)) (hold-data fixed (next-one .more)) (size-val (next-one .v)) x (at + nameWidth) (size-entries (next-one .more)) (sym (entry-told r e) ∙ p);
+        }
+
+-- ---- a value by its command
+-- a leaf's operands are all that it has
+width-of : (b c n : ℕ) (k : ValueKind) → b ≡ c → kindOf c ≡ ofValue k → operandsV k + 1 ≡ n → widthOf b + 1 ≡ n
+unfolding operands
+width-of b c n k e f h = omega (arith, width-is b (ofValue k) (ap kindOf e ∙ f))
+
+-- leaves are data, and their size is the width of the command and one
+data-leaf : (l : ℕ) (s : List ℕ) (v : Val) → IsVal l s v → getD s 0 0 < 9 → (isData v ≡ true) × (widthOf (getD s 0 0) + 1 ≡ size-val v)
+unfolding is-data size-val operandsV kindOf
+data-leaf l s v (is-null x c) h = (refl, width-of (getD s 0 0) 0 2 kNull c refl refl)
+data-leaf l s v (is-boolean x c) h = (refl, width-of (getD s 0 0) 1 2 kBoolean c refl refl)
+data-leaf l s v (is-number x c) h = (refl, width-of (getD s 0 0) 2 9 kNumber c refl refl)
+data-leaf l s v (is-string x c) h = (refl, width-of (getD s 0 0) 3 (1 + nameWidth) kString c refl refl)
+data-leaf l s v (is-temporal x c d) h = (refl, width-of (getD s 0 0) (getD s 0 0) 9 kTemporal refl (kind-temporal (getD s 0 0) c d) refl)
+data-leaf l s v (is-range i j a b c k p) h = absurd (omega arith)
+data-leaf l s v (is-list vs c k p) h = absurd (omega arith)
+data-leaf l s v (is-context es c k p) h = absurd (omega arith)
+data-leaf l s v (is-definition r ps b c k p) h = absurd (omega arith)
+data-leaf l s v (is-built-in x c) h = absurd (omega arith)
+data-leaf l s v (is-type t c p) h = absurd (omega arith)
+data-leaf l s v (is-irrelevant c) h = absurd (omega arith)
+
+not-data : (l : ℕ) (s : List ℕ) (v : Val) → IsVal l s v → 12 ≤ getD s 0 0 → isData v ≡ false
+unfolding is-data
+not-data l s v (is-null x c) h = absurd (omega arith)
+not-data l s v (is-boolean x c) h = absurd (omega arith)
+not-data l s v (is-number x c) h = absurd (omega arith)
+not-data l s v (is-string x c) h = absurd (omega arith)
+not-data l s v (is-temporal x c d) h = absurd (omega arith)
+not-data l s v (is-range i j a b c k p) h = absurd (omega arith)
+not-data l s v (is-list vs c k p) h = absurd (omega arith)
+not-data l s v (is-context es c k p) h = absurd (omega arith)
+not-data l s v (is-definition r ps b c k p) h = refl
+not-data l s v (is-built-in x c) h = refl
+not-data l s v (is-type t c p) h = refl
+not-data l s v (is-irrelevant c) h = refl
+
+-- a run of children behind three bytes, which says all of a parent
+pub record Run {X : Type 0} (test : X → Bool) (sz : X → ℕ) (at : List ℕ → Option X) (s : List ℕ) (W : Data) : Type 0 where
+  pub x : X
+  pub three : 3 ≤ length s
+  pub read : at (drop 3 s) ≡ some x
+  pub fits : sz x + 3 ≤ length s
+  pub whole : W ≡ told (test x) (sz x + 3)
+
+and-true : (a b : Bool) → a && (b && true) ≡ a && b
+and-true true true = refl
+and-true true false = refl
+and-true false b = refl
+
+module _ (l : ℕ) (s : List ℕ) where
+  abbrev W : Data
+  W = dataBy isData size-val (valueAt l s)
+
+  run-range : (v : Val) → IsVal l s v → size-val v ≤ length s → W ≡ told (isData v) (size-val v) → getD s 0 0 ≡ 9 → Run (are-data fixed) size-vals (itemsAt (l - 1) 2) s W
+  unfolding is-data size-val
+  run-range v (is-null x c) i w h = absurd (omega arith)
+  run-range v (is-boolean x c) i w h = absurd (omega arith)
+  run-range v (is-number x c) i w h = absurd (omega arith)
+  run-range v (is-string x c) i w h = absurd (omega arith)
+  run-range v (is-temporal x c d) i w h = absurd (omega arith)
+  run-range v (is-range a b p q c k r) i w h =
+      record { x = item p (item q no-items); three = k; read = r; fits = omega arith; whole = w ∙ ap (λ b. told b (3 + size-val p + size-val q)) (sym (and-true (isData p) (isData q))) ∙ ap (told (isData p && (isData q && true))) (omega arith) }
+  run-range v (is-list vs c k p) i w h = absurd (omega arith)
+  run-range v (is-context es c k p) i w h = absurd (omega arith)
+  run-range v (is-definition r ps b c k p) i w h = absurd (omega arith)
+  run-range v (is-built-in x c) i w h = absurd (omega arith)
+  run-range v (is-type t c p) i w h = absurd (omega arith)
+  run-range v (is-irrelevant c) i w h = absurd (omega arith)
+
+  run-list : (v : Val) → IsVal l s v → size-val v ≤ length s → W ≡ told (isData v) (size-val v) → (n : ℕ) → n ≡ numAt 2 1 s → getD s 0 0 ≡ 10 → Run (are-data fixed) size-vals (itemsAt (l - 1) n) s W
+  unfolding is-data size-val
+  run-list v (is-null x c) i w n e h = absurd (omega arith)
+  run-list v (is-boolean x c) i w n e h = absurd (omega arith)
+  run-list v (is-number x c) i w n e h = absurd (omega arith)
+  run-list v (is-string x c) i w n e h = absurd (omega arith)
+  run-list v (is-temporal x c d) i w n e h = absurd (omega arith)
+  run-list v (is-range a b p q c k r) i w n e h = absurd (omega arith)
+  run-list v (is-list vs c k p) i w n e h = record { x = vs; three = k; read = ap (λ m. itemsAt (l - 1) m (drop 3 s)) e ∙ p; fits = omega arith; whole = w ∙ ap (told (are-data fixed vs)) (omega arith) }
+  run-list v (is-context es c k p) i w n e h = absurd (omega arith)
+  run-list v (is-definition r ps b c k p) i w n e h = absurd (omega arith)
+  run-list v (is-built-in x c) i w n e h = absurd (omega arith)
+  run-list v (is-type t c p) i w n e h = absurd (omega arith)
+  run-list v (is-irrelevant c) i w n e h = absurd (omega arith)
+
+  run-context : (v : Val) → IsVal l s v → size-val v ≤ length s → W ≡ told (isData v) (size-val v) → (n : ℕ) → n ≡ numAt 2 1 s → getD s 0 0 ≡ 11 → Run (hold-data fixed) size-entries (entriesAt (l - 1) n 0) s W
+  unfolding is-data size-val
+  run-context v (is-null x c) i w n e h = absurd (omega arith)
+  run-context v (is-boolean x c) i w n e h = absurd (omega arith)
+  run-context v (is-number x c) i w n e h = absurd (omega arith)
+  run-context v (is-string x c) i w n e h = absurd (omega arith)
+  run-context v (is-temporal x c d) i w n e h = absurd (omega arith)
+  run-context v (is-range a b p q c k r) i w n e h = absurd (omega arith)
+  run-context v (is-list vs c k p) i w n e h = absurd (omega arith)
+  run-context v (is-context es c k p) i w n e h = record { x = es; three = k; read = ap (λ m. entriesAt (l - 1) m 0 (drop 3 s)) e ∙ p; fits = omega arith; whole = w ∙ ap (told (hold-data fixed es)) (omega arith) }
+  run-context v (is-definition r ps b c k p) i w n e h = absurd (omega arith)
+  run-context v (is-built-in x c) i w n e h = absurd (omega arith)
+  run-context v (is-type t c p) i w n e h = absurd (omega arith)
+  run-context v (is-irrelevant c) i w n e h = absurd (omega arith)
+
+-- ---- the returns of `is_data`
+module _ (l : ℕ) (s : List ℕ) (p : Ok (valueAt l s)) where
+  tree : {P : Type 0} → ((v : Val) → valueAt l s ≡ some v → P) → P
+  tree k = let g = ok-got (valueAt l s) p in k (g .0) (g .1)
+
+  pub has-byte : 0 < length s
+  has-byte = tree (λ v e. some-byte l s v e)
+
+  pub has-level : 0 < l
+  has-level = tree (λ v e. some-level l s v e)
+
+  whole-is : (v : Val) → valueAt l s ≡ some v → dataBy isData size-val (valueAt l s) ≡ told (isData v) (size-val v)
+  whole-is v e = by-got isData size-val (valueAt l s) v e
+
+  pub leaf-done : (w : ℕ) → w ≡ widthOf (getD s 0 0) → getD s 0 0 < 9 → Yes (w + 1) ≡ dataBy isData size-val (valueAt l s)
+  leaf-done w q h = tree (λ v e.
+      let d = data-leaf l s v (is-val l s v e) h in
+      sym (whole-is v e ∙ ap (λ b. told b (size-val v)) (d .0) ∙ ap Yes (omega (arith, d .1))))
+
+  pub leaf-fits : (w : ℕ) → w ≡ widthOf (getD s 0 0) → getD s 0 0 < 9 → w + 1 ≤ length s
+  leaf-fits w q h = tree (λ v e. omega (arith, data-leaf l s v (is-val l s v e) h .1, v-inside l s v e))
+
+  pub other-done : 12 ≤ getD s 0 0 → No ≡ dataBy isData size-val (valueAt l s)
+  other-done h = tree (λ v e. sym (whole-is v e ∙ ap (λ b. told b (size-val v)) (not-data l s v (is-val l s v e) h)))
+
+  pub ranges : getD s 0 0 ≡ 9 → Run (are-data fixed) size-vals (itemsAt (l - 1) 2) s (dataBy isData size-val (valueAt l s))
+  ranges h = tree (λ v e. run-range l s v (is-val l s v e) (v-inside l s v e) (whole-is v e) h)
+
+  pub lists : (n : ℕ) → n ≡ numAt 2 1 s → getD s 0 0 ≡ 10 → Run (are-data fixed) size-vals (itemsAt (l - 1) n) s (dataBy isData size-val (valueAt l s))
+  lists n q h = tree (λ v e. run-list l s v (is-val l s v e) (v-inside l s v e) (whole-is v e) n q h)
+
+  pub contexts : (n : ℕ) → n ≡ numAt 2 1 s → getD s 0 0 ≡ 11 → Run (hold-data fixed) size-entries (entriesAt (l - 1) n 0) s (dataBy isData size-val (valueAt l s))
+  contexts n q h = tree (λ v e. run-context l s v (is-val l s v e) (v-inside l s v e) (whole-is v e) n q h)
+
+-- what a callee on the run asks and answers
+module _ {X : Type 0} {test : X → Bool} {sz : X → ℕ} {at : List ℕ → Option X} {s : List ℕ} {W : Data} (R : Run test sz at s W) where
+  pub run-ok : Ok (at (take (length s - 3) (drop 3 s)))
+  run-ok = rw (rest s 3) (is-ok (at (drop 3 s)) (R .x) (R .read))
+
+  run-told : (d : Data) → d ≡ dataBy test sz (at (take (length s - 3) (drop 3 s))) → d ≡ told (test (R .x)) (sz (R .x))
+  run-told d e = e ∙ ap (λ r. dataBy test sz (at r)) (rest s 3) ∙ by-got test sz (at (drop 3 s)) (R .x) (R .read)
+
+  pub run-fits : (d : Data) → d ≡ dataBy test sz (at (take (length s - 3) (drop 3 s))) → (y : ℕ) → d ≡ Yes y → y + 3 ≤ length s
+  run-fits d e y q = omega (arith, R .fits, told-yes (test (R .x)) (sz (R .x)) y (sym (run-told d e) ∙ q) .1)
+
+  pub run-done : (d r : Data) → r ≡ grown 3 d → d ≡ dataBy test sz (at (take (length s - 3) (drop 3 s))) → r ≡ W
+  run-done d r q e = q ∙ ap (grown 3) (run-told d e) ∙ grown-told (test (R .x)) (sz (R .x)) ∙ sym (R .whole)
+    where
+      grown-told : (b : Bool) (n : ℕ) → grown 3 (told b n) ≡ told b (n + 3)
+      grown-told true n = refl
+      grown-told false n = refl

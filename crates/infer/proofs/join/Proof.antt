@@ -1,0 +1,36 @@
+-- `infer::join` meets its contract.
+-- Assumes nothing.
+use borrow.Author.Needs.{needs}
+use Rattle.infer.proofs.join.Statement.{statement}
+use Rattle.infer.proofs.join.Tie as tie
+use Rattle.infer.proofs.join.Reads as reads
+use Rattle.infer.proofs.join.Lts as lts
+use Rattle.bounds.proofs.copy.Reads as copy-reads
+use Rattle.bounds.proofs.write_super.Reads as write-super-reads
+use Rattle.infer.proofs.keeps.Reads as keeps-reads
+use native.Mathlib.Omega.{arith}
+use mathlib.Core.Path.{sym, refl}
+use Rattle.form.proofs.Numbers.{take-length}
+use Rattle.form.proofs.Whole.{bytes-of}
+use Rattle.infer.proofs.Joining.{both-inside, first-byte, join-ask, sup-spared, sup-inside, sup-kept, joined-super, keeps-ask, joined-first, joined-any}
+
+pub join-spec : {M : Type 1} → statement M
+join-spec =
+    tie.close
+    (tie.spec
+    (λ c. omega (arith, both-inside (c .before .before .before .before .args .out .now) (c .before .before .before .before .args .n) (c .before .before .before .before .args .m) _ (c .before .before .before .before .pre)))
+    (λ c. omega (arith, both-inside (c .before .before .before .before .args .out .now) (c .before .before .before .before .args .n) (c .before .before .before .before .args .m) _ (c .before .before .before .before .pre)))
+    (λ c. search needs)
+    (λ c κs. join-ask (c .before .before .before .before .before .before .args .out .now) (c .before .before .before .before .before .before .args .n) (c .before .before .before .before .before .before .args .m) _ (c .before .before .before .before .before .before .pre))
+    (λ c. omega (arith, sup-spared (c .before .before .before .before .before .before .before .before .before .args .out .now) (c .before .before .before .before .before .before .before .before .before .args .n) (c .before .before .before .before .before .before .before .before .before .args .m) _ (c .before .before .before .before .before .before .before .before .before .pre) (c .before .before .before .before .before .before .before .before .before .args .spare .now) _ _ _ _ refl (c .before .before .write-super .ensures), sup-kept (c .before .before .before .before .before .before .before .before .before .args .out .now) (c .before .before .before .before .before .before .before .before .before .args .n) (c .before .before .before .before .before .before .before .before .before .args .m) _ (c .before .before .before .before .before .before .before .before .before .pre) (c .before .before .before .before .before .before .before .before .before .args .spare .now) _ _ _ _ refl (c .before .before .write-super .ensures)))
+    (λ c. sym (take-length _ _ (omega (arith, sup-spared (c .before .before .before .before .before .before .before .before .before .before .args .out .now) (c .before .before .before .before .before .before .before .before .before .before .args .n) (c .before .before .before .before .before .before .before .before .before .before .args .m) _ (c .before .before .before .before .before .before .before .before .before .before .pre) (c .before .before .before .before .before .before .before .before .before .before .args .spare .now) _ _ _ _ refl (c .before .before .before .write-super .ensures), sup-kept (c .before .before .before .before .before .before .before .before .before .before .args .out .now) (c .before .before .before .before .before .before .before .before .before .before .args .n) (c .before .before .before .before .before .before .before .before .before .before .args .m) _ (c .before .before .before .before .before .before .before .before .before .before .pre) (c .before .before .before .before .before .before .before .before .before .before .args .spare .now) _ _ _ _ refl (c .before .before .before .write-super .ensures)))))
+    (λ c κs. omega (arith, sup-inside (c .before .before .before .before .before .before .before .before .before .before .before .args .out .now) (c .before .before .before .before .before .before .before .before .before .before .before .args .n) (c .before .before .before .before .before .before .before .before .before .before .before .args .m) _ (c .before .before .before .before .before .before .before .before .before .before .before .pre) (c .before .before .before .before .before .before .before .before .before .before .before .args .spare .now) _ _ _ _ refl (c .before .before .before .before .write-super .ensures), take-length (c .before .before .before .before .write-super .result .wrote) (c .before .before .before .before .write-super .last .1 .1 .0) (omega (arith, sup-spared (c .before .before .before .before .before .before .before .before .before .before .before .args .out .now) (c .before .before .before .before .before .before .before .before .before .before .before .args .n) (c .before .before .before .before .before .before .before .before .before .before .before .args .m) _ (c .before .before .before .before .before .before .before .before .before .before .before .pre) (c .before .before .before .before .before .before .before .before .before .before .before .args .spare .now) _ _ _ _ refl (c .before .before .before .before .write-super .ensures), sup-kept (c .before .before .before .before .before .before .before .before .before .before .before .args .out .now) (c .before .before .before .before .before .before .before .before .before .before .before .args .n) (c .before .before .before .before .before .before .before .before .before .before .before .args .m) _ (c .before .before .before .before .before .before .before .before .before .before .before .pre) (c .before .before .before .before .before .before .before .before .before .before .before .args .spare .now) _ _ _ _ refl (c .before .before .before .before .write-super .ensures)))))
+    (λ c. search needs)
+    (λ c. search needs)
+    (λ c. (joined-super (c .before .before .before .before .before .before .before .before .before .before .before .before .before .before .args .out .now) (c .before .before .before .before .before .before .before .before .before .before .before .before .before .before .args .n) (c .before .before .before .before .before .before .before .before .before .before .before .before .before .before .args .m) _ (c .before .before .before .before .before .before .before .before .before .before .before .before .before .before .pre) (c .before .before .before .before .before .before .before .before .before .before .before .before .before .before .args .spare .now) _ _ _ _ refl (c .before .before .before .before .before .before .before .write-super .ensures) _ _ (c .before .before .before .before .before .before .before .before .before .before .before .if1 .taken) _ (c .before .before .copy .ensures), sup-kept (c .before .before .before .before .before .before .before .before .before .before .before .before .before .before .args .out .now) (c .before .before .before .before .before .before .before .before .before .before .before .before .before .before .args .n) (c .before .before .before .before .before .before .before .before .before .before .before .before .before .before .args .m) _ (c .before .before .before .before .before .before .before .before .before .before .before .before .before .before .pre) (c .before .before .before .before .before .before .before .before .before .before .before .before .before .before .args .spare .now) _ _ _ _ refl (c .before .before .before .before .before .before .before .write-super .ensures)))
+    (λ c κs. keeps-ask (c .before .before .before .before .args .out .now) (c .before .before .before .before .args .n) (c .before .before .before .before .args .m) _ (c .before .before .before .before .pre))
+    (λ c. search needs)
+    (λ c. (joined-first (c .before .before .before .before .before .before .args .out .now) (c .before .before .before .before .before .before .args .n) (c .before .before .before .before .before .before .args .m) _ (c .before .before .before .before .before .before .pre) (bytes-of (c .before .before .before .before .before .before .args .out .now) (c .before .before .before .before .before .slice-known .given)) _ _ _ (c .before .before .before .if1 .left) (c .before .keeps .ensures) (c .if2 .taken), refl))
+    (λ c. first-byte (c .before .before .before .before .before .before .args .out .now) (c .before .before .before .before .before .before .args .n) (c .before .before .before .before .before .before .args .m) _ (c .before .before .before .before .before .before .pre))
+    (λ c. search needs)
+    (λ c. (joined-any (c .before .before .before .before .before .before .args .out .now) (c .before .before .before .before .before .before .args .n) (c .before .before .before .before .before .before .args .m) _ (c .before .before .before .before .before .before .pre) _ _ _ (c .before .before .before .if1 .left) (c .before .keeps .ensures) (c .if2 .left), refl)))

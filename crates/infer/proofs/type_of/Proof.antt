@@ -1,0 +1,28 @@
+-- `infer::type_of` meets its contract.
+-- Assumes nothing.
+use borrow.Author.Needs.{needs}
+use Rattle.infer.proofs.type_of.Statement.{statement}
+use Rattle.infer.proofs.type_of.Tie as tie
+use Rattle.infer.proofs.type_of.Reads as reads
+use Rattle.infer.proofs.type_of.Lts as lts
+use Rattle.form.proofs.check_value.Reads as check-value-reads
+use Rattle.infer.proofs.build.Reads as build-reads
+use native.Mathlib.Omega.{arith}
+use mathlib.Core.Path.{sym, ap, _∙_}
+use mathlib.Core.Bool.{true, false, true≢false}
+use Rattle.form.specs.Answers.{checked}
+use Rattle.values.proofs.Calling.{value-refused}
+use Rattle.infer.proofs.Calling.{fine, ask, type-refused, type-done}
+
+pub type-of-spec : {M : Type 1} → statement M
+type-of-spec =
+    tie.close
+    (tie.spec
+    (λ c κs. search needs)
+    (λ c. search needs)
+    (λ c. search needs)
+    (λ c κs. ask false (c .before .before .before .before .before .before .before .before .args .v .now) (fine (c .before .before .before .before .before .before .before .before .args .v .now) _ (c .before .before .before .before .check-value .ensures .1) (sym (c .before .before .before .before .check-value .ensures .0) ∙ ap checked (c .before .before .enum-told .given .1))) (c .before .before .before .before .check-value .ensures .1) (λ h. absurd (true≢false (sym h))))
+    (λ c. type-refused (c .before .before .before .before .before .before .before .args .v .now) _ _ (c .before .before .before .before .before .before .before .args .out .now) (value-refused (c .before .before .before .before .before .before .before .args .v .now) _ _ (c .before .n .given .1) (c .before .before .before .check-value .ensures .0)))
+    (λ c. search needs)
+    (λ c. search needs)
+    (λ c. type-done (c .before .before .before .before .before .before .before .before .before .before .before .before .before .args .v .now) _ (c .before .before .before .before .before .before .before .before .before .before .before .before .before .args .out .now) _ _ (c .before .before .before .before .build .ensures)))

@@ -1,0 +1,55 @@
+-- `infer::write_signature` meets its contract.
+-- Assumes nothing.
+use Rattle.infer.proofs.write_signature.Statement.{statement}
+use Rattle.infer.proofs.write_signature.Tie as tie
+use Rattle.infer.proofs.write_signature.Reads as reads
+use Rattle.infer.proofs.write_signature.Lts as lts
+use Rattle.bounds.proofs.copy.Reads as copy-reads
+use Rattle.types.proofs.skip.Reads as skip-reads
+use Prim.Native.Nat.{_-_}
+use native.Mathlib.Omega.{arith}
+use mathlib.Core.Path.{sym}
+use Rattle.form.proofs.Numbers.{take-length}
+use Rattle.form.proofs.Whole.{bytes-of}
+use Rattle.infer.proofs.Signing.{SigInv, sig-start, sig-name, sig-type, sig-to, sig-part, sig-wide, sig-again, sig-result, sig-last, sig-last-room, sig-same, sig-done}
+use borrow.Author.Needs.{needs}
+
+abbrev Inv-loop : tie.InvT-loop
+Inv-loop v count out₀ left k at₀ to₀ i₀ out at to i = SigInv left v count k out₀ out at to i
+
+abbrev μ-loop : tie.MeasureT-loop
+μ-loop v count out₀ left k at₀ to₀ i₀ out at to i = count - i
+
+pub write-signature-spec : {M : Type 1} → statement M
+write-signature-spec =
+    tie.close
+    (tie.spec
+    Inv-loop
+    μ-loop
+    (λ c κs. search needs)
+    (λ c. sig-start _ _ _ _ _ (c .before .before .before .pre) (c .skip .ensures))
+    (λ c. omega (arith, sig-name (c .before .loop .inv) (c .loop-test .taken)))
+    (λ c. sig-name (c .before .loop .inv) (c .loop-test .taken))
+    (λ c. sig-name (c .before .loop .inv) (c .loop-test .taken))
+    (λ c. search needs)
+    (λ c κs. search needs)
+    (λ c. omega (arith, sig-type (c .before .before .before .loop .inv) (c .before .before .loop-test .taken) _ (c .skip2 .ensures)))
+    (λ c. search needs)
+    (λ c. search needs)
+    (λ c. sig-type (c .before .before .before .loop .inv) (c .before .before .loop-test .taken) _ (c .skip2 .ensures))
+    (λ c. sig-to (c .before .before .before .before .loop .inv))
+    (λ c. sig-to (c .before .before .before .before .loop .inv))
+    (λ c. search needs)
+    (λ c κs. sig-part (c .before .before .before .before .before .loop .inv) (c .before .before .before .before .loop-test .taken) _ (c .before .before .skip2 .ensures))
+    (λ c. omega (arith, sig-wide (c .before .before .before .before .before .before .before .before .loop .inv) (c .before .before .before .before .before .before .before .loop-test .taken) _ (c .before .before .before .before .before .skip2 .ensures)))
+    (λ c. search needs)
+    (λ c. omega (arith, c .before .before .before .before .before .before .before .loop-test .taken))
+    (λ c. sig-again (c .before .before .before .before .before .before .before .before .loop .inv) (c .before .before .before .before .before .before .before .loop-test .taken) _ (c .before .before .before .before .before .skip2 .ensures) (bytes-of (c .before .before .before .before .before .before .before .before .before .before .before .before .args .v .now) (c .before .before .before .before .before .before .before .before .before .before .before .shared-slice-known .given)) _ (c .before .before .copy .ensures))
+    (λ c. sym (take-length _ _ (sig-result (c .before .before .loop .inv))))
+    (λ c. sig-to (c .before .before .loop .inv))
+    (λ c. sig-to (c .before .before .loop .inv))
+    (λ c. search needs)
+    (λ c κs. sig-last (c .before .before .before .loop .inv))
+    (λ c. omega (arith, sig-last-room (c .before .before .before .before .before .before .loop .inv)))
+    (λ c. sig-same (c .before .before .before .before .before .before .loop .inv) (c .before .before .before .before .before .loop-test .left) (bytes-of (c .before .before .before .before .before .before .before .before .before .before .args .v .now) (c .before .before .before .before .before .before .before .before .before .shared-slice-known .given)) _ (c .before .before .copy2 .ensures))
+    (λ c. sig-done (c .before .before .before .before .before .before .loop .inv) (c .before .before .before .before .before .loop-test .left) (bytes-of (c .before .before .before .before .before .before .before .before .before .before .args .v .now) (c .before .before .before .before .before .before .before .before .before .shared-slice-known .given)) _ (c .before .before .copy2 .ensures)))

@@ -1,0 +1,146 @@
+-- The type of a value in either way, least or as the Rust infers it, and what the builders ask and leave.
+-- Assumes nothing.
+use mathlib.Core.Path.{_≡_}
+use mathlib.Core.Bool.{Bool, true, false, cond}
+use mathlib.Core.Option.{Option, none, some}
+use mathlib.Core.List.{List, _++_}
+use Prim.Native.Nat.{ℕ, _+_, _≤_}
+use lib.ListN.{length}
+use Rattle.form.specs.Limits.{mostBytes}
+use Rattle.form.specs.Trees.{any, null, Ty, leaf, Fields, Val, Vals, no-items, item, Entries}
+use Rattle.form.specs.Form.{enc, encFields, encTys, Wf, WfV, WfVals, WfEntries}
+use Rattle.form.specs.Answers.{onto}
+use Rattle.order.specs.Order.{fixed}
+use Rattle.order.specs.Size.{size, size-val, size-vals, size-entries}
+use Rattle.order.specs.Document.{conformsTo, eqTy, supertype}
+use Rattle.order.specs.Values.{types-of, are-data, hold-data, least-entries}
+use Rattle.order.specs.Inferred.{isData, leastType, typeOf, entry-types}
+use Rattle.values.specs.At.{Definition, definition, size-definition}
+use Rattle.infer.specs.declared.Data.{Data}
+use Rattle.infer.specs.declared.Data.the-variants as data-is
+
+-- ---- data values: the size, or no
+unfoldable pub dataBy : {X : Type 0} → (X → Bool) → (X → ℕ) → Option X → Data
+dataBy test sz (some x) = cond (test x) (data-is.Yes (sz x)) data-is.No
+dataBy test sz none = data-is.No
+
+-- k bytes in front
+abbrev pub grown : ℕ → Data → Data
+grown k (data-is.Yes n) = data-is.Yes (n + k)
+grown k data-is.No = data-is.No
+
+-- ---- the least type (true) or the inferred one
+abbrev pub typeBy : Bool → Val → Ty
+typeBy true v = leastType v
+typeBy false v = typeOf v
+
+abbrev pub fieldsBy : Bool → Entries → Fields
+fieldsBy true es = least-entries fixed es
+fieldsBy false es = entry-types es
+
+-- of two inferred types: they are equal, or the second conforms to the first
+abbrev pub keepsFirst : Bool → Ty → Ty → Bool
+keepsFirst true t u = eqTy t u
+keepsFirst false t u = conformsTo u t
+
+-- Two types into one. Least: their supertype. Inferred: the first where it is kept, otherwise Any.
+abbrev pub joined : Bool → Bool → Ty → Ty → Ty
+joined true equal t u = supertype t u
+joined false equal t u = cond (keepsFirst equal t u) t (leaf any)
+
+-- the type t with those of all items taken in, from the left
+unfoldable pub taken : Bool → Bool → Ty → Vals → Ty
+taken least equal t no-items = t
+taken least equal t (item v vs) = taken least equal (joined least equal t (typeBy least v)) vs
+
+-- one type of all items: Null where there is none, otherwise the first's with the others taken in
+unfoldable pub inner : Bool → Bool → Vals → Ty
+inner least equal no-items = leaf null
+inner least equal (item v vs) = taken least equal (typeBy least v) vs
+
+-- ---- what the builders ask: it was read and is well-formed, is data where the least type is asked, and fits the output and the spare place
+pub record Fits {X : Type 0} (wf : X → Type 0) (test : X → Bool) (want : X → ℕ) (least : Bool) (x : X) (room spare : ℕ) : Type 0 where
+  pub well : wf x
+  pub apt : least ≡ true → test x ≡ true
+  pub roomy : want x ≤ room
+  pub spared : want x ≤ spare
+  pub small : want x ≤ mostBytes
+
+unfoldable pub Fitting : {X : Type 0} → (X → Type 0) → (X → Bool) → (X → ℕ) → Bool → Option X → ℕ → ℕ → Type 0
+Fitting wf test want least (some x) room spare = Fits wf test want least x room spare
+Fitting wf test want least none room spare = ⊥
+
+-- of a value, of the entries of a context, of items, of a definition
+abbrev pub FitVal : Bool → Option Val → ℕ → ℕ → Type 0
+FitVal least v room spare = Fitting WfV isData size-val least v room spare
+
+abbrev pub FitEntries : Bool → Option Entries → ℕ → ℕ → Type 0
+FitEntries least es room spare = Fitting (λ es. WfEntries es 0) (hold-data fixed) size-entries least es room spare
+
+-- items want one byte more than they have: Null stands for none
+abbrev pub FitItems : Bool → Option Vals → ℕ → ℕ → Type 0
+FitItems least vs room spare = Fitting WfVals (are-data fixed) (λ vs. size-vals vs + 1) least vs room spare
+
+-- a function type behind its count is never longer than the definition
+unfoldable pub FitDefinition : Option Definition → ℕ → Type 0
+FitDefinition (some d) room = size-definition d ≤ room
+FitDefinition none room = ⊥
+
+-- ---- what they leave
+-- `bs` stand at the front
+unfoldable pub Starts : List ℕ → List ℕ → Type 0
+Starts bs s = s ≡ onto bs s
+
+-- `read` bytes were read, and `wrote` bytes stand at the front of the output; what stands behind them is free
+pub record Wrote {X : Type 0} (sz : X → ℕ) (text : X → List ℕ) (x : X) (old new : List ℕ) (read wrote : ℕ) : Type 0 where
+  pub all : read ≡ sz x
+  pub long : wrote ≡ length (text x)
+  pub out : Starts (text x) new
+  pub kept : length new ≡ length old
+
+unfoldable pub Typed : {X : Type 0} → (X → ℕ) → (X → List ℕ) → Option X → List ℕ → List ℕ → ℕ → ℕ → Type 0
+Typed sz text (some x) old new read wrote = Wrote sz text x old new read wrote
+Typed sz text none old new read wrote = Unit {0}
+
+-- the bytes of a value's type, of a context's entries, of the one type of all items, of a definition's function type behind its count
+abbrev pub typeText : Bool → Val → List ℕ
+typeText least v = enc (typeBy least v)
+
+abbrev pub fieldsText : Bool → Entries → List ℕ
+fieldsText least es = encFields (fieldsBy least es)
+
+abbrev pub innerText : Bool → Bool → Vals → List ℕ
+innerText least equal vs = enc (inner least equal vs)
+
+abbrev pub signatureText : Definition → List ℕ
+signatureText (definition r ps) = encTys (types-of ps) ++ enc r
+
+-- ---- two types, n bytes and m bytes behind them, joined at the front of the output
+pub record Side (t u : Ty) (s : List ℕ) (n m spare : ℕ) : Type 0 where
+  pub first : n ≡ size t
+  pub second : m ≡ size u
+  pub inside : n + m ≤ length s
+  pub spared : n + m ≤ spare
+  pub small : n + m ≤ mostBytes
+  pub wf-first : Wf t
+  pub wf-second : Wf u
+
+unfoldable pub Sides : Option Ty → Option Ty → List ℕ → ℕ → ℕ → ℕ → Type 0
+Sides (some t) (some u) s n m spare = Side t u s n m spare
+Sides (some t) none s n m spare = ⊥
+Sides none y s n m spare = ⊥
+
+unfoldable pub Kept : Bool → Option Ty → Option Ty → Bool → Type 0
+Kept equal (some t) (some u) r = r ≡ keepsFirst equal t u
+Kept equal (some t) none r = Unit {0}
+Kept equal none y r = Unit {0}
+
+pub record Stands (t : Ty) (old new : List ℕ) (n : ℕ) : Type 0 where
+  pub long : n ≡ length (enc t)
+  pub out : Starts (enc t) new
+  pub kept : length new ≡ length old
+
+unfoldable pub Joined : Bool → Bool → Option Ty → Option Ty → List ℕ → List ℕ → ℕ → Type 0
+Joined least equal (some t) (some u) old new r = Stands (joined least equal t u) old new r
+Joined least equal (some t) none old new r = Unit {0}
+Joined least equal none y old new r = Unit {0}

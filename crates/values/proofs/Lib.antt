@@ -1,0 +1,5 @@
+pub mod Reading
+pub mod Holding
+pub mod InStep
+pub mod Merging
+pub mod Calling

@@ -1,0 +1,317 @@
+-- What stands at the front of the bytes of a value says of its parts, that the names of a context ascend, and that it ends within the bytes.
+-- Assumes nothing.
+use Prim.Native.Nat.{ℕ, zero, suc, _+_, _-_, _<_, _≤_}
+use mathlib.Core.Path.{_≡_, refl, sym, ap, subst, _∙_}
+use mathlib.Core.Bool.{Bool}
+use mathlib.Core.Option.{Option, none, some}
+use mathlib.Core.List.{List, [], _∷_}
+use native.Mathlib.Omega.{arith}
+use native.Mathlib.Numerals.{add-one}
+use lib.ListN.{length, getD, take, drop, length-drop}
+use lib.Seq.{drop-drop}
+use lib.Dec.{eqb}
+use Rattle.form.specs.Trees.{Ty, Params, no-parameters, parameter, Leaf, l-null, l-boolean, l-number, l-string, l-temporal, Val, v-leaf, v-range, v-list, v-context, v-function, v-built-in, v-type, v-irrelevant, Vals, no-items, item, Entries, no-entries, entry, decode-temporal}
+use Rattle.form.specs.Limits.{nameWidth}
+use Rattle.form.specs.Form.{num, numAt, levelV}
+use Rattle.form.specs.Walks.{walkOf}
+use Rattle.form.specs.declared.Walk.{Walk}
+use Rattle.form.specs.declared.Walk.the-variants as walk
+use Rattle.form.specs.declared.Fault.{Fault}
+use Rattle.form.specs.Read.{Got, got, bad, front, andThen, readRun, readNamed, readT, readV, readVals, readEntries, readParams, ascending, anyOrder}
+use Rattle.form.proofs.Exact.{got-parts, then-parts}
+use Rattle.form.proofs.Nodes.{item-parts, named-parts, NodeV, nNull, nBoolean, nNumber, nString, nTemporal, nRangeV, nListV, nContextV, nDefinition, nBuiltIn, nType, nIrrelevant, ValueRead, value-read}
+use Rattle.order.specs.Size.{size, size-params, size-leaf, size-val, size-vals, size-entries}
+use Rattle.types.specs.At.{seen, typeAt}
+use Rattle.types.proofs.Reading as types
+use Rattle.types.proofs.Reading.{seen-got, got-seen}
+use Rattle.values.specs.At.{valueAt, itemsAt, entriesAt, Definition, definition, size-definition, definitionAt, sizeAtV}
+
+-- ---- the sizes that the reader gives are those of the trees, and all ends within the bytes
+pub record Told {X : Type 0} (sz : X → ℕ) (s : List ℕ) (x : X) (n : ℕ) : Type 0 where
+  pub sized : n ≡ sz x
+  pub inside : n ≤ length s
+
+told-as : {X : Type 0} {sz : X → ℕ} {s : List ℕ} {x y : X} {n m : ℕ} → x ≡ y → n ≡ m → Told sz s x n → Told sz s y m
+told-as p q f = rw (← p, ← q) f
+
+abbrev Tells : {X : Type 0} → (X → ℕ) → (List ℕ → Got X) → Type 0
+Tells {X} sz read = (s : List ℕ) (x : X) (n : ℕ) → read s ≡ got x n → Told sz s x n
+
+type-told : (l : ℕ) → Tells size (readT l)
+type-told l s t n e = let F = types.type-told l s t n e in record { sized = F .sized; inside = F .inside }
+
+params-told : (l c least : ℕ) → Tells size-params (readParams (readT l) c least)
+unfolding readNamed size-params
+params-told l zero least s x n e = got-parts no-parameters x 0 n e (λ p q. told-as p q (record { sized = refl; inside = omega arith }))
+params-told l (suc c) least s z n e =
+    named-parts no-parameters parameter anyOrder (readT l) c least s z n e (λ w h x m px y j py pz pn.
+    let F = type-told l (drop nameWidth s) x m px in
+    let G = params-told l c 0 (drop m (drop nameWidth s)) y j py in
+    told-as pz refl (record { sized = omega (arith, F .sized, G .sized); inside = omega (arith, simp length-drop at (F .inside), simp (length-drop, length-drop) at (G .inside)) }))
+
+module _ (child : List ℕ → Got Val) (ih : Tells size-val child) where
+  items-told : (c : ℕ) → Tells size-vals (readVals child c)
+  unfolding readRun size-val
+  items-told zero s x n e = got-parts no-items x 0 n e (λ p q. told-as p q (record { sized = refl; inside = omega arith }))
+  items-told (suc c) s z n e =
+      item-parts no-items item child c s z n e (λ x m px y j py pz pn.
+      let F = ih s x m px in
+      let G = items-told c (drop m s) y j py in
+      told-as pz refl (record { sized = omega (arith, F .sized, G .sized); inside = omega (arith, F .inside, simp length-drop at (G .inside)) }))
+
+  entries-told : (c least : ℕ) → Tells size-entries (readEntries child c least)
+  unfolding readNamed size-val
+  entries-told zero least s x n e = got-parts no-entries x 0 n e (λ p q. told-as p q (record { sized = refl; inside = omega arith }))
+  entries-told (suc c) least s z n e =
+      named-parts no-entries entry ascending child c least s z n e (λ w h x m px y j py pz pn.
+      let F = ih (drop nameWidth s) x m px in
+      let G = entries-told c (num (take nameWidth s) + 1) (drop m (drop nameWidth s)) y j py in
+      told-as pz refl (record { sized = omega (arith, F .sized, G .sized); inside = omega (arith, simp length-drop at (F .inside), simp (length-drop, length-drop) at (G .inside)) }))
+
+value-step : (left : ℕ) (s : List ℕ) → Tells size-val (readV left) → 0 < length s → (v : Val) (n : ℕ) → NodeV left s v n → Told size-val s v n
+unfolding size-val
+value-step left s ih h v n (nNull c k x) = record { sized = refl; inside = k }
+value-step left s ih h v n (nBoolean c k x) = record { sized = refl; inside = k }
+value-step left s ih h v n (nNumber c k) = record { sized = refl; inside = k }
+value-step left s ih h v n (nString c k) = record { sized = refl; inside = k }
+value-step left s ih h v n (nTemporal c d k) = record { sized = refl; inside = k }
+value-step left s ih h v n (nRangeV c k x y a m p b j q) =
+    let F = ih (drop 3 s) a m p in
+    let G = ih (drop m (drop 3 s)) b j q in
+    record { sized = omega (arith, F .sized, G .sized); inside = omega (arith, simp length-drop at (F .inside), simp (length-drop, length-drop) at (G .inside)) }
+value-step left s ih h v n (nListV c k vs m p) = let F = items-told (readV left) ih (numAt 2 1 s) (drop 3 s) vs m p in record { sized = omega (arith, F .sized); inside = omega (arith, simp length-drop at (F .inside)) }
+value-step left s ih h v n (nContextV c k es m p) = let F = entries-told (readV left) ih (numAt 2 1 s) 0 (drop 3 s) es m p in record { sized = omega (arith, F .sized); inside = omega (arith, simp length-drop at (F .inside)) }
+value-step left s ih h v n (nDefinition c k t m p ps j q) =
+    let F = type-told left (drop 4 s) t m p in
+    let G = params-told left (getD s 1 0) 0 (drop m (drop 4 s)) ps j q in
+    record { sized = omega (arith, F .sized, G .sized); inside = omega (arith, simp length-drop at (F .inside), simp (length-drop, length-drop) at (G .inside)) }
+value-step left s ih h v n (nBuiltIn c k x) = record { sized = refl; inside = k }
+value-step left s ih h v n (nType c t m p) = let F = type-told left (drop 1 s) t m p in record { sized = omega (arith, F .sized); inside = omega (arith, simp length-drop at (F .inside)) }
+value-step left s ih h v n (nIrrelevant c) = record { sized = refl; inside = omega arith }
+
+pub value-told : (l : ℕ) → Tells size-val (readV l)
+value-told zero s v n e = absurd (let h = value-read zero s v n e .some-level in omega arith)
+value-told (suc l) s v n e =
+    let R = value-read (suc l) s v n e in
+    let z : suc l - 1 ≡ l = omega arith in
+    value-step l s (value-told l) (R .some-byte) v n (subst (λ (k : ℕ). NodeV k s v n) z (R .node))
+
+-- ---- a value that was read, by its command: what its parts are
+pub data IsVal (l : ℕ) (s : List ℕ) : Val → Type 0 where
+  is-null : (x : ℕ) → getD s 0 0 ≡ 0 → IsVal l s (v-leaf (l-null x))
+  is-boolean : (x : Bool) → getD s 0 0 ≡ 1 → IsVal l s (v-leaf (l-boolean x))
+  is-number : (x : ℕ) → getD s 0 0 ≡ 2 → IsVal l s (v-leaf (l-number x))
+  is-string : (x : ℕ) → getD s 0 0 ≡ 3 → IsVal l s (v-leaf (l-string x))
+  is-temporal : (x : ℕ) → 4 ≤ getD s 0 0 → getD s 0 0 < 9 → IsVal l s (v-leaf (l-temporal (decode-temporal (getD s 0 0 - 4)) x))
+  is-range : (i j : ℕ) (a b : Val) → getD s 0 0 ≡ 9 → 3 ≤ length s → itemsAt (l - 1) 2 (drop 3 s) ≡ some (item a (item b no-items)) → IsVal l s (v-range i j a b)
+  is-list : (vs : Vals) → getD s 0 0 ≡ 10 → 3 ≤ length s → itemsAt (l - 1) (numAt 2 1 s) (drop 3 s) ≡ some vs → IsVal l s (v-list vs)
+  is-context : (es : Entries) → getD s 0 0 ≡ 11 → 3 ≤ length s → entriesAt (l - 1) (numAt 2 1 s) 0 (drop 3 s) ≡ some es → IsVal l s (v-context es)
+  is-definition : (r : Ty) (ps : Params) (b : ℕ) → getD s 0 0 ≡ 12 → 4 ≤ length s → definitionAt (l - 1) (getD s 1 0) (drop 4 s) ≡ some (definition r ps) → IsVal l s (v-function ps b r)
+  is-built-in : (x : ℕ) → getD s 0 0 ≡ 13 → IsVal l s (v-built-in x)
+  is-type : (t : Ty) → getD s 0 0 ≡ 14 → typeAt (l - 1) (drop 1 s) ≡ some t → IsVal l s (v-type t)
+  is-irrelevant : getD s 0 0 ≡ 15 → IsVal l s v-irrelevant
+
+then-got : {X Y Z : Type 0} (g : X → Y → Z) (s : List ℕ) (more : List ℕ → Got Y) (r : Got X) (x : X) (m : ℕ) (y : Y) (n : ℕ) → r ≡ got x m → more (drop m s) ≡ got y n → andThen g 0 s more r ≡ got (g x y) (0 + m + n)
+unfolding andThen front
+then-got g s more r x m y n p q = rw (p, q)
+
+-- two values, one behind the other, are a run of two
+two-items : (l : ℕ) (s : List ℕ) (a b : Val) (m n : ℕ) → readV l s ≡ got a m → readV l (drop m s) ≡ got b n → itemsAt l 2 s ≡ some (item a (item b no-items))
+unfolding itemsAt readRun
+two-items l s a b m n p q =
+    got-seen (readVals (readV l) 2 s) (item a (item b no-items)) (0 + m + (0 + n + 0))
+    (then-got item s (readVals (readV l) 1) (readV l s) a m (item b no-items) (0 + n + 0) p
+    (then-got item (drop m s) (readVals (readV l) 0) (readV l (drop m s)) b n no-items 0 q refl))
+
+node-val : (l : ℕ) (s : List ℕ) (v : Val) (n : ℕ) → NodeV (l - 1) s v n → IsVal l s v
+unfolding itemsAt entriesAt definitionAt typeAt
+node-val l s v n (nNull c k x) = is-null (getD s 1 0) c
+node-val l s v n (nBoolean c k x) = is-boolean (eqb (getD s 1 0) 1) c
+node-val l s v n (nNumber c k) = is-number (numAt 8 1 s) c
+node-val l s v n (nString c k) = is-string (numAt nameWidth 1 s) c
+node-val l s v n (nTemporal c d k) = is-temporal (numAt 8 1 s) c d
+node-val l s v n (nRangeV c k x y a m p b j q) = is-range (getD s 1 0) (getD s 2 0) a b c k (two-items (l - 1) (drop 3 s) a b m j p q)
+node-val l s v n (nListV c k vs m p) = is-list vs c k (got-seen (readVals (readV (l - 1)) (numAt 2 1 s) (drop 3 s)) vs m p)
+node-val l s v n (nContextV c k es m p) = is-context es c k (got-seen (readEntries (readV (l - 1)) (numAt 2 1 s) 0 (drop 3 s)) es m p)
+node-val l s v n (nDefinition c k t m p ps j q) =
+    is-definition t ps (numAt 2 2 s) c k
+    (got-seen (andThen definition 0 (drop 4 s) (readParams (readT (l - 1)) (getD s 1 0) 0) (readT (l - 1) (drop 4 s))) (definition t ps) (0 + m + j)
+    (then-got definition (drop 4 s) (readParams (readT (l - 1)) (getD s 1 0) 0) (readT (l - 1) (drop 4 s)) t m ps j p q))
+node-val l s v n (nBuiltIn c k x) = is-built-in (getD s 1 0) c
+node-val l s v n (nType c t m p) = is-type t c (got-seen (readT (l - 1) (drop 1 s)) t m p)
+node-val l s v n (nIrrelevant c) = is-irrelevant c
+
+module _ (l : ℕ) (s : List ℕ) (v : Val) (q : valueAt l s ≡ some v) where
+  opened : {P : Type 0} → ((n : ℕ) → readV l s ≡ got v n → P) → P
+  unfolding valueAt
+  opened k = seen-got (readV l s) v q k
+
+  pub some-byte : 0 < length s
+  some-byte = opened (λ n e. value-read l s v n e .some-byte)
+
+  pub some-level : 0 < l
+  some-level = opened (λ n e. value-read l s v n e .some-level)
+
+  pub v-inside : size-val v ≤ length s
+  v-inside = opened (λ n e. let F = value-told l s v n e in omega (arith, F .sized, F .inside))
+
+  pub is-val : IsVal l s v
+  is-val = opened (λ n e. node-val l s v n (value-read l s v n e .node))
+
+-- ---- items
+pub record Item (l n : ℕ) (s : List ℕ) (vs : Vals) : Type 0 where
+  pub v : Val
+  pub more : Vals
+  pub first : valueAt l s ≡ some v
+  pub second : itemsAt l n (drop (size-val v) s) ≡ some more
+  pub is : vs ≡ item v more
+
+pub next-item : (l n : ℕ) (s : List ℕ) (vs : Vals) → itemsAt l (suc n) s ≡ some vs → Item l n s vs
+unfolding itemsAt valueAt
+next-item l n s vs e =
+    seen-got (readVals (readV l) (suc n) s) vs e (λ m r.
+    item-parts no-items item (readV l) n s vs m r (λ x k px y j py pz pn.
+    let F = value-told l s x k px in
+    record {
+      v = x;
+      more = y;
+      first = got-seen (readV l s) x k px;
+      second = subst (λ (i : ℕ). seen (readVals (readV l) n (drop i s)) ≡ some y) (F .sized) (got-seen (readVals (readV l) n (drop k s)) y j py);
+      is = sym pz;
+    }))
+
+pub no-item : (l : ℕ) (s : List ℕ) (vs : Vals) → itemsAt l 0 s ≡ some vs → vs ≡ no-items
+unfolding itemsAt seen readRun
+no-item l s vs e = cc
+
+pub items-inside : (l n : ℕ) (s : List ℕ) (vs : Vals) → itemsAt l n s ≡ some vs → size-vals vs ≤ length s
+unfolding itemsAt
+items-inside l n s vs e = seen-got (readVals (readV l) n s) vs e (λ m r. let F = items-told (readV l) (value-told l) n s vs m r in omega (arith, F .sized, F .inside))
+
+-- ---- entries
+pub record Entry (l n least : ℕ) (s : List ℕ) (es : Entries) : Type 0 where
+  pub name : ℕ
+  pub v : Val
+  pub more : Entries
+  pub two : nameWidth ≤ length s
+  pub named : name ≡ num (take nameWidth s)
+  pub above : least ≤ name
+  pub first : valueAt l (drop nameWidth s) ≡ some v
+  pub second : entriesAt l n (suc name) (drop (size-val v) (drop nameWidth s)) ≡ some more
+  pub is : es ≡ entry name v more
+
+pub next-entry : (l n least : ℕ) (s : List ℕ) (es : Entries) → entriesAt l (suc n) least s ≡ some es → Entry l n least s es
+unfolding entriesAt valueAt
+next-entry l n least s es e =
+    seen-got (readEntries (readV l) (suc n) least s) es e (λ m r.
+    named-parts no-entries entry ascending (readV l) n least s es m r (λ w h x k px y j py pz pn.
+    let F = value-told l (drop nameWidth s) x k px in
+    let p : seen (readEntries (readV l) n (num (take nameWidth s) + 1) (drop k (drop nameWidth s))) ≡ some y = got-seen (readEntries (readV l) n (num (take nameWidth s) + 1) (drop k (drop nameWidth s))) y j py in
+    record {
+      name = num (take nameWidth s);
+      v = x;
+      more = y;
+      two = w;
+      named = refl;
+      above = h;
+      first = got-seen (readV l (drop nameWidth s)) x k px;
+      second = subst (λ (i : ℕ). seen (readEntries (readV l) n (suc (num (take nameWidth s))) (drop i (drop nameWidth s))) ≡ some y) (F .sized) (rw add-one at p);
+      is = sym pz;
+    }))
+
+pub no-entry : (l least : ℕ) (s : List ℕ) (es : Entries) → entriesAt l 0 least s ≡ some es → es ≡ no-entries
+unfolding entriesAt seen readNamed
+no-entry l least s es e = cc
+
+pub entries-inside : (l n least : ℕ) (s : List ℕ) (es : Entries) → entriesAt l n least s ≡ some es → size-entries es ≤ length s
+unfolding entriesAt
+entries-inside l n least s es e = seen-got (readEntries (readV l) n least s) es e (λ m r. let F = entries-told (readV l) (value-told l) n least s es m r in omega (arith, F .sized, F .inside))
+
+-- ---- a definition: the result type, and the parameters behind it
+-- n parameters, in any order
+unfoldable pub paramsAt : ℕ → ℕ → List ℕ → Option Params
+paramsAt l n s = seen (readParams (readT l) n 0 s)
+
+pub record Parts (l n : ℕ) (s : List ℕ) (d : Definition) : Type 0 where
+  pub r : Ty
+  pub ps : Params
+  pub first : typeAt l s ≡ some r
+  pub second : paramsAt l n (drop (size r) s) ≡ some ps
+  pub is : d ≡ definition r ps
+
+pub definition-parts : (l n : ℕ) (s : List ℕ) (d : Definition) → definitionAt l n s ≡ some d → Parts l n s d
+unfolding definitionAt typeAt paramsAt
+definition-parts l n s d e =
+    seen-got (andThen definition 0 s (readParams (readT l) n 0) (readT l s)) d e (λ m r.
+    then-parts definition 0 s (readParams (readT l) n 0) (readT l s) d m r (λ t k pt ps j pp pz pn.
+    let F = type-told l s t k pt in
+    record {
+      r = t;
+      ps = ps;
+      first = got-seen (readT l s) t k pt;
+      second = subst (λ (i : ℕ). seen (readParams (readT l) n 0 (drop i s)) ≡ some ps) (F .sized) (got-seen (readParams (readT l) n 0 (drop k s)) ps j pp);
+      is = sym pz;
+    }))
+
+pub record Parameter (l n : ℕ) (s : List ℕ) (ps : Params) : Type 0 where
+  pub name : ℕ
+  pub t : Ty
+  pub more : Params
+  pub two : nameWidth ≤ length s
+  pub first : typeAt l (drop nameWidth s) ≡ some t
+  pub second : paramsAt l n (drop (size t) (drop nameWidth s)) ≡ some more
+  pub is : ps ≡ parameter name t more
+
+pub next-parameter : (l n : ℕ) (s : List ℕ) (ps : Params) → paramsAt l (suc n) s ≡ some ps → Parameter l n s ps
+unfolding paramsAt typeAt
+next-parameter l n s ps e =
+    seen-got (readParams (readT l) (suc n) 0 s) ps e (λ m r.
+    named-parts no-parameters parameter anyOrder (readT l) n 0 s ps m r (λ w h x k px y j py pz pn.
+    let F = type-told l (drop nameWidth s) x k px in
+    record {
+      name = num (take nameWidth s);
+      t = x;
+      more = y;
+      two = w;
+      first = got-seen (readT l (drop nameWidth s)) x k px;
+      second = subst (λ (i : ℕ). seen (readParams (readT l) n 0 (drop i (drop nameWidth s))) ≡ some y) (F .sized) (got-seen (readParams (readT l) n 0 (drop k (drop nameWidth s))) y j py);
+      is = sym pz;
+    }))
+
+pub no-parameter : (l : ℕ) (s : List ℕ) (ps : Params) → paramsAt l 0 s ≡ some ps → ps ≡ no-parameters
+unfolding paramsAt seen readNamed
+no-parameter l s ps e = cc
+
+pub definition-inside : (l n : ℕ) (s : List ℕ) (d : Definition) → definitionAt l n s ≡ some d → size-definition d ≤ length s
+unfolding definitionAt
+definition-inside l n s d e =
+    seen-got (andThen definition 0 s (readParams (readT l) n 0) (readT l s)) d e (λ m r.
+    then-parts definition 0 s (readParams (readT l) n 0) (readT l s) d m r (λ t k pt ps j pp pz pn.
+    let F = type-told l s t k pt in
+    let G = params-told l n 0 (drop k s) ps j pp in
+    subst (λ d. size-definition d ≤ length s) pz (omega (arith, F .sized, F .inside, G .sized, simp length-drop at (G .inside)))))
+
+-- ---- what `skip` answers
+skip-got : (l : ℕ) (s : List ℕ) (r : Got Val) → readV l s ≡ r → (w : Walk) (n d : ℕ) → w ≡ walk.End n d → w ≡ walkOf levelV r → n ≡ sizeAtV (seen r)
+unfolding walkOf seen sizeAtV
+skip-got l s (got v m) e w n d p q =
+    let x : n ≡ m = cc in
+    x ∙ value-told l s v m e .sized
+skip-got l s (bad f) e w n d p q = absurd (let z : _≡_ {A = ℕ} 0 1 = cc in omega arith)
+
+pub skip-end : (l : ℕ) (s : List ℕ) (w : Walk) (n d : ℕ) → w ≡ walk.End n d → w ≡ walkOf levelV (readV l s) → n ≡ sizeAtV (valueAt l s)
+unfolding valueAt
+skip-end l s w n d p q = skip-got l s (readV l s) refl w n d p q
+
+skip-bad : (r : Got Val) (w : Walk) (f : Fault) → w ≡ walk.Fault f → w ≡ walkOf levelV r → 0 ≡ sizeAtV (seen r)
+unfolding walkOf seen sizeAtV
+skip-bad (got v m) w f p q = absurd (let z : _≡_ {A = ℕ} 0 1 = cc in omega arith)
+skip-bad (bad g) w f p q = refl
+
+pub skip-fault : (l : ℕ) (s : List ℕ) (w : Walk) (f : Fault) → w ≡ walk.Fault f → w ≡ walkOf levelV (readV l s) → 0 ≡ sizeAtV (valueAt l s)
+unfolding valueAt
+skip-fault l s w f p q = skip-bad (readV l s) w f p q
+
+pub size-got : (r : Option Val) (v : Val) → r ≡ some v → sizeAtV r ≡ size-val v
+unfolding sizeAtV
+size-got r v e = ap sizeAtV e

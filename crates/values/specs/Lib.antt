@@ -1,0 +1,3 @@
+pub mod At
+pub mod Held
+pub mod Calls

@@ -1,0 +1,216 @@
+// values.rs over the byte form: a value held to a type, in one pass over both.
+ghost use mathlib.Core.Path.{_≡_};
+ghost use Rattle.form.specs.Answers.{verdict};
+ghost use Rattle.types.specs.At.{typeAt, fieldsAt, sigAt, Ok};
+ghost use Rattle.values.specs.At.{valueAt, itemsAt, entriesAt, definitionAt, sizeAtV};
+ghost use Rattle.values.specs.Held.{held, heldItems, heldEntries, heldDefinition};
+ghost use Rattle.values.specs.Calls.{isConformant};
+use form::Checked;
+use form::NAME_WIDTH;
+use form::TYPE_LEVELS;
+use form::Verdict;
+use form::Walk;
+use types::Conform;
+
+// The size of the value at the front, 0 where there is none.
+pub fn skip(s: &[u8], left: usize) -> usize
+    ensures { λ r. ⌜ r ≡ sizeAtV (valueAt left (now (s .entry))) ⌝ }
+{
+    match form::walk_value(s, left) {
+        Walk::End { size, level: _ } => size,
+        Walk::Fault(_) => 0,
+    }
+}
+
+// Whether the value at the front of `v` conforms to the type at the front of `t`: one pass over both.
+fn conforms(v: &[u8], t: &[u8], left: usize) -> Conform
+    requires { ⌜ Ok (valueAt left (now v)) ⌝ }
+    requires { ⌜ Ok (typeAt left (now t)) ⌝ }
+    ensures { λ r. ⌜ r ≡ held (valueAt left (now (v .entry))) (typeAt left (now (t .entry))) ⌝ }
+{
+    let c = v[0];
+    let d = t[0];
+    if d == 0x20 {
+        return Conform::Yes {
+            a: skip(v, left),
+            b: 1,
+        };
+    }
+    match c {
+        0x00 => Conform::Yes {
+            a: 2,
+            b: types::skip(t, left),
+        },
+        0x01..=0x08 => {
+            if d != c + 0x20 {
+                return Conform::No;
+            }
+            Conform::Yes {
+                a: form::width(c) + 1,
+                b: 1,
+            }
+        }
+        0x09 => {
+            if d != 0x2B {
+                return Conform::No;
+            }
+            types::grow(
+                conform_items(&v[3..], 2, &t[1..], left - 1),
+                3,
+                1,
+                v.len(),
+                t.len(),
+            )
+        }
+        0x0A => {
+            if d != 0x2A {
+                return Conform::No;
+            }
+            types::grow(
+                conform_items(&v[3..], form::word_at(v, 1), &t[1..], left - 1),
+                3,
+                1,
+                v.len(),
+                t.len(),
+            )
+        }
+        0x0B => {
+            if d != 0x2C {
+                return Conform::No;
+            }
+            types::grow(
+                conform_entries(
+                    &v[3..],
+                    form::word_at(v, 1),
+                    &t[3..],
+                    form::word_at(t, 1),
+                    left - 1,
+                ),
+                3,
+                3,
+                v.len(),
+                t.len(),
+            )
+        }
+        0x0C => {
+            if d != 0x2D {
+                return Conform::No;
+            }
+            let n = v[1];
+            let m = t[1];
+            if n != m {
+                return Conform::No;
+            }
+            types::grow(
+                conform_definition(&v[4..], &t[2..], form::wide(n), left - 1),
+                4,
+                2,
+                v.len(),
+                t.len(),
+            )
+        }
+        _ => Conform::No,
+    }
+}
+
+// Whether each of n values conforms to the one type.
+fn conform_items(v: &[u8], n: usize, t: &[u8], left: usize) -> Conform
+    requires { ⌜ Ok (itemsAt left n (now v)) ⌝ }
+    requires { ⌜ Ok (typeAt left (now t)) ⌝ }
+    ensures { λ r. ⌜ r ≡ heldItems (itemsAt left n (now (v .entry))) (typeAt left (now (t .entry))) ⌝ }
+{
+    let mut at: usize = 0;
+    let mut i: usize = 0;
+    while i < n {
+        match conforms(&v[at..], t, left) {
+            Conform::Yes { a: x, b: _ } => at = at + x,
+            Conform::No => return Conform::No,
+        }
+        i += 1;
+    }
+    Conform::Yes {
+        a: at,
+        b: types::skip(t, left),
+    }
+}
+
+// n entries of a context against m of a type: the two ascending lists of names are taken in step. An entry that the type lacks is passed over.
+fn conform_entries(v: &[u8], n: usize, t: &[u8], m: usize, left: usize) -> Conform
+    requires { ⌜ Ok (entriesAt left n 0 (now v)) ⌝ }
+    requires { ⌜ Ok (fieldsAt left m 0 (now t)) ⌝ }
+    ensures { λ r. ⌜ r ≡ heldEntries (entriesAt left n 0 (now (v .entry))) (fieldsAt left m 0 (now (t .entry))) ⌝ }
+{
+    let mut at: usize = 0;
+    let mut i: usize = 0;
+    let mut bt: usize = 0;
+    let mut j: usize = 0;
+    while i < n {
+        let x = form::name_at(v, at);
+        let y = types::peek(t, bt, j, m);
+        let p = at + NAME_WIDTH;
+        if y < x {
+            return Conform::No;
+        }
+        if x < y {
+            at = p + skip(&v[p..], left);
+            i += 1;
+            continue;
+        }
+        let q = bt + NAME_WIDTH;
+        match conforms(&v[p..], &t[q..], left) {
+            Conform::Yes { a: u, b: w } => {
+                at = p + u;
+                bt = q + w;
+            }
+            Conform::No => return Conform::No,
+        }
+        i += 1;
+        j += 1;
+    }
+    if j < m {
+        return Conform::No;
+    }
+    Conform::Yes { a: at, b: bt }
+}
+
+// A function definition from its result type on, against a function type from its parameters on: each own parameter to the target's, result to result.
+fn conform_definition(v: &[u8], t: &[u8], count: usize, left: usize) -> Conform
+    requires { ⌜ Ok (definitionAt left count (now v)) ⌝ }
+    requires { ⌜ Ok (sigAt left count (now t)) ⌝ }
+    ensures { λ r. ⌜ r ≡ heldDefinition (definitionAt left count (now (v .entry))) (sigAt left count (now (t .entry))) ⌝ }
+{
+    let mut at = types::skip(v, left);
+    let mut bt: usize = 0;
+    let mut i: usize = 0;
+    while i < count {
+        let p = at + NAME_WIDTH;
+        match types::conforms(&v[p..], &t[bt..], left) {
+            Conform::Yes { a: x, b: y } => {
+                at = p + x;
+                bt = bt + y;
+            }
+            Conform::No => return Conform::No,
+        }
+        i += 1;
+    }
+    match types::conforms(v, &t[bt..], left) {
+        Conform::Yes { a: _, b: y } => Conform::Yes { a: at, b: bt + y },
+        Conform::No => Conform::No,
+    }
+}
+
+// `Value::is_conformant`.
+pub fn is_conformant(v: &[u8], t: &[u8]) -> Verdict
+    ensures { λ r. ⌜ verdict r ≡ isConformant (now (v .entry)) (now (t .entry)) ⌝ }
+{
+    if let Checked::Refused(n) = form::check_value(v) {
+        return Verdict::Refused(n);
+    }
+    if let Checked::Refused(n) = form::check_type(t) {
+        return Verdict::Refused(n);
+    }
+    match conforms(v, t, TYPE_LEVELS) {
+        Conform::Yes { a: _, b: _ } => Verdict::Yes,
+        Conform::No => Verdict::No,
+    }
+}

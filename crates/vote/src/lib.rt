@@ -1,0 +1,1 @@
+// The statements of the vote: specs/Vote.antt. There is no code.
