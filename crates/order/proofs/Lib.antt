@@ -15,4 +15,5 @@ pub mod Theorems
 pub mod Least
 pub mod LeastSize
 pub mod TypeOf
+pub mod DataDmn
 pub mod ValueTheorems

@@ -338,6 +338,7 @@ fn run_two(call: usize, a: &[u8], b: &[u8]) -> Answer {
     match call {
         3 => judged(types::is_conformant(a, b)),
         4 => judged(types::instance_of(a, b)),
+        10 => judged(values::is_conformant(a, b)),
         _ => Answer::None,
     }
 }
@@ -454,12 +455,22 @@ fn holds(out: &[u8], want: &[u8]) -> bool {
     }
 }
 
-// Runs a call that builds, of one type or two, with the scratch and the output that are lent.
+// Runs a call that builds a value's type.
+fn type_value(call: usize, v: &[u8], scratch: &mut [u8], out: &mut [u8]) -> Answer {
+    match call {
+        11 => wrote(infer::least_type(v, scratch, out)),
+        12 => wrote(infer::type_of(v, scratch, out)),
+        _ => Answer::None,
+    }
+}
+
+// Runs a call that builds, of one argument or two, with the scratch and the output that are lent.
 fn build(call: usize, a: &[u8], b: &[u8], scratch: &mut [u8], out: &mut [u8]) -> Answer {
     match call {
         5 => wrote(bounds::common_supertype(a, b, scratch, out)),
         6 => wrote(bounds::common_subtype(a, b, scratch, out)),
         7 => wrote(bounds::reduced(a, out)),
+        11 | 12 => type_value(call, a, scratch, out),
         _ => Answer::None,
     }
 }
@@ -608,13 +619,28 @@ fn reduction(line: &[u8], call: usize, room: &mut [u8]) -> Verdict {
     }
 }
 
+// A case of a value's type: `ANSWER ARG SCRATCH ROOM [OUT]`.
+fn typing(line: &[u8], call: usize, room: &mut [u8]) -> Verdict {
+    let first = field_end(line, 0);
+    let want = expected(&line[..first]);
+    let a = take_field(line, begin(first), room);
+    let n = take_sizes(line, a);
+    let o = take_output(line, n.at, room);
+    if is_whole(line, o) {
+        lend(call, want, room, a.used, a.used, o.used, n.lent)
+    } else {
+        Verdict::Unreadable
+    }
+}
+
 // A case, by its call.
 fn case(line: &[u8], call: usize, room: &mut [u8]) -> Verdict {
     match call {
         1 | 2 | 8 | 9 => one(line, call, room),
-        3 | 4 => two(line, call, room),
+        3 | 4 | 10 => two(line, call, room),
         5 | 6 => bound(line, call, room),
         7 => reduction(line, call, room),
+        11 | 12 => typing(line, call, room),
         _ => Verdict::Unreadable,
     }
 }

@@ -24,6 +24,20 @@ pub const VALUE_IN_VALUE: [Wrapper; 7] = [
     wrapper(&[0x0B, 2, 0, 5, 0, 0x0F, 0, 1], &[]),
 ];
 
+/// Parents of data, which are data: lists with Null or an empty list beside the child, ranges,
+/// contexts.
+pub const DATA_IN_DATA: [Wrapper; 9] = [
+    wrapper(&[0x0A, 1, 0], &[]),
+    wrapper(&[0x0A, 2, 0, 0x00, 0], &[]),
+    wrapper(&[0x0A, 2, 0], &[0x00, 1]),
+    wrapper(&[0x0A, 2, 0, 0x0A, 0, 0], &[]),
+    wrapper(&[0x0A, 3, 0, 0x00, 2], &[0x0A, 0, 0]),
+    wrapper(&[0x09, 0, 2], &[0x00, 0]),
+    wrapper(&[0x09, 2, 1, 0x01, 1], &[]),
+    wrapper(&[0x0B, 1, 0, 5, 0], &[]),
+    wrapper(&[0x0B, 2, 0, 5, 0, 0x03, 1, 0, 0, 1], &[]),
+];
+
 /// Parents of a type, which are values.
 pub const TYPE_IN_VALUE: [Wrapper; 5] = [
     wrapper(&[0x0E], &[]),
@@ -52,6 +66,15 @@ pub enum Ending {
     /// Nothing: the record ends there.
     Nothing,
 }
+
+const DATA_ENDINGS: [Ending; 6] = [
+    Ending::Bytes(&[0x00, 0]),
+    Ending::Bytes(&[0x01, 0]),
+    Ending::Bytes(&[0x08, 1, 2, 3, 4, 5, 6, 7, 8]),
+    Ending::Bytes(&[0x0A, 0, 0]),
+    Ending::Bytes(&[0x0B, 0, 0]),
+    Ending::Bytes(&[0x0F]),
+];
 
 const VALUE_ENDINGS: [Ending; 12] = [
     Ending::Bytes(&[0x0F]),
@@ -110,6 +133,13 @@ pub fn each_chain(kind: Kind, levels: impl Iterator<Item = usize>, each: &mut Ea
                 }
             }
         }
+    }
+}
+
+/// Chains of data whose deepest place is at each of `levels`; Irrelevant stands in some of them.
+pub fn each_data_chain(levels: impl Iterator<Item = usize>, each: &mut Each) {
+    for level in levels {
+        each_run(&[], &DATA_IN_DATA, level - 1, &DATA_ENDINGS, each);
     }
 }
 

@@ -58,6 +58,76 @@ pub fn long_records(kind: Kind, length: usize) -> Vec<Vec<u8>> {
     }
 }
 
+/// Data values of exactly `length` bytes: wide lists with Null first, last or between, lists of
+/// contexts, of lists and of ranges, wide contexts, ranges of wide lists, wide lists deep inside.
+pub fn long_data(length: usize) -> Vec<Vec<u8>> {
+    let number: &[u8] = &[0x02, 1, 0, 0, 0, 0, 0, 0, 0];
+    let record: &[u8] = &[0x0B, 2, 0, 1, 0, 0x01, 1, 2, 0, 0x00, 0];
+    let less: &[u8] = &[0x0B, 1, 0, 1, 0, 0x00, 0];
+    let lists: &[u8] = &[0x0A, 2, 0, 0x0A, 0, 0, 0x0A, 1, 0, 0x01, 0];
+    let range: &[u8] = &[0x09, 2, 2, 0x03, 1, 0, 0x00, 0];
+    // Items, then as many of the next as there is room for, then Null.
+    let list = |length: usize, first: &[&[u8]], next: &[u8], last: &[&[u8]]| {
+        let ends = [first.concat(), last.concat()].map(|items| items.len());
+        let space = length - 3 - ends[0] - ends[1];
+        // Null has two bytes, a text three; at least one byte must not be left alone.
+        let next_count = (space - 3) / next.len();
+        let rest = space - next_count * next.len();
+        let texts = rest % 2;
+        let nulls = (rest - 3 * texts) / 2;
+        let count = first.len() + last.len() + next_count + texts + nulls;
+        let middle = next_count / 2;
+        [
+            &[0x0A],
+            &(count as u16).to_le_bytes()[..],
+            &first.concat(),
+            &next.repeat(middle),
+            &[0x00, 0].repeat(nulls),
+            &[0x03, 7, 0].repeat(texts),
+            &next.repeat(next_count - middle),
+            &last.concat(),
+        ]
+        .concat()
+    };
+    let wide_context = context_of(0x0B, &[0x00, 0], &[0x03, 7, 0], length - 500);
+    let half = (length - 3) / 2;
+    let ends = [half, length - 3 - half];
+    vec![
+        list(length, &[], &[0x00, 0], &[]),
+        list(length, &[], &[0x00, 0], &[number]),
+        list(length, &[number], &[0x00, 0], &[]),
+        list(length, &[], number, &[]),
+        list(length, &[&[0x00, 0]], number, &[&[0x00, 1]]),
+        list(length, &[], &[0x01, 1], &[number]),
+        list(length, &[], record, &[]),
+        list(length, &[record], less, &[]),
+        list(length, &[less], record, &[]),
+        list(length, &[], lists, &[]),
+        list(length, &[], &[0x0A, 0, 0], &[lists]),
+        list(length, &[], range, &[]),
+        list(length, &[&wide_context], &[0x00, 3], &[]),
+        list(length, &[&wide_context], &[0x0B, 0, 0], &[]),
+        context_of(0x0B, &[0x00, 0], &[0x03, 7, 0], length),
+        context_of(
+            0x0B,
+            lists,
+            &list(lists.len() + 1, &[], &[0x00, 0], &[]),
+            length,
+        ),
+        [
+            &[0x09, 1, 2],
+            &list(ends[0], &[], number, &[])[..],
+            &list(ends[1], &[], &[0x01, 1], &[]),
+        ]
+        .concat(),
+        [
+            &[0x0A, 1, 0].repeat(29),
+            &list(length - 87, &[], number, &[])[..],
+        ]
+        .concat(),
+    ]
+}
+
 /// A list of `item` repeated, filled up with Irrelevant.
 fn list_of(item: &[u8], length: usize) -> Vec<u8> {
     let space = length - 3;
@@ -119,6 +189,11 @@ mod tests {
                 for bytes in long_records(kind, length) {
                     assert_eq!(bytes.len(), length);
                 }
+            }
+        }
+        for length in LENGTHS {
+            for (number, bytes) in long_data(length).iter().enumerate() {
+                assert_eq!(bytes.len(), length, "{number}");
             }
         }
     }

@@ -1,29 +1,40 @@
-//! Generators of cases, as plain bytes. For the readers: all short strings, records at the limits of
-//! level and length, random well-formed records, and damaged copies. For the calls over two types:
-//! all short types, types near each other, and pairs at the limits. Nothing here reads or writes by
-//! the code of `feel-form`, so that a fault there does not shape the cases.
+//! Generators of cases, as plain bytes. For the readers: all short strings, records at the limits
+//! of level and length, random well-formed records, and damaged copies. For the calls over two
+//! types: all short types, types near each other, and pairs at the limits. For the calls over
+//! values: all values with few nodes, values near each other, function definitions beside function
+//! types, data at the limits. Nothing here reads or writes by the code of `feel-form`, so that a
+//! fault there does not shape the cases.
 
 mod chains;
 mod damage;
+mod definitions;
 mod draft;
 mod lengths;
 mod limits;
 mod near;
 mod random;
 mod small;
+mod small_values;
 mod strings;
 mod tree;
+mod value_tree;
 
-pub use chains::{Ending, TYPE_IN_TYPE, TYPE_IN_VALUE, VALUE_IN_VALUE, Wrapper, chain, each_chain};
+pub use chains::{
+    DATA_IN_DATA, Ending, TYPE_IN_TYPE, TYPE_IN_VALUE, VALUE_IN_VALUE, Wrapper, chain, each_chain,
+    each_data_chain,
+};
 pub use damage::each_damage;
+pub use definitions::each_definition;
 pub use draft::{Draft, random_draft};
-pub use lengths::{each_long, long_records};
+pub use lengths::{each_long, long_data, long_records};
 pub use limits::{EachPair, each_deep_pair, each_long_pair};
 pub use near::{Move, instances, near};
 pub use random::Random;
 pub use small::{small_contexts, small_types};
+pub use small_values::small_values;
 pub use strings::each_string;
 pub use tree::{ANY, NULL, Tree};
+pub use value_tree::{Parts, ValueTree, near_value, null};
 
 /// What a record is to be read as.
 #[derive(Debug, Clone, Copy, PartialEq, Eq)]

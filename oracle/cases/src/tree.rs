@@ -22,6 +22,35 @@ pub const ANY: Tree = Tree::Simple(0x20);
 pub const NULL: Tree = Tree::Simple(0x29);
 
 impl Tree {
+    /// The type that well-formed bytes spell.
+    pub fn of(bytes: &[u8]) -> Tree {
+        Tree::take(&mut bytes.iter().copied())
+    }
+
+    fn take(bytes: &mut impl Iterator<Item = u8>) -> Tree {
+        let command = bytes.next().expect("a command");
+        let mut operand = || bytes.next().expect("an operand");
+        match command {
+            0x2A | 0x2B => Tree::One(command, Box::new(Tree::take(bytes))),
+            0x2C => {
+                let count = u16::from_le_bytes([operand(), operand()]);
+                let mut entries = vec![];
+                for _ in 0..count {
+                    let mut operand = || bytes.next().expect("a name");
+                    let name = u16::from_le_bytes([operand(), operand()]);
+                    entries.push((name, Tree::take(bytes)));
+                }
+                Tree::Context(entries)
+            }
+            0x2D => {
+                let count = operand();
+                let parameters = (0..count).map(|_| Tree::take(bytes)).collect();
+                Tree::Function(parameters, Box::new(Tree::take(bytes)))
+            }
+            simple => Tree::Simple(simple),
+        }
+    }
+
     /// A random type with about this many nodes, and of at most this level.
     pub fn random(levels: usize, nodes: usize, random: &mut Random) -> Tree {
         if levels <= 1 || nodes <= 1 {
@@ -116,7 +145,7 @@ impl Tree {
         draft
     }
 
-    fn put(&self, draft: &mut Draft) {
+    pub(crate) fn put(&self, draft: &mut Draft) {
         match self {
             Tree::Simple(command) => draft.bytes.push(*command),
             Tree::One(command, inner) => {
@@ -173,6 +202,7 @@ mod tests {
         assert_eq!(draft.names, [[5, 8]]);
         assert_eq!(draft.counts, [(1, 1), (3, 2)]);
         assert_eq!(tree.level(), 3);
+        assert_eq!(Tree::of(&bytes), tree);
     }
 
     #[test]
@@ -184,5 +214,6 @@ mod tests {
         assert!(trees.iter().any(|tree| tree.level() == 32));
         assert!(trees.iter().all(|tree| tree.level() <= 32));
         assert!(trees.iter().any(|tree| tree.bytes().len() > 5_000));
+        assert!(trees.iter().all(|tree| Tree::of(&tree.bytes()) == *tree));
     }
 }

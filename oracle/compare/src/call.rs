@@ -9,11 +9,12 @@ pub struct Options {
     pub length: usize,
     /// All strings over the small alphabets up to this length.
     pub alphabet_length: usize,
-    /// All pairs of types up to this length.
+    /// All pairs of types up to this length, and all values up to so many nodes.
     pub pair_length: usize,
     /// This many random records, each with its damaged copies.
     pub count: usize,
-    /// This many random pairs of short types, and as many of types near each other.
+    /// This many random pairs of short types, as many of types near each other, and about as many
+    /// random values.
     pub pairs: usize,
     /// The seed of the random records.
     pub seed: u64,

@@ -13,3 +13,5 @@ mod theorems;
 mod twin;
 mod type_answers;
 mod type_cases;
+mod value_answers;
+mod value_cases;

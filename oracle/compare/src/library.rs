@@ -4,7 +4,8 @@
 pub use crate::twin::{
     feel_check_type, feel_check_value, feel_type_common_subtype, feel_type_common_supertype,
     feel_type_instance_of, feel_type_is_conformant, feel_type_is_null,
-    feel_type_is_simple_built_in_type, feel_type_reduced,
+    feel_type_is_simple_built_in_type, feel_type_reduced, feel_value_is_conformant,
+    feel_value_least_type, feel_value_type_of,
 };
 
 /// What the answers are compared with, for the first printed line.
@@ -43,4 +44,21 @@ unsafe extern "C" {
     pub fn feel_type_reduced(t: *const u8, t_len: usize, out: *mut u8, out_len: usize) -> u64;
     pub fn feel_type_is_simple_built_in_type(t: *const u8, t_len: usize) -> u64;
     pub fn feel_type_is_null(t: *const u8, t_len: usize) -> u64;
+    pub fn feel_value_is_conformant(v: *const u8, v_len: usize, t: *const u8, t_len: usize) -> u64;
+    pub fn feel_value_least_type(
+        v: *const u8,
+        v_len: usize,
+        scratch: *mut u8,
+        scratch_len: usize,
+        out: *mut u8,
+        out_len: usize,
+    ) -> u64;
+    pub fn feel_value_type_of(
+        v: *const u8,
+        v_len: usize,
+        scratch: *mut u8,
+        scratch_len: usize,
+        out: *mut u8,
+        out_len: usize,
+    ) -> u64;
 }

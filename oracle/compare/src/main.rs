@@ -9,14 +9,15 @@ use std::process::ExitCode;
 
 const USAGE: &str = "usage: compare [--quick] [--only NAME,..] [--length N] [--alphabet-length N] \
 [--pair-length N] [--count N] [--pairs N] [--seed N]
-  --quick              all byte strings up to 2 bytes, all pairs of types up to 3 bytes,
-                       1,000 random records, 5,000 random pairs
+  --quick              all byte strings up to 2 bytes, all pairs of types up to 3 bytes, all values
+                       up to 3 nodes, 1,000 random records, 5,000 random pairs and values
   --only NAME,..       these calls only; may stand several times
   --length N           all byte strings up to N bytes (3)
   --alphabet-length N  all strings up to N bytes over the small alphabets (5)
-  --pair-length N      all pairs of types up to N bytes (4)
+  --pair-length N      all pairs of types up to N bytes, all values up to N nodes (4)
   --count N            N random records for each call, with their damaged copies (10000)
-  --pairs N            N random pairs of short types, and of types near each other (100000)
+  --pairs N            N random pairs of short types, and of types near each other; N random values
+                       (100000)
   --seed N             the seed of the random records (1)";
 
 /// What is to be run.

@@ -1,9 +1,14 @@
-//! The theorems on samples: what holds of the answers, with the published `is_conformant` as the
-//! judge. The arguments are accepted types; of the other types those that are accepted count.
+//! The theorems on samples: what holds of the answers, with the published `is_conformant` of types
+//! and of values as the judges. The arguments are accepted; of the other types those that are
+//! accepted count.
 
 use crate::call::Checks;
 use dsntk_feel::FeelType;
-use feel_form::{common_subtype, common_supertype, read_type, reduced, type_level, write_type};
+use dsntk_feel::values::Value;
+use feel_form::{
+    common_subtype, common_supertype, least_type, lists_inside, read_type, read_value, reduced,
+    type_level, type_of, type_of_parts, value_level, write_type,
+};
 
 /// Conformance is reflexive and transitive, and mutual exactly when the reduced forms are equal.
 pub fn of_conformance(a: &[u8], b: &[u8], others: &[&[u8]]) -> Checks {
@@ -58,6 +63,96 @@ pub fn of_reduced(t: &[u8], others: &[&[u8]]) -> Checks {
     }
     size(&mut checks, &answer, t.len(), type_level(&tree));
     checks
+}
+
+/// Any value conforms to Any. Of data: it conforms to a type exactly when its least type does, and
+/// to whatever that type conforms to.
+pub fn of_value_conformance(v: &[u8], t: &[u8], others: &[&[u8]]) -> Checks {
+    let mut checks = Checks::default();
+    let (v, t) = (value(v), read(t));
+    checks.check(
+        v.is_conformant(&FeelType::Any),
+        "theorem fails: every value conforms to Any",
+    );
+    let Some(least) = least_type(&v) else {
+        return checks;
+    };
+    as_its_least_type(&mut checks, &v, &least, &t);
+    let v_to_t = v.is_conformant(&t);
+    for other in accepted(others) {
+        as_its_least_type(&mut checks, &v, &least, &other);
+        checks.check(
+            !(v_to_t && t.is_conformant(&other)) || v.is_conformant(&other),
+            "theorem fails: data conforms to whatever its type conforms to",
+        );
+    }
+    checks
+}
+
+/// The least type is one to which the value conforms, it conforms to every type to which the value
+/// conforms, the inferred one too, and it is reduced and no larger than it may be.
+pub fn of_least_type(v: &[u8], others: &[&[u8]]) -> Checks {
+    let mut checks = Checks::default();
+    let length = v.len();
+    let v = value(v);
+    let Some(least) = least_type(&v) else {
+        return checks;
+    };
+    checks.check(
+        v.is_conformant(&least),
+        "theorem fails: a value conforms to its least type",
+    );
+    let inferred = type_of(&v);
+    checks.check(
+        least.is_conformant(&inferred),
+        "theorem fails: the least type conforms to the inferred type",
+    );
+    as_its_least_type(&mut checks, &v, &least, &inferred);
+    for other in accepted(others) {
+        as_its_least_type(&mut checks, &v, &least, &other);
+    }
+    size(&mut checks, &least, length, 1 + value_level(&v));
+    checks
+}
+
+/// Data conforms to the inferred type; this is no longer than the value, at most one level higher,
+/// a type that is read, and the same where the parts are asked one by one.
+pub fn of_type_of(v: &[u8], _: &[&[u8]]) -> Checks {
+    let mut checks = Checks::default();
+    let length = v.len();
+    let v = value(v);
+    let inferred = type_of(&v);
+    if least_type(&v).is_some() {
+        checks.check(
+            v.is_conformant(&inferred),
+            "theorem fails: data conforms to the inferred type",
+        );
+    }
+    if lists_inside(&v) <= 8 {
+        checks.check(
+            type_of_parts(&v) == v.type_of(),
+            "the type of the parts is another one",
+        );
+    }
+    let bytes = write_type(&inferred);
+    checks.check(
+        bytes.len() <= length,
+        "theorem fails: the inferred type is never longer than the value",
+    );
+    let read = read_type(&bytes);
+    checks.check(
+        read.is_ok_and(|(tree, level)| tree == inferred && level <= 1 + value_level(&v)),
+        "theorem fails: the inferred type is accepted, at most one level higher",
+    );
+    checks
+}
+
+/// Data conforms to a type exactly when its least type does.
+fn as_its_least_type(checks: &mut Checks, v: &Value, least: &FeelType, t: &FeelType) {
+    checks.check(
+        v.is_conformant(t) == least.is_conformant(t),
+        "theorem fails: data conforms to a type exactly when its least type does",
+    );
 }
 
 /// Both types conform to the answer, and it conforms to whatever both conform to.
@@ -147,6 +242,10 @@ fn read(bytes: &[u8]) -> FeelType {
     read_type(bytes).expect("accepted before").0
 }
 
+fn value(bytes: &[u8]) -> Value {
+    read_value(bytes).expect("accepted before").0
+}
+
 fn accepted(others: &[&[u8]]) -> impl Iterator<Item = FeelType> {
     let types = others.iter().filter_map(|other| read_type(other).ok());
     types.map(|(tree, _)| tree)
@@ -200,6 +299,39 @@ mod tests {
         assert!(failed(&[0x2D, 0, 0x22], 3, 2).ends_with("is reduced"));
         assert!(failed(&[0x2D, 0, 0x20], 2, 2).contains("longer"));
         assert!(failed(&[0x2D, 0, 0x20], 3, 1).contains("level"));
+    }
+
+    #[test]
+    fn wrong_least_types_are_seen() {
+        // [null, true] is a list of booleans.
+        let v = value(&[0x0A, 2, 0, 0x00, 0, 0x01, 1]);
+        let failed = |least: &[u8], t: &[u8]| {
+            let mut checks = Checks::default();
+            as_its_least_type(&mut checks, &v, &read(least), &read(t));
+            checks.failed.unwrap_or("nothing")
+        };
+        let booleans = &[0x2A, 0x21];
+        for t in [NULLS, booleans, LISTS, &[0x20]] {
+            assert_eq!(failed(booleans, t), "nothing");
+        }
+        assert!(failed(NULLS, NUMBERS).contains("exactly when"));
+        assert!(failed(LISTS, booleans).contains("exactly when"));
+    }
+
+    #[test]
+    fn samples_of_values_hold() {
+        let v: &[u8] = &[0x0A, 2, 0, 0x00, 0, 0x01, 1];
+        let others: &[&[u8]] = &[LISTS, NULLS, &[0x2E]];
+        for (checks, held) in [
+            (of_value_conformance(v, &[0x2A, 0x21], others), 6),
+            (of_value_conformance(&[0x0F], NUMBERS, others), 1),
+            (of_least_type(v, others), 8),
+            (of_least_type(&[0x0F], others), 0),
+            (of_type_of(v, others), 4),
+            (of_type_of(&[0x0F], others), 3),
+        ] {
+            assert_eq!((checks.held, checks.failed), (held, None));
+        }
     }
 
     #[test]

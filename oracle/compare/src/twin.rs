@@ -5,6 +5,7 @@ mod bounds;
 mod conformance;
 mod parts;
 mod read;
+mod values;
 
 use std::slice::{from_raw_parts, from_raw_parts_mut};
 
@@ -51,6 +52,21 @@ fn bound(a: &[u8], b: &[u8], side: bounds::Side, scratch: &mut [u8], out: &mut [
     }
     let end = bounds::put_bound(a, b, side, scratch, 0);
     deliver(&scratch[..end], out)
+}
+
+/// The type of a value, which needs four times its length of scratch; `None` where it has none.
+fn type_of_value(
+    v: &[u8],
+    of: fn(&[u8]) -> Option<Vec<u8>>,
+    scratch: &[u8],
+    out: &mut [u8],
+) -> Judged {
+    read_value(v)?;
+    let written = of(v).ok_or(13u64)?;
+    if scratch.len() / 4 < v.len() {
+        return Err(14);
+    }
+    deliver(&written, out)
 }
 
 /// # Safety
@@ -154,4 +170,51 @@ pub unsafe extern "C" fn feel_type_is_simple_built_in_type(t: *const u8, t_len: 
 /// `t` points to `t_len` readable bytes.
 pub unsafe extern "C" fn feel_type_is_null(t: *const u8, t_len: usize) -> u64 {
     of_one_type(unsafe { from_raw_parts(t, t_len) }, |t| t == [0x29])
+}
+
+/// # Safety
+/// `v` and `t` point to as many readable bytes as their lengths say.
+pub unsafe extern "C" fn feel_value_is_conformant(
+    v: *const u8,
+    v_len: usize,
+    t: *const u8,
+    t_len: usize,
+) -> u64 {
+    let (v, t) = unsafe { (from_raw_parts(v, v_len), from_raw_parts(t, t_len)) };
+    let judged = read_value(v).and_then(|_| read_type(t));
+    answer(judged.map(|_| u64::from(values::value_conforms(v, t))))
+}
+
+/// # Safety
+/// `v` points to `v_len` readable bytes, `scratch` and `out` to as many writable ones as their
+/// lengths say; none of the three overlap where one is written.
+pub unsafe extern "C" fn feel_value_least_type(
+    v: *const u8,
+    v_len: usize,
+    scratch: *mut u8,
+    scratch_len: usize,
+    out: *mut u8,
+    out_len: usize,
+) -> u64 {
+    let v = unsafe { from_raw_parts(v, v_len) };
+    let scratch = unsafe { from_raw_parts(scratch, scratch_len) };
+    let out = unsafe { from_raw_parts_mut(out, out_len) };
+    answer(type_of_value(v, values::least, scratch, out))
+}
+
+/// # Safety
+/// As for [feel_value_least_type].
+pub unsafe extern "C" fn feel_value_type_of(
+    v: *const u8,
+    v_len: usize,
+    scratch: *mut u8,
+    scratch_len: usize,
+    out: *mut u8,
+    out_len: usize,
+) -> u64 {
+    let v = unsafe { from_raw_parts(v, v_len) };
+    let scratch = unsafe { from_raw_parts(scratch, scratch_len) };
+    let out = unsafe { from_raw_parts_mut(out, out_len) };
+    let of = |v: &[u8]| Some(values::inferred(v));
+    answer(type_of_value(v, of, scratch, out))
 }

@@ -58,19 +58,19 @@ pub fn reduced(case: Case) -> Expected {
     )
 }
 
-fn two<'a>(case: Case<'a>) -> [&'a [u8]; 2] {
+pub fn two<'a>(case: Case<'a>) -> [&'a [u8]; 2] {
     [case.args[0], case.args[1]]
 }
 
 /// The checks of an accepted case: of these theorems, if it brings other types.
-fn checks<'a>(
+pub fn checks<'a>(
     case: Case<'a>,
     theorems: impl FnOnce(&'a [&'a [u8]]) -> Checks,
 ) -> impl FnOnce() -> Checks {
     move || case.others.map(theorems).unwrap_or_default()
 }
 
-fn yes_or_no(answer: Result<bool, u8>, theorems: impl FnOnce() -> Checks) -> Expected {
+pub fn yes_or_no(answer: Result<bool, u8>, theorems: impl FnOnce() -> Checks) -> Expected {
     match answer {
         Ok(yes) => Expected {
             answer: Answer::given(yes.into()),
@@ -81,7 +81,7 @@ fn yes_or_no(answer: Result<bool, u8>, theorems: impl FnOnce() -> Checks) -> Exp
     }
 }
 
-fn bytes(answer: Result<Vec<u8>, u8>, theorems: impl FnOnce() -> Checks) -> Expected {
+pub fn bytes(answer: Result<Vec<u8>, u8>, theorems: impl FnOnce() -> Checks) -> Expected {
     match answer {
         Ok(output) => Expected {
             answer: Answer::given(output.len() as u32),

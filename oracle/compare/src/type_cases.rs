@@ -14,16 +14,16 @@ const TEN: [u8; 10] = [0x20, 0x21, 0x22, 0x23, 0x24, 0x25, 0x26, 0x27, 0x28, 0x2
 const FOUR: [u8; 4] = [0x20, 0x22, 0x23, 0x29];
 
 /// Of this many cases one is repeated with every length of the buffers around the need.
-const BUFFERS_EACH: usize = 16;
+pub const BUFFERS_EACH: usize = 16;
 
 /// Other types for the checks of the theorems, or none where nothing is to be checked.
 type Others<'a> = Option<&'a [&'a [u8]]>;
 
 /// Receives one type and others near it.
-type EachType<'a> = dyn FnMut(&[u8], Others) + 'a;
+pub type EachType<'a> = dyn FnMut(&[u8], Others) + 'a;
 
 /// Receives two types and others near them.
-type EachTwo<'a> = dyn FnMut(&[u8], &[u8], Others) + 'a;
+pub type EachTwo<'a> = dyn FnMut(&[u8], &[u8], Others) + 'a;
 
 /// Cases of one type.
 pub fn one_type(options: &Options, each: &mut EachCase) {
@@ -113,7 +113,7 @@ pub fn two_types_and_buffers(bound: Bound, options: &Options, each: &mut EachCas
 }
 
 /// Lengths of an output around the need.
-fn rooms(need: usize, longest: usize) -> [usize; 6] {
+pub fn rooms(need: usize, longest: usize) -> [usize; 6] {
     [0, need - 1, need, need + 1, need + 100, longest]
 }
 
@@ -230,7 +230,7 @@ fn damaged_pair(random: &mut Random, each: &mut EachTwo) {
 }
 
 /// A few types of every kind, for all pairs with all others.
-fn tiny_types() -> Vec<Vec<u8>> {
+pub fn tiny_types() -> Vec<Vec<u8>> {
     let mut all = small_types(3, &FOUR, &[]);
     all.retain(|t| t[0] != 0x2C);
     all.extend(small_contexts(&FOUR, &[0, 1]));
@@ -241,7 +241,7 @@ fn tiny_types() -> Vec<Vec<u8>> {
 }
 
 /// All types of up to six bytes over a few simple types, and contexts with two names.
-fn short_types() -> Vec<Vec<u8>> {
+pub fn short_types() -> Vec<Vec<u8>> {
     let mut all = small_types(6, &FOUR, &[0, 1]);
     all.extend(
         small_contexts(&FOUR, &[0, 1])

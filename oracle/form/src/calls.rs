@@ -1,7 +1,7 @@
-//! The answers of the calls over types, as bytes: the arguments are read in turn, then comes the
-//! scratch, then the room in the output. What the published Rust has is asked of it.
+//! The answers of the calls over types and over values, as bytes: the arguments are read in turn,
+//! then comes the scratch, then the room in the output. What the published Rust has is asked of it.
 
-use crate::{bounds, read_type, write_type};
+use crate::{bounds, inferred, read_type, read_value, write_type};
 use dsntk_feel::FeelType;
 
 /// `FeelType::is_conformant`, or the refusal.
@@ -42,6 +42,32 @@ pub fn common_subtype(a: &[u8], b: &[u8], scratch: usize, room: usize) -> Result
 pub fn reduced(t: &[u8], room: usize) -> Result<Vec<u8>, u8> {
     let (t, _) = read_type(t)?;
     written(&bounds::reduced(&t), room)
+}
+
+/// `Value::is_conformant`, or the refusal.
+pub fn value_is_conformant(v: &[u8], t: &[u8]) -> Result<bool, u8> {
+    let (v, _) = read_value(v)?;
+    let (t, _) = read_type(t)?;
+    Ok(v.is_conformant(&t))
+}
+
+/// The bytes of the least type, or the refusal.
+pub fn value_least_type(v: &[u8], scratch: usize, room: usize) -> Result<Vec<u8>, u8> {
+    let (value, _) = read_value(v)?;
+    let answer = inferred::least_type(&value).ok_or(13)?;
+    if scratch < 4 * v.len() {
+        return Err(14);
+    }
+    written(&answer, room)
+}
+
+/// The bytes of `Value::type_of`, or the refusal.
+pub fn value_type_of(v: &[u8], scratch: usize, room: usize) -> Result<Vec<u8>, u8> {
+    let (value, _) = read_value(v)?;
+    if scratch < 4 * v.len() {
+        return Err(14);
+    }
+    written(&inferred::type_of(&value), room)
 }
 
 fn bound(

@@ -1,10 +1,12 @@
 //! Document 01's byte form over the published Rust's own `FeelType` and `Value`: the readers with
 //! their refusals, the level of a tree, and the writers; its reduced form, common supertype and
-//! subtype; and the answers of its calls over types. Written from the document alone.
+//! subtype, and least type; and the answers of its calls over types and over values. Written from
+//! the document alone.
 
 mod bifs;
 mod bounds;
 pub mod calls;
+mod inferred;
 mod level;
 mod read;
 mod texts;
@@ -12,6 +14,7 @@ mod write;
 
 pub use bifs::BIFS;
 pub use bounds::{common_subtype, common_supertype, reduced};
+pub use inferred::{least_type, lists_inside, type_of, type_of_parts};
 pub use level::{type_level, value_level};
 pub use read::{read_type, read_value};
 pub use texts::{name, text};

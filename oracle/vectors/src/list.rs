@@ -15,6 +15,9 @@ pub enum Call {
     Reduced,
     IsSimpleBuiltInType,
     IsNull,
+    ValueIsConformant,
+    ValueLeastType,
+    ValueTypeOf,
 }
 
 impl Call {
@@ -29,6 +32,9 @@ impl Call {
             Call::Reduced => "type_reduced",
             Call::IsSimpleBuiltInType => "type_is_simple_built_in_type",
             Call::IsNull => "type_is_null",
+            Call::ValueIsConformant => "value_is_conformant",
+            Call::ValueLeastType => "value_least_type",
+            Call::ValueTypeOf => "value_type_of",
         }
     }
 
@@ -49,6 +55,13 @@ impl Call {
             (Call::Reduced, [t], [room]) => bytes_or_refusal(calls::reduced(t, *room)),
             (Call::IsSimpleBuiltInType, [t], []) => number(calls::is_simple_built_in_type(t)),
             (Call::IsNull, [t], []) => number(calls::is_null(t)),
+            (Call::ValueIsConformant, [v, t], []) => number(calls::value_is_conformant(v, t)),
+            (Call::ValueLeastType, [v], [scratch, room]) => {
+                bytes_or_refusal(calls::value_least_type(v, *scratch, *room))
+            }
+            (Call::ValueTypeOf, [v], [scratch, room]) => {
+                bytes_or_refusal(calls::value_type_of(v, *scratch, *room))
+            }
             _ => panic!("no case of {self:?}: {case:?}"),
         }
     }

@@ -148,7 +148,7 @@ fn refusals() -> Vec<Case> {
 }
 
 /// Two arguments, with `|` between them.
-fn pairs(lines: &[&str]) -> Vec<Case> {
+pub fn pairs(lines: &[&str]) -> Vec<Case> {
     let pair = |line: &&str| Case {
         args: arguments(line),
         lent: vec![],

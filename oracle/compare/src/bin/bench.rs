@@ -1,12 +1,17 @@
 //! The speed of exported functions beside the Rust: of the readers beside the Rust reading the same
-//! bytes into its trees; of conformance beside the Rust reading both types and answering, and
-//! beside its answer alone on trees that were built before. All run on the same accepted records in
-//! turn; the best of several rounds counts, so only the ratios in one run say something.
+//! bytes into its trees; of the other calls beside the Rust reading the arguments, answering and
+//! writing its answer, and beside its answer alone on trees that were built before. All run on the
+//! same accepted records in turn; the best of several rounds counts, so only the ratios in one run
+//! say something.
 
-use compare::library::{COMPARED, feel_check_type, feel_check_value, feel_type_is_conformant};
+use compare::library::{
+    COMPARED, feel_check_type, feel_check_value, feel_type_is_conformant, feel_value_is_conformant,
+    feel_value_least_type, feel_value_type_of,
+};
 use dsntk_feel::FeelType;
-use feel_cases::{ANY, Kind, Move, Random, Tree, near, random_draft};
-use feel_form::{calls, read_type, read_value};
+use dsntk_feel::values::Value;
+use feel_cases::{ANY, Kind, Move, Parts, Random, Tree, ValueTree, near, random_draft};
+use feel_form::{calls, least_type, read_type, read_value};
 use std::hint::black_box;
 use std::time::{Duration, Instant};
 
@@ -43,6 +48,18 @@ fn main() {
     for (least, most) in SIZES {
         conformance(least, most);
     }
+    for (least, most) in SIZES {
+        value_conformance(least, most);
+    }
+    // The Rust has no least type: its part is the definition on its trees.
+    for size in SIZES {
+        let (function, rust) = (feel_value_least_type, calls::value_least_type);
+        type_of_values("value_least_type", size, function, rust, least_type);
+    }
+    for size in SIZES {
+        let (function, rust) = (feel_value_type_of, calls::value_type_of);
+        type_of_values("value_type_of", size, function, rust, Value::type_of);
+    }
 }
 
 /// Conformance of types of these lengths to types near them.
@@ -53,23 +70,142 @@ fn conformance(least: usize, most: usize) {
     let bytes: usize = pairs.iter().flatten().map(Vec::len).sum();
     let firsts: usize = pairs.iter().map(|[a, _]| a.len()).sum();
     let repeats = ROUND.div_ceil(bytes);
-    let [mut ours, mut rust, mut alone] = [Duration::MAX; 3];
+    let mut best = [Duration::MAX; 3];
     for _ in 0..ROUNDS {
-        ours = ours.min(timed(repeats, &pairs, |[a, b]| conforms(a, b)));
-        rust = rust.min(timed(repeats, &pairs, |[a, b]| calls::is_conformant(a, b)));
-        alone = alone.min(timed(repeats, &trees, |[a, b]| a.is_conformant(b)));
+        let round = [
+            timed(repeats, &pairs, |[a, b]| conforms(a, b)),
+            timed(repeats, &pairs, |[a, b]| calls::is_conformant(a, b)),
+            timed(repeats, &trees, |[a, b]| a.is_conformant(b)),
+        ];
+        best = least_of(best, round);
     }
-    let per_byte = |time: Duration| time.as_nanos() as f64 / (bytes * repeats) as f64;
-    println!(
-        "type_is_conformant, {} bytes: {:.2} ns a byte, the Rust {:.2} ns, ratio {:.1}, \
-         its answer alone {:.2} ns, ratio {:.2}",
+    row(
+        "type_is_conformant",
         firsts / pairs.len(),
-        per_byte(ours),
-        per_byte(rust),
-        per_byte(rust) / per_byte(ours),
-        per_byte(alone),
-        per_byte(alone) / per_byte(ours)
+        bytes * repeats,
+        best,
     );
+}
+
+/// Conformance of values of these lengths to their least types.
+fn value_conformance(least: usize, most: usize) {
+    let values = values(least, most);
+    let own = |v: &Vec<u8>| {
+        let t = calls::value_least_type(v, usize::MAX, usize::MAX).expect("data");
+        [v.clone(), t]
+    };
+    let pairs: Vec<[Vec<u8>; 2]> = values.iter().map(own).collect();
+    let trees: Vec<(Value, FeelType)> = pairs
+        .iter()
+        .map(|[v, t]| (value(v), read_type(t).expect("accepted").0))
+        .collect();
+    let bytes: usize = pairs.iter().flatten().map(Vec::len).sum();
+    let firsts: usize = values.iter().map(Vec::len).sum();
+    let repeats = ROUND.div_ceil(bytes);
+    let mut best = [Duration::MAX; 3];
+    for _ in 0..ROUNDS {
+        let round = [
+            timed(repeats, &pairs, |[v, t]| value_conforms(v, t)),
+            timed(repeats, &pairs, |[v, t]| calls::value_is_conformant(v, t)),
+            timed(repeats, &trees, |(v, t)| v.is_conformant(t)),
+        ];
+        best = least_of(best, round);
+    }
+    row(
+        "value_is_conformant",
+        firsts / pairs.len(),
+        bytes * repeats,
+        best,
+    );
+}
+
+/// A type of values of these lengths, which is answered by `function`, by `rust` over the bytes and
+/// by `alone` over the trees.
+fn type_of_values<T>(
+    name: &str,
+    (least, most): (usize, usize),
+    function: TypeOf,
+    rust: RustTypeOf,
+    alone: fn(&Value) -> T,
+) {
+    let values = values(least, most);
+    let trees: Vec<Value> = values.iter().map(|v| value(v)).collect();
+    let bytes: usize = values.iter().map(Vec::len).sum();
+    let repeats = ROUND.div_ceil(bytes);
+    let mut scratch = vec![0; 4 * most];
+    let mut out = vec![0; most];
+    let mut best = [Duration::MAX; 3];
+    for _ in 0..ROUNDS {
+        let round = [
+            timed(repeats, &values, |v| {
+                type_of_value(v, function, &mut scratch, &mut out)
+            }),
+            timed(repeats, &values, |v| rust(v, 4 * most, most)),
+            timed(repeats, &trees, alone),
+        ];
+        best = least_of(best, round);
+    }
+    row(name, bytes / values.len(), bytes * repeats, best);
+}
+
+/// The shorter of each two times.
+fn least_of(best: [Duration; 3], round: [Duration; 3]) -> [Duration; 3] {
+    [0, 1, 2].map(|place| best[place].min(round[place]))
+}
+
+/// Prints the times of a call, of the Rust, and of its answer alone, for so many bytes.
+fn row(name: &str, length: usize, bytes: usize, times: [Duration; 3]) {
+    let [ours, rust, alone] = times.map(|time| time.as_nanos() as f64 / bytes as f64);
+    println!(
+        "{name}, {length} bytes: {ours:.2} ns a byte, the Rust {rust:.2} ns, ratio {:.1}, \
+         its answer alone {alone:.2} ns, ratio {:.2}",
+        rust / ours,
+        alone / ours
+    );
+}
+
+/// Data of these lengths: contexts whose entries are lists of equal records.
+fn values(least: usize, most: usize) -> Vec<Vec<u8>> {
+    let mut random = Random::new(7);
+    let mut values = vec![];
+    let mut bytes = 0;
+    while bytes < 200_000 {
+        let mut entries = vec![];
+        let mut v = vec![];
+        while v.len() < least {
+            let record = record(&mut random);
+            let copies = 1 + most / 8 / record.bytes().len();
+            let list = ValueTree::List(vec![record; copies]);
+            entries.push((entries.len() as u16, list));
+            v = ValueTree::Context(entries.clone()).bytes();
+        }
+        if v.len() <= most {
+            bytes += v.len();
+            values.push(v);
+        }
+    }
+    values
+}
+
+/// A small record with no Any in its least type, so that every part of it counts.
+fn record(random: &mut Random) -> ValueTree {
+    loop {
+        let tree = ValueTree::random(4, 1 + random.below(10), Parts::Data, random);
+        let v = tree.bytes();
+        let t = calls::value_least_type(&v, 4 * v.len(), v.len()).expect("data");
+        if !holds_any(&Tree::of(&t)) {
+            return tree;
+        }
+    }
+}
+
+/// Whether Any stands in the type of a value.
+fn holds_any(tree: &Tree) -> bool {
+    match tree {
+        Tree::One(_, inner) => holds_any(inner),
+        Tree::Context(entries) => entries.iter().any(|(_, child)| holds_any(child)),
+        other => *other == ANY,
+    }
 }
 
 /// Accepted types of these lengths, each with one near it to which it conforms and which is not
@@ -152,6 +288,35 @@ fn check(kind: Kind, record: &[u8]) -> u64 {
 fn conforms(a: &[u8], b: &[u8]) -> u64 {
     // SAFETY: each pointer and length are those of one slice, which lives through the call.
     unsafe { feel_type_is_conformant(a.as_ptr(), a.len(), b.as_ptr(), b.len()) }
+}
+
+fn value_conforms(v: &[u8], t: &[u8]) -> u64 {
+    // SAFETY: each pointer and length are those of one slice, which lives through the call.
+    unsafe { feel_value_is_conformant(v.as_ptr(), v.len(), t.as_ptr(), t.len()) }
+}
+
+/// A C function over one value, with scratch and an output.
+type TypeOf = unsafe extern "C" fn(*const u8, usize, *mut u8, usize, *mut u8, usize) -> u64;
+
+/// The Rust over the bytes of a value, with the lengths of scratch and output.
+type RustTypeOf = fn(&[u8], usize, usize) -> Result<Vec<u8>, u8>;
+
+fn type_of_value(v: &[u8], function: TypeOf, scratch: &mut [u8], out: &mut [u8]) -> u64 {
+    // SAFETY: each pointer and length are those of one slice, which lives through the call.
+    unsafe {
+        function(
+            v.as_ptr(),
+            v.len(),
+            scratch.as_mut_ptr(),
+            scratch.len(),
+            out.as_mut_ptr(),
+            out.len(),
+        )
+    }
+}
+
+fn value(bytes: &[u8]) -> Value {
+    read_value(bytes).expect("accepted").0
 }
 
 fn read(kind: Kind, record: &[u8]) -> usize {

@@ -27,7 +27,7 @@ pub fn parts(t: &[u8]) -> Vec<Part<'_>> {
 
 /// Where the type that starts at `at` ends: counts the types that are still to come, and for each
 /// context the names before its children.
-fn end(t: &[u8], mut at: usize) -> usize {
+pub fn end(t: &[u8], mut at: usize) -> usize {
     // How many children are still to come, and whether a name stands before each.
     let mut due = vec![(1, false)];
     while let Some((left, named)) = due.pop() {
