@@ -45,13 +45,13 @@ struct Sizes {
 
 // ---- small helpers
 
-fn low(n: usize) -> u8
+pub fn low(n: usize) -> u8
     ensures { λ r. ⌜ r ≡ n % 256 ⌝ }
 {
     (n % 256) as u8
 }
 
-fn high(n: usize) -> u8
+pub fn high(n: usize) -> u8
     requires { ⌜ n < 65536 ⌝ }
     ensures { λ r. ⌜ r ≡ n / 256 ⌝ }
 {

@@ -6,6 +6,9 @@ ghost use Rattle.form.specs.Read.{checkValue, checkType};
 ghost use Rattle.types.specs.Calls.{isConformant, instanceOf, isSimpleBuiltInType, isNull};
 ghost use Rattle.values.specs.Calls as values;
 ghost use Rattle.infer.specs.Calls.{leastTypeCall, typeOfCall};
+ghost use Rattle.retrieval.specs.Calls.{getValueCheckedCall, getConformantValueCall};
+ghost use Rattle.coercion.specs.Calls.{coercedCall};
+ghost use Rattle.ranges.specs.Calls.{isInvalidCoercionCall, isValidRangeCall, isNullCall, isTrueCall, isFalseCall, isNumberCall, isStringCall, isListCall, isRangeCall, openedCall, closedCall, undefinedCall, bifTypeCall};
 ghost use Rattle.bounds.specs.Calls.{commonSupertype, commonSubtype, reducedCall};
 ghost use Rattle.feel.specs.Numbers.{numbered, judged, Exported};
 use form::Checked;
@@ -150,4 +153,132 @@ pub extern "C" fn feel_value_type_of(v: &[u8], scratch: &mut [u8], out: &mut [u8
     ensures { λ r. ⌜ Exported (typeOfCall (now (v .entry)) (length (now (scratch .entry))) (length (now (out .entry)))) (now (out .entry)) (now (out .exit)) r ⌝ }
 {
     written_number(infer::type_of(v, scratch, out))
+}
+
+// The value, retrieved by the type.
+#[no_mangle]
+pub extern "C" fn feel_type_get_value_checked(t: &[u8], v: &[u8], out: &mut [u8]) -> u64
+    ensures { λ r. ⌜ Exported (getValueCheckedCall (now (t .entry)) (now (v .entry)) (length (now (out .entry)))) (now (out .entry)) (now (out .exit)) r ⌝ }
+{
+    written_number(retrieval::get_value_checked(t, v, out))
+}
+
+// The value, retrieved by the type where it conforms; otherwise null.
+#[no_mangle]
+pub extern "C" fn feel_type_get_conformant_value(t: &[u8], v: &[u8], out: &mut [u8]) -> u64
+    ensures { λ r. ⌜ Exported (getConformantValueCall (now (t .entry)) (now (v .entry)) (length (now (out .entry)))) (now (out .entry)) (now (out .exit)) r ⌝ }
+{
+    written_number(retrieval::get_conformant_value(t, v, out))
+}
+
+// The value, coerced to the type.
+#[no_mangle]
+pub extern "C" fn feel_value_coerced(v: &[u8], t: &[u8], out: &mut [u8]) -> u64
+    ensures { λ r. ⌜ Exported (coercedCall (now (v .entry)) (now (t .entry)) (length (now (out .entry)))) (now (out .entry)) (now (out .exit)) r ⌝ }
+{
+    written_number(coercion::coerced(v, t, out))
+}
+
+// Is it the null of a coercion that failed?
+#[no_mangle]
+pub extern "C" fn feel_value_is_invalid_coercion(v: &[u8]) -> u64
+    ensures { λ r. ⌜ r ≡ judged (isInvalidCoercionCall (now (v .entry))) ⌝ }
+{
+    verdict_number(ranges::is_invalid_coercion(v))
+}
+
+// Is it a valid range?
+#[no_mangle]
+pub extern "C" fn feel_value_is_valid_range(v: &[u8]) -> u64
+    ensures { λ r. ⌜ r ≡ judged (isValidRangeCall (now (v .entry))) ⌝ }
+{
+    verdict_number(ranges::is_valid_range(v))
+}
+
+// Is the value null?
+#[no_mangle]
+pub extern "C" fn feel_value_is_null(v: &[u8]) -> u64
+    ensures { λ r. ⌜ r ≡ judged (isNullCall (now (v .entry))) ⌝ }
+{
+    verdict_number(ranges::is_null(v))
+}
+
+// Is it the Boolean true?
+#[no_mangle]
+pub extern "C" fn feel_value_is_true(v: &[u8]) -> u64
+    ensures { λ r. ⌜ r ≡ judged (isTrueCall (now (v .entry))) ⌝ }
+{
+    verdict_number(ranges::is_true(v))
+}
+
+// Is it the Boolean false?
+#[no_mangle]
+pub extern "C" fn feel_value_is_false(v: &[u8]) -> u64
+    ensures { λ r. ⌜ r ≡ judged (isFalseCall (now (v .entry))) ⌝ }
+{
+    verdict_number(ranges::is_false(v))
+}
+
+// Is it a number?
+#[no_mangle]
+pub extern "C" fn feel_value_is_number(v: &[u8]) -> u64
+    ensures { λ r. ⌜ r ≡ judged (isNumberCall (now (v .entry))) ⌝ }
+{
+    verdict_number(ranges::is_number(v))
+}
+
+// Is it a string?
+#[no_mangle]
+pub extern "C" fn feel_value_is_string(v: &[u8]) -> u64
+    ensures { λ r. ⌜ r ≡ judged (isStringCall (now (v .entry))) ⌝ }
+{
+    verdict_number(ranges::is_string(v))
+}
+
+// Is it a list?
+#[no_mangle]
+pub extern "C" fn feel_value_is_list(v: &[u8]) -> u64
+    ensures { λ r. ⌜ r ≡ judged (isListCall (now (v .entry))) ⌝ }
+{
+    verdict_number(ranges::is_list(v))
+}
+
+// Is it a range?
+#[no_mangle]
+pub extern "C" fn feel_value_is_range(v: &[u8]) -> u64
+    ensures { λ r. ⌜ r ≡ judged (isRangeCall (now (v .entry))) ⌝ }
+{
+    verdict_number(ranges::is_range(v))
+}
+
+// Is the interval type opened?
+#[no_mangle]
+pub extern "C" fn feel_interval_opened(i: u8) -> u64
+    ensures { λ r. ⌜ r ≡ judged (openedCall i) ⌝ }
+{
+    verdict_number(ranges::opened(i))
+}
+
+// Is the interval type closed?
+#[no_mangle]
+pub extern "C" fn feel_interval_closed(i: u8) -> u64
+    ensures { λ r. ⌜ r ≡ judged (closedCall i) ⌝ }
+{
+    verdict_number(ranges::closed(i))
+}
+
+// Has the interval type no value?
+#[no_mangle]
+pub extern "C" fn feel_interval_undefined(i: u8) -> u64
+    ensures { λ r. ⌜ r ≡ judged (undefinedCall i) ⌝ }
+{
+    verdict_number(ranges::undefined(i))
+}
+
+// The type of the built-in function at position b.
+#[no_mangle]
+pub extern "C" fn feel_bif_feel_type(b: u8, out: &mut [u8]) -> u64
+    ensures { λ r. ⌜ Exported (bifTypeCall b (length (now (out .entry)))) (now (out .entry)) (now (out .exit)) r ⌝ }
+{
+    written_number(ranges::bif_feel_type(b, out))
 }

@@ -23,7 +23,7 @@ pub fn skip(s: &[u8], left: usize) -> usize
 }
 
 // Whether the value at the front of `v` conforms to the type at the front of `t`: one pass over both.
-fn conforms(v: &[u8], t: &[u8], left: usize) -> Conform
+pub fn conforms(v: &[u8], t: &[u8], left: usize) -> Conform
     requires { ⌜ Ok (valueAt left (now v)) ⌝ }
     requires { ⌜ Ok (typeAt left (now t)) ⌝ }
     ensures { λ r. ⌜ r ≡ held (valueAt left (now (v .entry))) (typeAt left (now (t .entry))) ⌝ }

@@ -6,7 +6,7 @@ use mathlib.Core.Bool.{Bool, true, false}
 use mathlib.Core.List.{List, [], _∷_, _++_}
 use lib.ListN.{replicate}
 use Rattle.form.specs.Outcome.{Outcome, done, refused, _>>=_, _>>_}
-use Rattle.form.specs.Form.{bytes, num, countFields, countTys, enc, level, levelV}
+use Rattle.form.specs.Form.{bytes, num, countFields, countTys, countVals, countEntries, enc, encLeaf, encV, level, levelV}
 use Rattle.form.specs.Layout.{kindOf}
 use Rattle.form.specs.Read.{front, andThen, orElse, operand, readRun, named, readNamed, readFlag, readKey, counted, readFunction, readRange, signature, readDefinition, stepType, stepT, readT, stepValue, stepV, readV, numberOf, all, readWhole, checkValue}
 use Rattle.order.specs.Types.{cmp, reduce, bound, look, place, same-count, all-fields}
@@ -15,7 +15,11 @@ use Rattle.order.specs.Values.{least, is-data, conforms}
 use Rattle.order.specs.Inferred.{typeOf}
 use Rattle.types.specs.Calls as types
 use Rattle.bounds.specs.Calls.{commonSupertype, commonSubtype, reducedCall}
+use Rattle.values.specs.Calls as values
 use Rattle.infer.specs.Calls.{leastTypeCall, typeOfCall}
+use Rattle.retrieval.specs.Retrieve.{retrieve}
+use Rattle.retrieval.specs.Calls.{getValueCheckedCall}
+use Rattle.coercion.specs.Calls.{coercedCall}
 
 -- a row: bytes, a verdict or a level that a call gives, or its refusal
 data Row : Type 0 where
@@ -107,6 +111,11 @@ table =
     ∷ bytes-are (commonSupertype (0x2D ∷ 1 ∷ 0x22 ∷ 0x22 ∷ []) (0x2D ∷ 1 ∷ 0x23 ∷ 0x23 ∷ []) 8 4) (0x2D ∷ 1 ∷ 0x29 ∷ 0x20 ∷ [])
     -- 9. subtype of 2C 01 00 01 00 22 and 2C 01 00 02 00 23
     ∷ bytes-are (commonSubtype (0x2C ∷ 1 ∷ 0 ∷ 1 ∷ 0 ∷ 0x22 ∷ []) (0x2C ∷ 1 ∷ 0 ∷ 2 ∷ 0 ∷ 0x23 ∷ []) 12 9) (0x2C ∷ 2 ∷ 0 ∷ 1 ∷ 0 ∷ 0x22 ∷ 2 ∷ 0 ∷ 0x23 ∷ [])
+    -- 10. [1] coerced to list<list<number>>
+    ∷ bytes-are (coercedCall (0x0A ∷ 1 ∷ 0 ∷ one) (0x2A ∷ 0x2A ∷ 0x22 ∷ []) 16) (0 ∷ 1 ∷ [])
+    -- 11. {} against context<1: number>, and retrieved by it
+    ∷ verdict-is (values.isConformant (0x0B ∷ 0 ∷ 0 ∷ []) (0x2C ∷ 1 ∷ 0 ∷ 1 ∷ 0 ∷ 0x22 ∷ [])) false
+    ∷ bytes-are (getValueCheckedCall (0x2C ∷ 1 ∷ 0 ∷ 1 ∷ 0 ∷ 0x22 ∷ []) (0x0B ∷ 0 ∷ 0 ∷ []) 16) (0x0B ∷ 0 ∷ 0 ∷ [])
     -- a list at level 31 is read, at 32 refused 4
     ∷ level-is (checkValue (nested 30)) 31
     ∷ refused-by (checkValue (nested 31)) 4
@@ -116,5 +125,5 @@ table =
     ∷ []
 
 examples : All table
-unfolding Holds All one null yes pair full part inferred least-of nested times longest table bytes num countFields countTys enc level levelV kindOf front andThen orElse operand readRun named readNamed readFlag readKey counted readFunction readRange signature readDefinition stepType stepT readT stepValue stepV readV numberOf all readWhole checkValue cmp reduce bound look place same-count all-fields eqTy least is-data conforms typeOf types.isConformant leastTypeCall typeOfCall _>>=_ _>>_
-examples = (refl, (refl, (refl, (refl, (refl, (refl, (refl, (refl, (refl, (refl, (refl, (refl, (refl, (refl, (refl, (refl, (refl, (refl, (refl, (refl, (refl, (refl, tt))))))))))))))))))))))
+unfolding Holds All one null yes pair full part inferred least-of nested times longest table bytes num countFields countTys enc level levelV kindOf front andThen orElse operand readRun named readNamed readFlag readKey counted readFunction readRange signature readDefinition stepType stepT readT stepValue stepV readV numberOf all readWhole checkValue cmp reduce bound look place same-count all-fields eqTy least is-data conforms typeOf types.isConformant leastTypeCall typeOfCall values.isConformant getValueCheckedCall coercedCall retrieve encV encLeaf countVals countEntries _>>=_ _>>_
+examples = (refl, (refl, (refl, (refl, (refl, (refl, (refl, (refl, (refl, (refl, (refl, (refl, (refl, (refl, (refl, (refl, (refl, (refl, (refl, (refl, (refl, (refl, (refl, (refl, (refl, tt)))))))))))))))))))))))))

@@ -1,0 +1,3 @@
+pub mod Coerce
+pub mod Dmn
+pub mod Calls

@@ -1,0 +1,23 @@
+-- `feel::feel_type_get_conformant_value` meets its contract.
+-- Assumes nothing.
+use borrow.Author.Needs.{needs}
+use Rattle.feel.proofs.feel_type_get_conformant_value.Statement.{statement}
+use Rattle.feel.proofs.feel_type_get_conformant_value.Tie as tie
+use mathlib.Core.Path.{ap, _∙_}
+use Rattle.feel.specs.Numbers.{numbered}
+
+get-conformant-value-requires : tie.Need-get-conformant-value-requires
+get-conformant-value-requires c κs = search needs
+
+written-number-requires : tie.Need-written-number-requires
+written-number-requires c κs = search needs
+
+same-length : tie.Need-same-length
+same-length c = search needs
+
+returns : tie.Need-returns
+returns c = record { answer = c .written-number .ensures ∙ ap numbered (c .before .before .before .get-conformant-value .ensures .answer); output = c .before .before .before .get-conformant-value .ensures .output }
+
+pub feel-type-get-conformant-value-spec : {M : Type 1} → statement M
+feel-type-get-conformant-value-spec =
+    tie.close (tie.spec get-conformant-value-requires written-number-requires same-length returns)

@@ -1,0 +1,15 @@
+-- `feel::feel_value_is_number` meets its contract.
+-- Assumes nothing.
+use mathlib.Core.Path.{ap, _∙_}
+use borrow.Author.Needs.{needs}
+use Rattle.feel.specs.Numbers.{judged}
+use Rattle.feel.proofs.feel_value_is_number.Statement.{statement}
+use Rattle.feel.proofs.feel_value_is_number.Tie as tie
+
+pub feel-value-is-number-spec : {M : Type 1} → statement M
+feel-value-is-number-spec =
+    tie.close
+    (tie.spec
+    (λ c κs. search needs)
+    (λ c κs. search needs)
+    (λ c. c .verdict-number .ensures ∙ ap judged (c .before .is-number .ensures)))

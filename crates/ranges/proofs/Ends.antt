@@ -1,0 +1,261 @@
+-- The ends of a range that was read, in terms of its bytes, and the answers from them.
+-- Assumes nothing.
+use Prim.Native.Nat.{ℕ, _+_, _-_, _<_, _≤_}
+use mathlib.Core.Path.{_≡_, refl, sym, ap, ap₂, subst, _∙_}
+use mathlib.Core.Bool.{Bool, false, cond, _||_}
+use mathlib.Core.List.{List}
+use native.Mathlib.Omega.{arith}
+use native.Mathlib.Nat.{add-zero}
+use lib.ListN.{length, getD, take, drop, length-drop}
+use lib.Seq.{getD-drop, drop-drop}
+use lib.Dec.{leb, ltb, eqb}
+use borrow.Author.Tests.{eq-eqb, ne-eqb}
+use Rattle.form.specs.Trees.{Val, v-range, code-temporal}
+use Rattle.form.specs.Limits.{nameWidth, valueLevels}
+use Rattle.form.specs.Form.{num, numAt}
+use Rattle.form.specs.Layout.{ValueKind, kNumber, kString, kTemporal, ofValue, kindOf, operandsV, operands, widthOf}
+use Rattle.form.specs.Read.{got, readV}
+use Rattle.form.proofs.Commands.{kind-temporal, width-is}
+use Rattle.form.proofs.ExactValues.{code-small-temporal}
+use Rattle.form.proofs.Nodes.{NodeV, nNull, nBoolean, nNumber, nString, nTemporal, nRangeV, nListV, nContextV, nDefinition, nBuiltIn, nType, nIrrelevant, value-read}
+use Rattle.types.proofs.Reading.{seen-got}
+use Rattle.values.specs.At.{valueAt}
+use Rattle.ranges.specs.Ranges.{Point, nowhere, text, key, elsewhere, point, in-order, signedLe}
+use Rattle.ranges.specs.Calls.{Ranged, RangeOf, RangeIs}
+use Rattle.ranges.proofs.Fronts.{Front, f-null, f-boolean, f-number, f-string, f-temporal, f-other, front-read}
+
+-- ---- what stands at `at` as an end of a range, and the bytes that it took
+pub data Edge (s : List ℕ) (at : ℕ) : Point → ℕ → Type 0 where
+  e-null : getD s at 0 ≡ 0 → at + 2 ≤ length s → Edge s at nowhere 2
+  e-text : getD s at 0 ≡ 3 → at + (1 + nameWidth) ≤ length s → Edge s at (text (numAt nameWidth (at + 1) s)) (1 + nameWidth)
+  e-key : 2 ≤ getD s at 0 → getD s at 0 < 9 → (getD s at 0 ≡ 3 → ⊥) → widthOf (getD s at 0) ≡ 8 → at + 9 ≤ length s → Edge s at (key (getD s at 0) (numAt 8 (at + 1) s)) 9
+  e-off : (n : ℕ) → 0 < getD s at 0 → (2 ≤ getD s at 0 → 9 ≤ getD s at 0) → at < length s → Edge s at elsewhere n
+
+width-of : (b c : ℕ) (k : ValueKind) → b ≡ c → kindOf c ≡ ofValue k → widthOf b ≡ operandsV k
+unfolding operands
+width-of b c k e f = width-is b (ofValue k) (ap kindOf e ∙ f)
+
+module _ (s : List ℕ) (at : ℕ) (l : length (drop at s) ≡ length s - at) (b : getD (drop at s) 0 0 ≡ getD s at 0) (h : 0 < length (drop at s)) where
+  one-on : (k : ℕ) → numAt k (at + 1) s ≡ numAt k 1 (drop at s)
+  one-on k = ap (λ (r : List ℕ). num (take k r)) (sym (drop-drop 1 at s))
+
+  key-edge : (c : ℕ) → getD s at 0 ≡ c → 2 ≤ c → c < 9 → (c ≡ 3 → ⊥) → (k : ValueKind) → kindOf c ≡ ofValue k → operandsV k ≡ 8 → 9 ≤ length (drop at s) → Edge s at (key c (numAt 8 1 (drop at s))) 9
+  key-edge c e x y z k f w i = subst (λ p. Edge s at p 9) (ap₂ key e (one-on 8)) (e-key (omega arith) (omega arith) (λ t. z (omega arith)) (width-of (getD s at 0) c k e f ∙ w) (omega arith))
+
+  edge-of : (v : Val) (n : ℕ) → Front (drop at s) v n → Edge s at (point v) n
+  unfolding operandsV kindOf
+  edge-of v n (f-null c k) = e-null (omega arith) (omega arith)
+  edge-of v n (f-boolean c k y) = e-off 2 (omega arith) (λ t. absurd (omega arith)) (omega arith)
+  edge-of v n (f-number c k) = key-edge 2 (sym b ∙ c) (omega arith) (omega arith) (λ t. omega arith) kNumber refl refl k
+  edge-of v n (f-string c k) = subst (λ p. Edge s at p (1 + nameWidth)) (ap text (one-on nameWidth)) (e-text (omega arith) (omega arith))
+  edge-of v n (f-temporal t c k) =
+      let g = code-small-temporal t in
+      key-edge (4 + code-temporal t) (sym b ∙ sym c) (omega arith) (omega arith) (λ t. omega arith) kTemporal (kind-temporal (4 + code-temporal t) (omega arith) (omega arith)) refl k
+  edge-of v n (f-other w k o) = let g = o .high in subst (λ p. Edge s at p n) (sym (o .off)) (e-off n (omega arith) (λ t. omega arith) (omega arith))
+
+-- ---- both ends
+record Parts (l : ℕ) (s : List ℕ) (v : Val) : Type 0 where
+  a : Val
+  b : Val
+  m : ℕ
+  n : ℕ
+  first : readV l (drop 3 s) ≡ got a m
+  second : readV l (drop m (drop 3 s)) ≡ got b n
+  is : v ≡ v-range (getD s 1 0) (getD s 2 0) a b
+
+parts : (l : ℕ) (s : List ℕ) (v : Val) (n : ℕ) → NodeV l s v n → getD s 0 0 ≡ 9 → Parts l s v
+parts l s v n (nNull c k x) h = absurd (omega arith)
+parts l s v n (nBoolean c k x) h = absurd (omega arith)
+parts l s v n (nNumber c k) h = absurd (omega arith)
+parts l s v n (nString c k) h = absurd (omega arith)
+parts l s v n (nTemporal c d k) h = absurd (omega arith)
+parts l s v n (nRangeV c k x y a m p b j q) h = record { a = a; b = b; m = m; n = j; first = p; second = q; is = refl }
+parts l s v n (nListV c k vs m p) h = absurd (omega arith)
+parts l s v n (nContextV c k es m p) h = absurd (omega arith)
+parts l s v n (nDefinition c k t m p ps j q) h = absurd (omega arith)
+parts l s v n (nBuiltIn c k x) h = absurd (omega arith)
+parts l s v n (nType c t m p) h = absurd (omega arith)
+parts l s v n (nIrrelevant c) h = absurd (omega arith)
+
+pub record Edges (s : List ℕ) : Type 0 where
+  pub p : Point
+  pub q : Point
+  pub m : ℕ
+  pub n : ℕ
+  pub first : Edge s 3 p m
+  pub second : Edge s (3 + m) q n
+  pub is : (r : Bool) → r ≡ cond (eqb (getD s 1 0) 3 || eqb (getD s 2 0) 3) false (in-order (getD s 1 0) (getD s 2 0) p q) → RangeIs s r
+
+edge-read : (l : ℕ) (s : List ℕ) (at : ℕ) (v : Val) (n : ℕ) → readV l (drop at s) ≡ got v n → Edge s at (point v) n
+edge-read l s at v n e = edge-of s at (length-drop at s) (getD-drop at s 0 0 ∙ ap (λ k. getD s k 0) (add-zero at)) (value-read l (drop at s) v n e .some-byte) v n (front-read l (drop at s) v n e)
+
+pub edges : (s : List ℕ) → Ranged s → Edges s
+unfolding valueAt RangeOf
+edges s R =
+    seen-got (readV valueLevels s) (R .value) (R .read) (λ k e.
+    let P = parts (valueLevels - 1) s (R .value) k (value-read valueLevels s (R .value) k e .node) (R .is) in
+    record {
+      p = point (P .a);
+      q = point (P .b);
+      m = P .m;
+      n = P .n;
+      first = edge-read (valueLevels - 1) s 3 (P .a) (P .m) (P .first);
+      second = edge-read (valueLevels - 1) s (3 + P .m) (P .b) (P .n) (ap (readV (valueLevels - 1)) (sym (drop-drop (P .m) 3 s)) ∙ P .second);
+      is = λ r h. rw (R .read, P .is) h;
+    })
+
+-- ---- an end, by its command
+module _ {s : List ℕ} {at : ℕ} where
+  edge-inside : {p : Point} {n : ℕ} → Edge s at p n → at < length s
+  edge-inside (e-null c k) = omega arith
+  edge-inside (e-text c k) = omega arith
+  edge-inside (e-key c d x o k) = omega arith
+  edge-inside (e-off m c d k) = k
+
+  edge-null : {p : Point} {n : ℕ} → Edge s at p n → getD s at 0 ≡ 0 → (p ≡ nowhere) × (n ≡ 2)
+  edge-null (e-null c k) h = (refl, refl)
+  edge-null (e-text c k) h = absurd (omega arith)
+  edge-null (e-key c d x o k) h = absurd (omega arith)
+  edge-null (e-off m c d k) h = absurd (omega arith)
+
+  edge-text : {p : Point} {n : ℕ} → Edge s at p n → getD s at 0 ≡ 3 → (p ≡ text (numAt nameWidth (at + 1) s)) × (at + 3 ≤ length s)
+  edge-text (e-null c k) h = absurd (omega arith)
+  edge-text (e-text c k) h = (refl, k)
+  edge-text (e-key c d x o k) h = absurd (x h)
+  edge-text (e-off m c d k) h = absurd (let g = d (omega arith) in omega arith)
+
+  edge-key : {p : Point} {n : ℕ} → Edge s at p n → 2 ≤ getD s at 0 → getD s at 0 < 9 → (getD s at 0 ≡ 3 → ⊥) → (p ≡ key (getD s at 0) (numAt 8 (at + 1) s)) × (at + 9 ≤ length s)
+  edge-key (e-null c k) h i x = absurd (omega arith)
+  edge-key (e-text c k) h i x = absurd (x c)
+  edge-key (e-key c d y o k) h i x = (refl, k)
+  edge-key (e-off m c d k) h i x = absurd (let g = d h in omega arith)
+
+  edge-off : {p : Point} {n : ℕ} → Edge s at p n → (getD s at 0 ≡ 0 → ⊥) → (2 ≤ getD s at 0 → 9 ≤ getD s at 0) → p ≡ elsewhere
+  edge-off (e-null c k) x h = absurd (x c)
+  edge-off (e-text c k) x h = absurd (let g = h (omega arith) in omega arith)
+  edge-off (e-key c d y o k) x h = absurd (let g = h c in omega arith)
+  edge-off (e-off m c d k) x h = refl
+
+-- the widths of texts and keys
+edge-wide : (s : List ℕ) (at : ℕ) (p : Point) (n : ℕ) → Edge s at p n → 2 ≤ getD s at 0 → getD s at 0 < 9 → (n ≡ widthOf (getD s at 0) + 1) × (n ≤ 9)
+unfolding operandsV kindOf
+edge-wide s at p n (e-null c k) h i = absurd (omega arith)
+edge-wide s at p n (e-text c k) h i = (omega (arith, width-of (getD s at 0) 3 kString c refl), omega arith)
+edge-wide s at p n (e-key c d x o k) h i = (omega arith, omega arith)
+edge-wide s at p n (e-off m c d k) h i = absurd (let g = d h in omega arith)
+
+-- ---- the answer, by both ends
+module _ {s : List ℕ} {at : ℕ} (i j : ℕ) where
+  -- the start is Null
+  from-null : {q : Point} {n : ℕ} → Edge s at q n → (getD s at 0 ≡ 0 → ⊥) → ltb i 2 ≡ in-order i j nowhere q
+  from-null (e-null c k) h = absurd (h c)
+  from-null (e-text c k) h = refl
+  from-null (e-key c d x o k) h = refl
+  from-null (e-off m c d k) h = refl
+
+  -- the end is Null
+  to-null : {p : Point} {m : ℕ} → Edge s at p m → 2 ≤ getD s at 0 → getD s at 0 < 9 → ltb j 2 ≡ in-order i j p nowhere
+  to-null (e-null c k) g h = absurd (omega arith)
+  to-null (e-text c k) g h = refl
+  to-null (e-key c d x o k) g h = refl
+  to-null (e-off m c d k) g h = absurd (let z = d g in omega arith)
+
+  -- two kinds
+  apart : {to : ℕ} {p q : Point} {m n : ℕ} → Edge s at p m → Edge s to q n → 2 ≤ getD s at 0 → getD s at 0 < 9 → (getD s to 0 ≡ 0 → ⊥) → (getD s to 0 ≡ getD s at 0 → ⊥) → false ≡ in-order i j p q
+  apart (e-null c k) f g h x y = absurd (omega arith)
+  apart (e-text c k) (e-null d l) g h x y = absurd (x d)
+  apart (e-text c k) (e-text d l) g h x y = absurd (y (d ∙ sym c))
+  apart (e-text c k) (e-key d e z o l) g h x y = refl
+  apart (e-text c k) (e-off r d e l) g h x y = refl
+  apart (e-key c e w o k) (e-null d l) g h x y = absurd (x d)
+  apart (e-key c e w o k) (e-text d l) g h x y = refl
+  apart {to} (e-key c e w o k) (e-key d f z u l) g h x y = rw (ne-eqb (getD s at 0) (getD s to 0) (λ t. y (sym t)))
+  apart (e-key c e w o k) (e-off r d f l) g h x y = refl
+  apart (e-off m c d k) f g h x y = absurd (let z = d g in omega arith)
+
+-- ---- what the walk asks and answers
+module _ {s : List ℕ} (R : Ranged s) where
+  abbrev E : Edges s
+  E = edges s R
+
+  abbrev I : ℕ
+  I = getD s 1 0
+
+  abbrev J : ℕ
+  J = getD s 2 0
+
+  abbrev C : ℕ
+  C = getD s 3 0
+
+  pub start-inside : 3 < length s
+  start-inside = edge-inside (E .first)
+
+  pub start-three : I ≡ 3 → RangeIs s false
+  start-three h = E .is false (rw (eq-eqb I 3 h))
+
+  module _ (x : I ≡ 3 → ⊥) where
+    pub end-three : J ≡ 3 → RangeIs s false
+    end-three h = E .is false (rw (ne-eqb I 3 x, eq-eqb J 3 h))
+
+    module _ (y : J ≡ 3 → ⊥) where
+      answer : (r : Bool) → r ≡ in-order I J (E .p) (E .q) → RangeIs s r
+      answer r h = E .is r (rw (ne-eqb I 3 x, ne-eqb J 3 y) h)
+
+      -- neither Null nor a kind with an order
+      pub start-off : (C ≡ 0 → ⊥) → (2 ≤ C → 9 ≤ C) → RangeIs s false
+      start-off g h = answer false (rw (edge-off (E .first) g h))
+
+      -- ---- the start is Null
+      module _ (c : C ≡ 0) where
+        second : Edge s 5 (E .q) (E .n)
+        second = subst (λ k. Edge s (3 + k) (E .q) (E .n)) (edge-null (E .first) c .1) (E .second)
+
+        pub null-inside : 5 < length s
+        null-inside = edge-inside second
+
+        pub null-null : getD s 5 0 ≡ 0 → RangeIs s false
+        null-null h = answer false (rw (edge-null (E .first) c .0, edge-null second h .0))
+
+        pub null-other : (getD s 5 0 ≡ 0 → ⊥) → RangeIs s (ltb I 2)
+        null-other h = answer (ltb I 2) (rw (edge-null (E .first) c .0) (from-null I J second h))
+
+      -- ---- the start is a text or a key, of this width
+      module _ (g : 2 ≤ C) (h : C < 9) {w : ℕ} (e : w ≡ widthOf C) where
+        wide : (E .m ≡ w + 1) × (E .m ≤ 9)
+        wide = let d = edge-wide s 3 (E .p) (E .m) (E .first) g h in (omega (arith, d .0), d .1)
+
+        pub end-near : w + 4 ≤ 12
+        end-near = omega (arith, wide .0, wide .1)
+
+        behind : Edge s (w + 4) (E .q) (E .n)
+        behind = subst (λ k. Edge s k (E .q) (E .n)) (omega (arith, wide .0)) (E .second)
+
+        pub end-inside : w + 4 < length s
+        end-inside = edge-inside behind
+
+        pub end-null : getD s (w + 4) 0 ≡ 0 → RangeIs s (ltb J 2)
+        end-null d = answer (ltb J 2) (rw (edge-null behind d .0) (to-null I J (E .first) g h))
+
+        pub end-other : (getD s (w + 4) 0 ≡ 0 → ⊥) → (getD s (w + 4) 0 ≡ C → ⊥) → RangeIs s false
+        end-other d k = answer false (apart I J (E .first) behind g h d k)
+
+        module _ (d : getD s (w + 4) 0 ≡ C) where
+          module _ (t : C ≡ 3) where
+            pub texts-inside : (6 ≤ length s) × (w + 4 + 1 + 2 ≤ length s)
+            texts-inside = (edge-text (E .first) t .1, omega (arith, edge-text behind (d ∙ t) .1))
+
+            pub texts-done : {a b : ℕ} → a ≡ numAt nameWidth 4 s → b ≡ numAt nameWidth (w + 4 + 1) s → RangeIs s (leb a b)
+            texts-done {a} {b} p q = answer (leb a b) (rw (edge-text (E .first) t .0, edge-text behind (d ∙ t) .0, p, q))
+
+          module _ (t : C ≡ 3 → ⊥) where
+            first-is : (E .p ≡ key C (numAt 8 4 s)) × (12 ≤ length s)
+            first-is = edge-key (E .first) g h t
+
+            second-is : (E .q ≡ key (getD s (w + 4) 0) (numAt 8 (w + 4 + 1) s)) × (w + 4 + 9 ≤ length s)
+            second-is = edge-key behind (omega arith) (omega arith) (λ z. t (sym d ∙ z))
+
+            pub keys-inside : (12 ≤ length s) × (w + 4 + 1 + 8 ≤ length s)
+            keys-inside = (first-is .1, omega (arith, second-is .1))
+
+            pub keys-done : {a b : ℕ} {r : Bool} → a ≡ numAt 8 4 s → b ≡ numAt 8 (w + 4 + 1) s → r ≡ signedLe a b → RangeIs s r
+            keys-done {a} {b} {r} p q z = answer r (z ∙ rw (p, q, first-is .0, second-is .0, d, eq-eqb C C refl))

@@ -1,0 +1,5 @@
+pub mod Fronts
+pub mod Questions
+pub mod Keys
+pub mod Ends
+pub mod Builtins

@@ -1,0 +1,10 @@
+-- `ranges::signed_le` meets its contract.
+-- Assumes nothing.
+use Rattle.ranges.proofs.signed_le.Statement.{statement}
+use Rattle.ranges.proofs.signed_le.Tie as tie
+use Prim.Native.Nat.{_^_}
+use borrow.Author.Tests.{le-leb, lt-leb}
+use Rattle.ranges.proofs.Keys.{signed}
+
+pub signed-le-spec : {M : Type 1} → statement M
+signed-le-spec = tie.close (tie.spec (λ c. signed (c .before .before .args .a) (c .before .before .args .b) (lt-leb (2 ^ 63) (c .before .before .args .a) (c .before .if1 .taken)) (lt-leb (2 ^ 63) (c .before .before .args .b) (c .if2 .taken))) (λ c. signed (c .before .before .args .a) (c .before .before .args .b) (lt-leb (2 ^ 63) (c .before .before .args .a) (c .before .if1 .taken)) (le-leb (2 ^ 63) (c .before .before .args .b) (c .if2 .left))) (λ c. signed (c .before .before .args .a) (c .before .before .args .b) (le-leb (2 ^ 63) (c .before .before .args .a) (c .before .if1 .left)) (lt-leb (2 ^ 63) (c .before .before .args .b) (c .if3 .taken))) (λ c. signed (c .before .before .args .a) (c .before .before .args .b) (le-leb (2 ^ 63) (c .before .before .args .a) (c .before .if1 .left)) (le-leb (2 ^ 63) (c .before .before .args .b) (c .if3 .left))))

@@ -1,0 +1,243 @@
+-- The calls: refusals in their order, and the answer.
+-- Assumes nothing.
+use Prim.Native.Nat.{ℕ, _+_, _-_, _<_, _≤_}
+use native.Mathlib.Omega.{arith}
+use mathlib.Core.Path.{_≡_, refl, sym, ap, ap₂, subst, _∙_}
+use mathlib.Core.Bool.{Bool, true, false, cond, _&&_, false≢true}
+use mathlib.Core.Option.{Option, none, some}
+use mathlib.Core.List.{List, [], _∷_, _++_, append-nil}
+use lib.ListN.{length, getD, take, drop, length-take}
+use lib.Seq.{take-all}
+use lib.Dec.{leb, eqb}
+use borrow.Author.Tests.{le-leb, eq-eqb, ne-eqb}
+use Rattle.form.specs.Limits.{typeLevels, valueLevels, mostBytes, valueRefusals, typeRefusals}
+use Rattle.form.specs.Trees.{Simple, null, code, Ty, leaf, built, list, range, context, function, Val, v-leaf, l-null}
+use Rattle.form.specs.Form.{Bytes, enc, encV, encLeaf, level, levelV, Wf, WfV}
+use Rattle.form.specs.Outcome.{Outcome, done, refused, _>>=_, _>>_, check, orRefuse, fits, pick}
+use Rattle.form.specs.Read.{readT, readV, readType, readValue, checkType, checkValue}
+use Rattle.form.specs.Answers.{onto, Built}
+use Rattle.form.specs.declared.Written.{Written}
+use Rattle.form.specs.declared.Written.the-variants as written-is
+use Rattle.form.proofs.Accepted.{whole-got}
+use Rattle.form.proofs.Types.{type-accepted, type-told}
+use Rattle.form.proofs.Values.{value-accepted, value-told, read-upV}
+use Rattle.order.specs.Order.{same}
+use Rattle.order.specs.Size.{size, size-val}
+use Rattle.order.specs.Inferred.{valueConformsTo}
+use Rattle.order.proofs.LeastSize.{length-encV}
+use Rattle.order.proofs.WellFormed.{asc-of}
+use Rattle.types.specs.At.{typeAt, Ok}
+use Rattle.types.proofs.Reading.{got-seen, is-ok, some-byte, cmd, cmd-is}
+use Rattle.types.specs.Conform.{judge}
+use Rattle.types.specs.declared.Conform.{Conform}
+use Rattle.types.specs.declared.Conform.the-variants as conform
+use Rattle.types.proofs.Conforming.{judge-yes, judge-no}
+use Rattle.values.specs.At.{valueAt}
+use Rattle.values.specs.Held.{held}
+use Rattle.values.proofs.Holding as holding
+use Rattle.bounds.proofs.Laws.{length-onto}
+use Rattle.bounds.proofs.Outcomes.{built-refused, built-short, built-wrote}
+use Rattle.retrieval.specs.Retrieve.{mapped, retrieve, getValueChecked, nothing, is-null, or-nothing, getConformantValue}
+use Rattle.retrieval.specs.Filling.{fill, Accepted, answered, Filled, Gave, Retrieves}
+use Rattle.retrieval.specs.Calls.{small, result, getValueCheckedCall, getConformantValueCall}
+use Rattle.retrieval.specs.declared.Retrieved.{Retrieved}
+use Rattle.retrieval.specs.declared.Retrieved.the-variants.{Yes, No}
+use Rattle.retrieval.proofs.Theorems.{less-val, there}
+
+small-result : (room : ℕ) (w : Val) → small w ≡ true → fits room (encV w) ≡ result room w
+unfolding _>>_
+small-result room w h = rw h
+
+-- ---- the two that were accepted
+module _ (t v : List ℕ) (A : Accepted t v) where
+  type-there : typeAt typeLevels t ≡ some (A .type)
+  unfolding typeAt
+  type-there = got-seen (readT typeLevels t) (A .type) (length t) (whole-got typeRefusals (readT typeLevels) t (A .type) (A .read-t))
+
+  value-there : valueAt typeLevels v ≡ some (A .value)
+  unfolding valueAt
+  value-there = got-seen (readV typeLevels v) (A .value) (length v) (read-upV valueLevels typeLevels v (A .bytes-v) (A .value) (length v) (omega arith) (whole-got valueRefusals (readV valueLevels) v (A .value) (A .read-v)))
+
+  pub type-ok : Ok (typeAt typeLevels t)
+  type-ok = is-ok (typeAt typeLevels t) (A .type) type-there
+
+  pub value-ok : Ok (valueAt typeLevels v)
+  value-ok = is-ok (valueAt typeLevels v) (A .value) value-there
+
+  well : WfV (A .value)
+  well = value-accepted v (A .bytes-v) (A .value) (A .read-v) .well
+
+  -- a value that was retrieved is small: 17 is never met
+  pub retrieved-small : (w : Val) → retrieve (A .value) (A .type) ≡ some w → small w ≡ true
+  retrieved-small w e =
+      let C = value-accepted v (A .bytes-v) (A .value) (A .read-v) in
+      let L = less-val (A .value) (A .type) w e in
+      let n : length (encV w) ≤ mostBytes = omega (arith, length-encV w, length-encV (A .value), L .shorter, C .short, ap length (C .bytes)) in
+      let m : levelV w ≤ valueLevels = omega (arith, L .lower, C .low) in
+      ap₂ _&&_ (le-leb (length (encV w)) mostBytes n) (le-leb (levelV w) valueLevels m)
+
+  checked-is : (room : ℕ) (w : Val) → retrieve (A .value) (A .type) ≡ some w → getValueCheckedCall t v room ≡ fits room (encV w)
+  unfolding getValueCheckedCall _>>=_ _>>_
+  checked-is room w e = rw (A .read-t, A .read-v, e, retrieved-small w e)
+
+  checked-err : (room : ℕ) → retrieve (A .value) (A .type) ≡ none → getValueCheckedCall t v room ≡ refused 15
+  unfolding getValueCheckedCall _>>=_
+  checked-err room e = rw (A .read-t, A .read-v, e)
+
+  -- ---- what the builder says
+  module _ (old new : List ℕ) (r : Retrieved) (g : Retrieves (typeAt typeLevels t) (valueAt typeLevels v) old new r) where
+    gave : Gave (A .type) (A .value) old new r
+    unfolding Retrieves
+    gave = rw (type-there, value-there) at g
+
+    pub err-is : r ≡ No → retrieve (A .value) (A .type) ≡ none
+    unfolding answered
+    err-is p = go (retrieve (A .value) (A .type)) (sym (gave .says) ∙ p)
+      where
+        go : (o : Option Val) → answered (size (A .type)) (size-val (A .value)) (mapped encV o) ≡ No → o ≡ none
+        go none e = refl
+        go (some w) e = absurd (let z : _≡_ {A = ℕ} 0 1 = cc in omega arith)
+
+    pub record Found (n : ℕ) : Type 0 where
+      pub w : Val
+      pub is : retrieve (A .value) (A .type) ≡ some w
+      pub long : n ≡ length (encV w)
+      pub out : new ≡ fill (encV w) old
+
+    pub found : (a b n : ℕ) → r ≡ Yes a b n → Found n
+    unfolding answered Filled
+    found a b n p = go (retrieve (A .value) (A .type)) refl (sym (gave .says) ∙ p) (gave .out)
+      where
+        go : (o : Option Val) → retrieve (A .value) (A .type) ≡ o → answered (size (A .type)) (size-val (A .value)) (mapped encV o) ≡ Yes a b n → Filled (mapped encV o) old new → Found n
+        go none q e f = absurd (let z : _≡_ {A = ℕ} 0 1 = cc in omega arith)
+        go (some w) q e f = record { w = w; is = q; long = cc; out = f }
+
+    -- the output keeps its length
+    pub gave-kept : length new ≡ length old
+    unfolding Filled fill
+    gave-kept = go (retrieve (A .value) (A .type)) (gave .out)
+      where
+        go : (o : Option Val) → Filled (mapped encV o) old new → length new ≡ length old
+        go none f = f
+        go (some w) f = ap length f ∙ length-onto (take (length old) (encV w)) old (omega (arith, length-take (length old) (encV w)))
+
+  -- ---- over no output first
+  module _ (old none-old sc : List ℕ) (r : Retrieved) (e : length none-old ≡ 0) (g : Retrieves (typeAt typeLevels t) (valueAt typeLevels v) none-old sc r) where
+    pub as-was : sc ++ old ≡ old
+    as-was = go sc (gave-kept none-old sc r g ∙ e)
+      where
+        go : (xs : List ℕ) → length xs ≡ 0 → xs ++ old ≡ old
+        go [] p = refl
+        go (x ∷ xs) p = absurd (omega arith)
+
+    pub call-err : r ≡ No → Built (getValueCheckedCall t v (length old)) old (sc ++ old) (written-is.Refused 15)
+    call-err p = subst (λ z. Built (getValueCheckedCall t v (length old)) old z (written-is.Refused 15)) (sym as-was) (built-refused (getValueCheckedCall t v (length old)) 15 old (checked-err (length old) (err-is none-old sc r g p)))
+
+    module _ (a b n : ℕ) (p : r ≡ Yes a b n) where
+      F : Found none-old sc r g n
+      F = found none-old sc r g a b n p
+
+      pub call-short : length (sc ++ old) < n → Built (getValueCheckedCall t v (length old)) old (sc ++ old) (written-is.Refused 18)
+      call-short l =
+          subst (λ z. Built (getValueCheckedCall t v (length old)) old z (written-is.Refused 18)) (sym as-was)
+          (built-short (getValueCheckedCall t v (length old)) (encV (F .w)) old (checked-is (length old) (F .w) (F .is)) (omega (arith, F .long, ap length as-was)))
+
+      module _ (l : n ≤ length (sc ++ old)) (new : List ℕ) (q : Retrieved) (h : Retrieves (typeAt typeLevels t) (valueAt typeLevels v) (sc ++ old) new q) where
+        -- the second run answers the same
+        again : q ≡ No → ⊥
+        again z = let u : _≡_ {A = Option Val} none (some (F .w)) = sym (err-is (sc ++ old) new q h z) ∙ F .is in let y : _≡_ {A = ℕ} 0 1 = cc in omega arith
+
+        pub call-again : q ≡ No → Built (getValueCheckedCall t v (length old)) old new (written-is.Refused 15)
+        call-again z = absurd (again z)
+
+        pub call-done : (a′ b′ m : ℕ) → q ≡ Yes a′ b′ m → Built (getValueCheckedCall t v (length old)) old new (written-is.Bytes m)
+        unfolding fill
+        call-done a′ b′ m z =
+            let G = found (sc ++ old) new q h a′ b′ m z in
+            let same-w : F .w ≡ G .w = let y : some (F .w) ≡ some (G .w) = sym (F .is) ∙ G .is in cc in
+            let fit : length (encV (G .w)) ≤ length old = omega (arith, ap (λ x. length (encV x)) same-w, F .long, ap length as-was) in
+            let whole : take (length old) (encV (G .w)) ≡ encV (G .w) = take-all (length old) (encV (G .w)) fit in
+            let is : new ≡ onto (encV (G .w)) old = G .out ∙ ap (λ o. fill (encV (G .w)) o) as-was ∙ ap (λ x. onto x old) whole in
+            built-wrote (getValueCheckedCall t v (length old)) (encV (G .w)) old new m (checked-is (length old) (G .w) (G .is)) (G .long) fit is
+
+  -- ---- `get_conformant_value`
+  conformant-is : (room : ℕ) → getConformantValueCall t v room ≡ result room (getConformantValue (A .type) (A .value))
+  unfolding getConformantValueCall _>>=_ _>>_
+  conformant-is room = rw (A .read-t, A .read-v)
+
+  pub some-type : 0 < length t
+  some-type = some-byte typeLevels t (A .type) type-there
+
+  null-type : getD t 0 0 ≡ 0x29 → is-null (A .type) ≡ true
+  null-type e = go (A .type) (cmd-is typeLevels t (A .type) type-there ∙ e)
+    where
+      go : (u : Ty) → cmd u ≡ 0x29 → is-null u ≡ true
+      go (leaf s) h = eq-eqb (code s) 9 (omega arith)
+      go (built (list u)) h = absurd (omega arith)
+      go (built (range u)) h = absurd (omega arith)
+      go (built (context fs)) h = absurd (omega arith)
+      go (built (function ps r)) h = absurd (omega arith)
+
+  other-type : (getD t 0 0 ≡ 0x29 → ⊥) → is-null (A .type) ≡ false
+  other-type e = go (A .type) (λ z. e (sym (cmd-is typeLevels t (A .type) type-there) ∙ z))
+    where
+      go : (u : Ty) → (cmd u ≡ 0x29 → ⊥) → is-null u ≡ false
+      go (leaf s) h = ne-eqb (code s) 9 (λ z. h (omega arith))
+      go (built (list u)) h = refl
+      go (built (range u)) h = refl
+      go (built (context fs)) h = refl
+      go (built (function ps r)) h = refl
+
+  -- null with a trace is small
+  nothing-is : (room n : ℕ) → result room (nothing n) ≡ fits room (0 ∷ n ∷ [])
+  unfolding _>>_ encV encLeaf levelV
+  nothing-is room n = refl
+
+  pub null-target : getD t 0 0 ≡ 0x29 → (room : ℕ) → fits room (0 ∷ 0 ∷ []) ≡ getConformantValueCall t v room
+  null-target e room = sym (conformant-is room ∙ ap (λ q. result room (cond q (nothing 0) (cond (valueConformsTo (A .value) (A .type)) (or-nothing (retrieve (A .value) (A .type))) (nothing 2)))) (null-type e) ∙ nothing-is room 0)
+
+  module _ (d : getD t 0 0 ≡ 0x29 → ⊥) (c : Conform) (h : c ≡ held (valueAt typeLevels v) (typeAt typeLevels t)) where
+    judged : c ≡ judge (valueConformsTo (A .value) (A .type)) (size-val (A .value)) (size (A .type))
+    judged = h ∙ holding.both size-val size valueConformsTo (valueAt typeLevels v) (typeAt typeLevels t) (A .value) (A .type) value-there type-there
+
+    pub not-conformant : c ≡ conform.No → (room : ℕ) → fits room (0 ∷ 2 ∷ []) ≡ getConformantValueCall t v room
+    not-conformant p room =
+        let n = judge-no (valueConformsTo (A .value) (A .type)) (size-val (A .value)) (size (A .type)) (sym judged ∙ p) in
+        sym (conformant-is room
+        ∙ ap (λ q. result room (cond q (nothing 0) (cond (valueConformsTo (A .value) (A .type)) (or-nothing (retrieve (A .value) (A .type))) (nothing 2)))) (other-type d)
+        ∙ ap (λ q. result room (cond q (or-nothing (retrieve (A .value) (A .type))) (nothing 2))) n ∙ nothing-is room 2)
+
+    pub is-conformant : (x y : ℕ) → c ≡ conform.Yes x y → (room : ℕ) → getValueCheckedCall t v room ≡ getConformantValueCall t v room
+    is-conformant x y p room =
+        let n = judge-yes (valueConformsTo (A .value) (A .type)) (size-val (A .value)) (size (A .type)) x y (sym judged ∙ p) .0 in
+        let T = there (A .value) (A .type) well (asc-of (A .type) (type-accepted t (A .bytes-t) (A .type) (A .read-t) .well)) n in
+        checked-is room (T .w) (T .is)
+        ∙ small-result room (T .w) (retrieved-small (T .w) (T .is))
+        ∙ sym (conformant-is room
+        ∙ ap (λ q. result room (cond q (nothing 0) (cond (valueConformsTo (A .value) (A .type)) (or-nothing (retrieve (A .value) (A .type))) (nothing 2)))) (other-type d)
+        ∙ ap (λ q. result room (cond q (or-nothing (retrieve (A .value) (A .type))) (nothing 2))) n
+        ∙ ap (λ o. result room (or-nothing o)) (T .is))
+
+-- ---- arguments that are refused
+pub checked-refused-t : (t v : List ℕ) (n k : ℕ) → readType t ≡ refused n → getValueCheckedCall t v k ≡ refused n
+unfolding getValueCheckedCall _>>=_
+checked-refused-t t v n k e = rw e
+
+pub checked-refused-v : (t v : List ℕ) (u : Ty) (n k : ℕ) → readType t ≡ done u → readValue v ≡ refused n → getValueCheckedCall t v k ≡ refused n
+unfolding getValueCheckedCall _>>=_
+checked-refused-v t v u n k e f = rw (e, f)
+
+pub conformant-refused-t : (t v : List ℕ) (n k : ℕ) → readType t ≡ refused n → getConformantValueCall t v k ≡ refused n
+unfolding getConformantValueCall _>>=_
+conformant-refused-t t v n k e = rw e
+
+pub conformant-refused-v : (t v : List ℕ) (u : Ty) (n k : ℕ) → readType t ≡ done u → readValue v ≡ refused n → getConformantValueCall t v k ≡ refused n
+unfolding getConformantValueCall _>>=_
+conformant-refused-v t v u n k e f = rw (e, f)
+
+-- what the readers of a call said
+pub accepted : (t v : List ℕ) (n m : ℕ) → Bytes t → Bytes v → checkType t ≡ done n → checkValue v ≡ done m → Accepted t v
+accepted t v n m bt bv e f =
+    let T = type-told t bt n e in
+    let W = value-told v bv m f in
+    record { bytes-t = bt; bytes-v = bv; type = T .tree; value = W .tree; read-t = T .reads; read-v = W .reads }

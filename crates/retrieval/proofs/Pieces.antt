@@ -1,0 +1,93 @@
+-- The laws of `fill`: as much as has room, one piece behind the other.
+-- Assumes nothing.
+use mathlib.Core.Path.{_≡_, refl, sym, ap, _∙_}
+use mathlib.Core.List.{List, [], _∷_, _++_, append-nil}
+use Prim.Native.Nat.{ℕ, zero, suc, _-_, _≤_, min}
+use native.Mathlib.Omega.{arith}
+use lib.ListN.{length, take, drop, length-append, length-take, length-drop, drop-of-length-le}
+use lib.Seq.{take-all}
+use borrow.Rule.Slice.PartMut.{putMid, same-len-mid}
+use Rattle.form.specs.Answers.{onto}
+use Rattle.bounds.proofs.Laws.{rest}
+use Rattle.retrieval.specs.Filling.{fill}
+
+-- ---- byte by byte
+fill-nil : (old : List ℕ) → fill [] old ≡ old
+unfolding fill onto
+fill-nil [] = refl
+fill-nil (o ∷ old) = refl
+
+fill-full : (bs : List ℕ) → fill bs [] ≡ []
+unfolding fill onto
+fill-full [] = refl
+fill-full (b ∷ bs) = refl
+
+fill-one : (b o : ℕ) (bs old : List ℕ) → fill (b ∷ bs) (o ∷ old) ≡ b ∷ fill bs old
+unfolding fill onto
+fill-one b o bs old = refl
+
+pub length-fill : (bs old : List ℕ) → length (fill bs old) ≡ length old
+length-fill [] old = ap length (fill-nil old)
+length-fill (b ∷ bs) [] = ap length (fill-full (b ∷ bs))
+length-fill (b ∷ bs) (o ∷ old) = ap length (fill-one b o bs old) ∙ ap suc (length-fill bs old)
+
+-- a longer text over a shorter one
+pub fill-over : (h d old : List ℕ) → length h ≤ length d → fill d (fill h old) ≡ fill d old
+fill-over [] d old k = ap (fill d) (fill-nil old)
+fill-over (x ∷ h) [] old k = absurd (omega arith)
+fill-over (x ∷ h) (y ∷ d) [] k = ap (fill (y ∷ d)) (fill-full (x ∷ h))
+fill-over (x ∷ h) (y ∷ d) (o ∷ old) k =
+    ap (fill (y ∷ d)) (fill-one x o h old) ∙ fill-one y x d (fill h old) ∙ ap (λ (z : List ℕ). y ∷ z) (fill-over h d old (omega arith)) ∙ sym (fill-one y o d old)
+
+-- another head of the same length
+refill : (h k e old : List ℕ) → length h ≡ length k → fill k (fill (h ++ e) old) ≡ fill (k ++ e) old
+refill [] [] e old q = fill-nil (fill e old)
+refill [] (y ∷ k) e old q = absurd (omega arith)
+refill (x ∷ h) [] e old q = absurd (omega arith)
+refill (x ∷ h) (y ∷ k) e [] q = ap (fill (y ∷ k)) (fill-full (x ∷ (h ++ e))) ∙ fill-full (y ∷ k) ∙ sym (fill-full (y ∷ (k ++ e)))
+refill (x ∷ h) (y ∷ k) e (o ∷ old) q =
+    ap (fill (y ∷ k)) (fill-one x o (h ++ e) old) ∙ fill-one y x k (fill (h ++ e) old) ∙ ap (λ (z : List ℕ). y ∷ z) (refill h k e old (omega arith)) ∙ sym (fill-one y o (k ++ e) old)
+
+-- the rest behind the first text, or behind all
+fill-rest : (a b old : List ℕ) (p : ℕ) → p ≡ min (length a) (length old) → take p (fill a old) ++ fill b (drop p (fill a old)) ≡ fill (a ++ b) old
+fill-rest [] b old zero e = ap (fill b) (fill-nil old)
+fill-rest [] b old (suc p) e = absurd (omega arith)
+fill-rest (x ∷ a) b [] zero e = ap (fill b) (fill-full (x ∷ a)) ∙ fill-full b ∙ sym (fill-full (x ∷ (a ++ b)))
+fill-rest (x ∷ a) b [] (suc p) e = absurd (omega arith)
+fill-rest (x ∷ a) b (o ∷ old) zero e = absurd (omega arith)
+fill-rest (x ∷ a) b (o ∷ old) (suc p) e =
+    ap (λ (z : List ℕ). take (suc p) z ++ fill b (drop (suc p) z)) (fill-one x o a old) ∙ ap (λ (z : List ℕ). x ∷ z) (fill-rest a b old p (omega arith)) ∙ sym (fill-one x o (a ++ b) old)
+
+-- the same as the code has it: `&mut out[p..]` was lent with `out` at xs, and came back at ys
+pub fill-then : (a b old xs ys : List ℕ) (n p : ℕ) → xs ≡ fill a old → length a ≡ n → p ≡ min n (length xs)
+    → ys ≡ fill b (take (length xs - p) (drop p xs))
+    → putMid p (length xs - p) xs ys ≡ fill (a ++ b) old
+fill-then a b old xs ys n p ex el ep ey =
+    let short : length (drop p xs) ≤ length xs - p = simp length-drop (omega arith) in
+    let none : drop (length xs - p) (drop p xs) ≡ [] = drop-of-length-le (drop p xs) short in
+    let same : length xs ≡ length old = ap length ex ∙ length-fill a old in
+    rw (none, append-nil, ey, rest xs p, ex) (fill-rest a b old p (omega arith))
+
+pub then-length : (p : ℕ) (xs ys : List ℕ) → length ys ≡ length (take (length xs - p) (drop p xs)) → length (putMid p (length xs - p) xs ys) ≡ length xs
+then-length p xs ys e = same-len-mid p (length xs - p) xs ys e
+
+-- the head is written again when all stands behind it; `mid` had the first head alone
+pub late-head : (h k e old mid out new : List ℕ) → length h ≡ length k → mid ≡ fill h old → out ≡ fill (h ++ e) mid → new ≡ fill k out → new ≡ fill (k ++ e) old
+late-head h k e old mid out new l em eo en =
+    en ∙ ap (fill k) eo ∙ refill h k e mid l ∙ ap (fill (k ++ e)) em ∙ fill-over h (k ++ e) old (omega (arith, length-append k e))
+
+-- what the code of `fill` copies
+cut : (src : List ℕ) (n m : ℕ) → n ≡ min (length src) m → take n src ≡ take m src
+cut [] zero m e = sym (take-all m [] (omega arith))
+cut [] (suc n) m e = absurd (omega arith)
+cut (b ∷ src) zero zero e = refl
+cut (b ∷ src) zero (suc m) e = absurd (omega arith)
+cut (b ∷ src) (suc n) zero e = absurd (omega arith)
+cut (b ∷ src) (suc n) (suc m) e = ap (λ (z : List ℕ). b ∷ z) (cut src n m (omega arith))
+
+pub fills : (src old new : List ℕ) (n : ℕ) → n ≡ min (length src) (length old) → new ≡ onto (take n src) old → new ≡ fill src old
+unfolding fill
+fills src old new n e q = q ∙ ap (λ (z : List ℕ). onto z old) (cut src n (length old) e)
+
+pub cut-length : (src old : List ℕ) (n : ℕ) → n ≡ min (length src) (length old) → length (take n src) ≤ length old
+cut-length src old n e = simp length-take (omega arith)

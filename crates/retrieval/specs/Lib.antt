@@ -1,0 +1,3 @@
+pub mod Retrieve
+pub mod Filling
+pub mod Calls
