@@ -3,6 +3,11 @@
  *   type T            is T an accepted type?
  *   conforms A / B    does the type A conform to the type B?
  *   supertype A / B   the common supertype of two types
+ *   holds V / T       does the value V conform to the type T?
+ *   least V           the least type of a data value
+ *   type-of V         its type as the Rust infers it
+ *   coerce V / T      V coerced to the type T
+ *   retrieve T / V    V retrieved by the type T
  * Records are in hexadecimal. A line that is none of these is said to be so, and the next one is read. */
 #include "feel.h"
 #include <stdio.h>
@@ -16,7 +21,7 @@ struct record {
 };
 
 static struct record a, b;
-static uint8_t scratch[2 * MOST], out[2 * MOST];
+static uint8_t scratch[4 * MOST], out[2 * MOST];
 
 static int digit(char c)
 {
@@ -66,6 +71,14 @@ static int refused(uint64_t answer)
     return 1;
 }
 
+static void print_out(uint64_t answer)
+{
+    if (refused(answer)) return;
+    for (uint64_t i = 0; i < answer; i++)
+        printf(i ? " %02X" : "%02X", out[i]);
+    printf("\n");
+}
+
 static void answer_line(const char *line)
 {
     uint64_t answer;
@@ -83,12 +96,23 @@ static void answer_line(const char *line)
         if (!refused(answer)) printf(answer ? "conforms\n" : "does not conform\n");
     } else if (strncmp(line, "supertype ", 10) == 0 && read_two(line + 10)) {
         printf("supertype of %zu and %zu bytes: ", a.len, b.len);
-        answer = feel_type_common_supertype(a.bytes, a.len, b.bytes, b.len, scratch, sizeof scratch, out, sizeof out);
-        if (!refused(answer)) {
-            for (uint64_t i = 0; i < answer; i++)
-                printf(i ? " %02X" : "%02X", out[i]);
-            printf("\n");
-        }
+        print_out(feel_type_common_supertype(a.bytes, a.len, b.bytes, b.len, scratch, sizeof scratch, out, sizeof out));
+    } else if (strncmp(line, "holds ", 6) == 0 && read_two(line + 6)) {
+        printf("value of %zu bytes to type of %zu bytes: ", a.len, b.len);
+        answer = feel_value_is_conformant(a.bytes, a.len, b.bytes, b.len);
+        if (!refused(answer)) printf(answer ? "conforms\n" : "does not conform\n");
+    } else if (strncmp(line, "least ", 6) == 0 && read_one(line + 6)) {
+        printf("least type of %zu bytes: ", a.len);
+        print_out(feel_value_least_type(a.bytes, a.len, scratch, sizeof scratch, out, sizeof out));
+    } else if (strncmp(line, "type-of ", 8) == 0 && read_one(line + 8)) {
+        printf("inferred type of %zu bytes: ", a.len);
+        print_out(feel_value_type_of(a.bytes, a.len, scratch, sizeof scratch, out, sizeof out));
+    } else if (strncmp(line, "coerce ", 7) == 0 && read_two(line + 7)) {
+        printf("value of %zu bytes coerced: ", a.len);
+        print_out(feel_value_coerced(a.bytes, a.len, b.bytes, b.len, out, sizeof out));
+    } else if (strncmp(line, "retrieve ", 9) == 0 && read_two(line + 9)) {
+        printf("value of %zu bytes retrieved: ", b.len);
+        print_out(feel_type_get_value_checked(a.bytes, a.len, b.bytes, b.len, out, sizeof out));
     } else {
         printf("no such line: %s", line);
         if (!strchr(line, '\n')) printf("\n");

@@ -34,7 +34,7 @@
  *   18  output too short for the answer
  *   19  texts: table or parts malformed, or with bytes left over
  *   20  texts: a name's number is not in the table
- * The numbers 11 to 13, 15 to 17, 19 and 20 belong to calls that are not in this version.
+ * The numbers 11, 12, 16, 19 and 20 belong to calls that are not in this version.
  */
 #ifndef FEEL_H
 #define FEEL_H
@@ -76,6 +76,48 @@ uint64_t feel_type_is_simple_built_in_type(const uint8_t *t, size_t t_len);
 
 /* FeelType::is_null: is t the type Null? Answers 1 or 0, or refusal 6 to 10. */
 uint64_t feel_type_is_null(const uint8_t *t, size_t t_len);
+
+/* Value::is_conformant: does the value v conform to the type t? Answers 1 or 0, or v's refusal 1 to 5, or t's 6 to 10. */
+uint64_t feel_value_is_conformant(const uint8_t *v, size_t v_len, const uint8_t *t, size_t t_len);
+
+/* The least type of a data value, at the front of out. Answers its length, or refusal 1 to 5; 13; 14 where the scratch is shorter than four
+ * times v; 18. The scratch's contents afterwards are free. */
+uint64_t feel_value_least_type(const uint8_t *v, size_t v_len, uint8_t *scratch, size_t scratch_len, uint8_t *out, size_t out_len);
+
+/* Value::type_of, the type as the Rust infers it, at the front of out. Answers its length, or refusal 1 to 5, 14 as above, 18. */
+uint64_t feel_value_type_of(const uint8_t *v, size_t v_len, uint8_t *scratch, size_t scratch_len, uint8_t *out, size_t out_len);
+
+/* FeelType::get_value_checked: the value v retrieved by the type t, at the front of out. Answers its length, or t's refusal 6 to 10, or v's 1
+ * to 5; 15; 18. (17 is never met.) */
+uint64_t feel_type_get_value_checked(const uint8_t *t, size_t t_len, const uint8_t *v, size_t v_len, uint8_t *out, size_t out_len);
+
+/* FeelType::get_conformant_value: v retrieved by t where it conforms, otherwise null with trace 2; null with trace 0 by the type Null. Answers
+ * its length, or t's refusal 6 to 10, or v's 1 to 5; 18. */
+uint64_t feel_type_get_conformant_value(const uint8_t *t, size_t t_len, const uint8_t *v, size_t v_len, uint8_t *out, size_t out_len);
+
+/* Value::coerced: v coerced to the type t, at the front of out; null with trace 1 where no rule applies. Answers its length, or v's refusal 1
+ * to 5, or t's 6 to 10; 17; 18. */
+uint64_t feel_value_coerced(const uint8_t *v, size_t v_len, const uint8_t *t, size_t t_len, uint8_t *out, size_t out_len);
+
+/* Value::is_invalid_coercion (null with trace 1), is_valid_range, is_null, is_true, is_false, is_number, is_string, is_list, is_range.
+ * Answer 1 or 0, or refusal 1 to 5. */
+uint64_t feel_value_is_invalid_coercion(const uint8_t *v, size_t v_len);
+uint64_t feel_value_is_valid_range(const uint8_t *v, size_t v_len);
+uint64_t feel_value_is_null(const uint8_t *v, size_t v_len);
+uint64_t feel_value_is_true(const uint8_t *v, size_t v_len);
+uint64_t feel_value_is_false(const uint8_t *v, size_t v_len);
+uint64_t feel_value_is_number(const uint8_t *v, size_t v_len);
+uint64_t feel_value_is_string(const uint8_t *v, size_t v_len);
+uint64_t feel_value_is_list(const uint8_t *v, size_t v_len);
+uint64_t feel_value_is_range(const uint8_t *v, size_t v_len);
+
+/* IntervalType::opened, closed, undefined of an interval byte. Answer 1 or 0, or 2 for a byte over 3. */
+uint64_t feel_interval_opened(uint8_t i);
+uint64_t feel_interval_closed(uint8_t i);
+uint64_t feel_interval_undefined(uint8_t i);
+
+/* Bif::feel_type of the built-in function at position b, at the front of out. Answers its length, or 2 for a position over 85, or 18. */
+uint64_t feel_bif_feel_type(uint8_t b, uint8_t *out, size_t out_len);
 
 #ifdef __cplusplus
 }

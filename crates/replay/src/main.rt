@@ -322,6 +322,43 @@ fn wrote(w: form::Written) -> Answer {
     }
 }
 
+// Runs a question on a value.
+fn ask(call: usize, v: &[u8]) -> Answer {
+    match call {
+        16 => judged(ranges::is_invalid_coercion(v)),
+        17 => judged(ranges::is_valid_range(v)),
+        18 => judged(ranges::is_null(v)),
+        19 => judged(ranges::is_true(v)),
+        20 => judged(ranges::is_false(v)),
+        _ => Answer::None,
+    }
+}
+
+// Runs a question on a value's kind.
+fn ask_kind(call: usize, v: &[u8]) -> Answer {
+    match call {
+        21 => judged(ranges::is_number(v)),
+        22 => judged(ranges::is_string(v)),
+        23 => judged(ranges::is_list(v)),
+        24 => judged(ranges::is_range(v)),
+        _ => Answer::None,
+    }
+}
+
+// Runs a question on an interval byte, which is all of `a`.
+fn ask_byte(call: usize, a: &[u8]) -> Answer {
+    if a.len() != 1 {
+        return Answer::None;
+    }
+    let i = a[0];
+    match call {
+        25 => judged(ranges::opened(i)),
+        26 => judged(ranges::closed(i)),
+        27 => judged(ranges::undefined(i)),
+        _ => Answer::None,
+    }
+}
+
 // Runs a call of one argument.
 fn run(call: usize, a: &[u8]) -> Answer {
     match call {
@@ -329,6 +366,9 @@ fn run(call: usize, a: &[u8]) -> Answer {
         2 => answer_of(form::check_type(a)),
         8 => judged(types::is_simple_built_in_type(a)),
         9 => judged(types::is_null(a)),
+        16..=20 => ask(call, a),
+        21..=24 => ask_kind(call, a),
+        25..=27 => ask_byte(call, a),
         _ => Answer::None,
     }
 }
@@ -464,6 +504,24 @@ fn type_value(call: usize, v: &[u8], scratch: &mut [u8], out: &mut [u8]) -> Answ
     }
 }
 
+// Runs a call that retrieves or coerces a value, by a type.
+fn retrieve(call: usize, a: &[u8], b: &[u8], out: &mut [u8]) -> Answer {
+    match call {
+        13 => wrote(retrieval::get_value_checked(a, b, out)),
+        14 => wrote(retrieval::get_conformant_value(a, b, out)),
+        15 => wrote(coercion::coerced(a, b, out)),
+        _ => Answer::None,
+    }
+}
+
+// Builds the type of a built-in function, whose byte is all of `a`.
+fn type_bif(a: &[u8], out: &mut [u8]) -> Answer {
+    if a.len() != 1 {
+        return Answer::None;
+    }
+    wrote(ranges::bif_feel_type(a[0], out))
+}
+
 // Runs a call that builds, of one argument or two, with the scratch and the output that are lent.
 fn build(call: usize, a: &[u8], b: &[u8], scratch: &mut [u8], out: &mut [u8]) -> Answer {
     match call {
@@ -471,6 +529,8 @@ fn build(call: usize, a: &[u8], b: &[u8], scratch: &mut [u8], out: &mut [u8]) ->
         6 => wrote(bounds::common_subtype(a, b, scratch, out)),
         7 => wrote(bounds::reduced(a, out)),
         11 | 12 => type_value(call, a, scratch, out),
+        13..=15 => retrieve(call, a, b, out),
+        28 => type_bif(a, out),
         _ => Answer::None,
     }
 }
@@ -605,7 +665,22 @@ fn bound(line: &[u8], call: usize, room: &mut [u8]) -> Verdict {
     }
 }
 
-// A case of the reduced form: `ANSWER ARG ROOM [OUT]`.
+// A case of a call that retrieves or coerces a value: `ANSWER ARG ARG ROOM [OUT]`.
+fn retrieved(line: &[u8], call: usize, room: &mut [u8]) -> Verdict {
+    let first = field_end(line, 0);
+    let want = expected(&line[..first]);
+    let a = take_field(line, begin(first), room);
+    let b = take_field(line, a, room);
+    let n = take_size(line, b);
+    let o = take_output(line, n.at, room);
+    if is_whole(line, o) {
+        lend(call, want, room, a.used, b.used, o.used, n.lent)
+    } else {
+        Verdict::Unreadable
+    }
+}
+
+// A case of the reduced form, or of the type of a built-in function: `ANSWER ARG ROOM [OUT]`.
 fn reduction(line: &[u8], call: usize, room: &mut [u8]) -> Verdict {
     let first = field_end(line, 0);
     let want = expected(&line[..first]);
@@ -636,11 +711,12 @@ fn typing(line: &[u8], call: usize, room: &mut [u8]) -> Verdict {
 // A case, by its call.
 fn case(line: &[u8], call: usize, room: &mut [u8]) -> Verdict {
     match call {
-        1 | 2 | 8 | 9 => one(line, call, room),
+        1 | 2 | 8 | 9 | 16..=27 => one(line, call, room),
         3 | 4 | 10 => two(line, call, room),
         5 | 6 => bound(line, call, room),
-        7 => reduction(line, call, room),
+        7 | 28 => reduction(line, call, room),
         11 | 12 => typing(line, call, room),
+        13..=15 => retrieved(line, call, room),
         _ => Verdict::Unreadable,
     }
 }

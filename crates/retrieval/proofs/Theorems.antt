@@ -16,6 +16,7 @@ use Rattle.order.specs.Order.{up, fixed, same, flat}
 use Rattle.order.specs.Ascending.{Asc, AscFields}
 use Rattle.order.proofs.Conform.{look-below}
 use Rattle.order.proofs.Simple.{and-both}
+use Rattle.order.proofs.WellFormed.{asc-of}
 use Rattle.order.specs.Size.{size-val, size-vals, size-entries, size-leaf}
 use Rattle.order.specs.Types.{look, cmp, cmps, all-fields}
 use Rattle.order.specs.Values.{temporal-type, leaf-type, types-of, to-range, to-list, to-context, to-function, is-any, definition-conforms, conforms, all-conform, has-value}
@@ -393,3 +394,21 @@ mutual
   there-entries (entry n v es) k fs w a h =
       entries-there n v es k 0 fs a w h (λ u b c. there v u (well-first n v es k fs w h) b c)
       (there-entries es (n + 1) fs (well-rest n v es k fs w h) a (have-rest n v es k fs w h))
+
+-- ---- in one place
+pub record Retrieval : Type 0 where
+  -- behind conformance there always is a value: 15 is never met; and it conforms
+  pub behind-conformance : (v : Val) (t : Ty) → WfV v → Wf t → valueConformsTo v t ≡ true → There v t
+  -- never longer nor deeper than the value, and well-formed: 17 is never met
+  pub never-longer : (v : Val) (t : Ty) (w : Val) → retrieve v t ≡ some w → size-val w ≤ size-val v
+  pub never-deeper : (v : Val) (t : Ty) (w : Val) → retrieve v t ≡ some w → levelV w ≤ levelV v
+  pub well-formed : (v : Val) (t : Ty) (w : Val) → retrieve v t ≡ some w → WfV v → WfV w
+
+pub retrieval : Retrieval
+retrieval =
+    record {
+      behind-conformance = λ v t w x h. there v t w (asc-of t x) h;
+      never-longer = λ v t w e. less-val v t w e .shorter;
+      never-deeper = λ v t w e. less-val v t w e .lower;
+      well-formed = λ v t w e. less-val v t w e .well;
+    }

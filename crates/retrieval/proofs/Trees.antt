@@ -15,97 +15,14 @@ use Rattle.order.specs.Order.{same}
 use Rattle.order.specs.Values.{leaf-type}
 use Rattle.order.specs.Size.{size-val, size-vals, size-entries}
 use Rattle.order.specs.Types.{look}
+use Rattle.order.specs.Order.{fixed}
+use Rattle.order.proofs.Conform.{look-below as below}
+use Rattle.retrieval.proofs.Theorems.{less-val}
 use Rattle.retrieval.specs.Retrieve.{mapped, both, copied, retrieve-leaf, by-range, by-function, by-any, by-list, by-context, kept, retrieve, retrieve-items, retrieve-entries}
 
--- ---- what is there is at most n
-abbrev AtMost : {X : Type 0} → (X → ℕ) → ℕ → Option X → Type 0
-AtMost sz n none = Unit {0}
-AtMost sz n (some x) = sz x ≤ n
-
-copied-most : (b : Bool) (v : Val) → AtMost size-val (size-val v) (copied b v)
-copied-most true v = omega arith
-copied-most false v = tt
-
-leaf-most : (l : Leaf) (t : Ty) → AtMost size-val (size-val (v-leaf l)) (retrieve-leaf l t)
-unfolding size-val
-leaf-most (l-null x) t = omega arith
-leaf-most (l-boolean x) (leaf s) = copied-most (same s any || same s (leaf-type (l-boolean x))) (v-leaf (l-boolean x))
-leaf-most (l-boolean x) (built y) = tt
-leaf-most (l-number x) (leaf s) = copied-most (same s any || same s (leaf-type (l-number x))) (v-leaf (l-number x))
-leaf-most (l-number x) (built y) = tt
-leaf-most (l-string x) (leaf s) = copied-most (same s any || same s (leaf-type (l-string x))) (v-leaf (l-string x))
-leaf-most (l-string x) (built y) = tt
-leaf-most (l-temporal k x) (leaf s) = copied-most (same s any || same s (leaf-type (l-temporal k x))) (v-leaf (l-temporal k x))
-leaf-most (l-temporal k x) (built y) = tt
-
-list-most : (t : Ty) (v : Val) (f : Ty → Option Val) → ((u : Ty) → AtMost size-val (size-val v) (f u)) → AtMost size-val (size-val v) (by-list t v f)
-list-most (leaf s) v f h = copied-most (same s any) v
-list-most (built (list u)) v f h = h u
-list-most (built (range u)) v f h = tt
-list-most (built (context fs)) v f h = tt
-list-most (built (function ps r)) v f h = tt
-
-context-most : (t : Ty) (v : Val) (f : Fields → Option Val) → ((fs : Fields) → AtMost size-val (size-val v) (f fs)) → AtMost size-val (size-val v) (by-context t v f)
-context-most (leaf s) v f h = copied-most (same s any) v
-context-most (built (list u)) v f h = tt
-context-most (built (range u)) v f h = tt
-context-most (built (context fs)) v f h = h fs
-context-most (built (function ps r)) v f h = tt
-
-whole-list : (vs : Vals) (o : Option Vals) → AtMost size-vals (size-vals vs) o → AtMost size-val (size-val (v-list vs)) (mapped v-list o)
-unfolding size-val
-whole-list vs none h = tt
-whole-list vs (some ws) h = omega arith
-
-whole-context : (es : Entries) (o : Option Entries) → AtMost size-entries (size-entries es) o → AtMost size-val (size-val (v-context es)) (mapped v-context o)
-unfolding size-val
-whole-context es none h = tt
-whole-context es (some ws) h = omega arith
-
-items-step : (v : Val) (vs : Vals) (o : Option Val) (p : Option Vals) → AtMost size-val (size-val v) o → AtMost size-vals (size-vals vs) p → AtMost size-vals (size-vals (item v vs)) (both item o p)
-unfolding size-val
-items-step v vs none p h k = tt
-items-step v vs (some w) none h k = tt
-items-step v vs (some w) (some ws) h k = omega arith
-
-entries-step : (n : ℕ) (v : Val) (es : Entries) (o : Option Val) (p : Option Entries) → AtMost size-val (size-val v) o → AtMost size-entries (size-entries es) p → AtMost size-entries (size-entries (entry n v es)) (both (entry n) o p)
-unfolding size-val
-entries-step n v es none p h k = tt
-entries-step n v es (some w) none h k = tt
-entries-step n v es (some w) (some ws) h k = omega arith
-
-entries-less : (n : ℕ) (v : Val) (es : Entries) (p : Option Entries) → AtMost size-entries (size-entries es) p → AtMost size-entries (size-entries (entry n v es)) p
-unfolding size-val
-entries-less n v es none h = tt
-entries-less n v es (some ws) h = omega arith
-
-kept-most : (n : ℕ) (v : Val) (es : Entries) (o : Option Ty) (f : Ty → Option Val) (p : Option Entries) → ((t : Ty) → AtMost size-val (size-val v) (f t)) → AtMost size-entries (size-entries es) p → AtMost size-entries (size-entries (entry n v es)) (kept o f n p)
-kept-most n v es none f p h k = entries-less n v es p k
-kept-most n v es (some t) f p h k = entries-step n v es (f t) p (h t) k
-
-mutual
-  unfolding retrieve
-
-  retrieve-most : (v : Val) (t : Ty) → AtMost size-val (size-val v) (retrieve v t)
-  retrieve-most (v-leaf l) t = leaf-most l t
-  retrieve-most (v-range i j v w) t = copied-most (by-range t) (v-range i j v w)
-  retrieve-most (v-list vs) t = list-most t (v-list vs) (λ u. mapped v-list (retrieve-items vs u)) (λ u. whole-list vs (retrieve-items vs u) (items-most vs u))
-  retrieve-most (v-context es) t = context-most t (v-context es) (λ fs. mapped v-context (retrieve-entries es fs)) (λ fs. whole-context es (retrieve-entries es fs) (entries-most es fs))
-  retrieve-most (v-function ps b r) t = copied-most (by-function t) (v-function ps b r)
-  retrieve-most (v-built-in b) t = copied-most (by-any t) (v-built-in b)
-  retrieve-most (v-type a) t = copied-most (by-any t) (v-type a)
-  retrieve-most v-irrelevant t = copied-most (by-any t) v-irrelevant
-
-  items-most : (vs : Vals) (t : Ty) → AtMost size-vals (size-vals vs) (retrieve-items vs t)
-  items-most no-items t = omega arith
-  items-most (item v vs) t = items-step v vs (retrieve v t) (retrieve-items vs t) (retrieve-most v t) (items-most vs t)
-
-  entries-most : (es : Entries) (fs : Fields) → AtMost size-entries (size-entries es) (retrieve-entries es fs)
-  entries-most no-entries fs = omega arith
-  entries-most (entry n v es) fs = kept-most n v es (look n fs) (λ t. retrieve v t) (retrieve-entries es fs) (λ t. retrieve-most v t) (entries-most es fs)
-
+-- a retrieved value is never longer
 pub never-longer : (v : Val) (t : Ty) (w : Val) → retrieve v t ≡ some w → size-val w ≤ size-val v
-never-longer v t w e = subst (λ (o : Option Val). AtMost size-val (size-val v) o) e (retrieve-most v t)
+never-longer v t w e = less-val v t w e .shorter
 
 -- ---- as many items
 abbrev Counted : ℕ → Option Vals → Type 0
@@ -177,9 +94,7 @@ look-same n u fs = ap (λ q. cond q (some u) (look n fs)) (eq-eqb n n refl)
 
 -- a name below all is not there
 look-below : (n : ℕ) (fs : Fields) (k : ℕ) → AscFields fs k → n < k → look n fs ≡ none
-unfolding Asc look
-look-below n no-fields k w h = refl
-look-below n (field m u fs) k w h = ap (λ q. cond q (some u) (look n fs)) (ne-eqb n m (λ e. omega (arith, w .0))) ∙ look-below n fs (suc m) (w .2) (omega (arith, w .0))
+look-below n fs k a h = below fixed fs k n a h
 
 -- ---- in step
 -- a name of the type below those of the value

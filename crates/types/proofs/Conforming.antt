@@ -113,14 +113,14 @@ les-count (param u qs) (param t ps) e = ap suc (les-count qs ps (step (le fixed 
     step true y h = h
     step false y h = absurd (true≢false (sym h))
 
-abbrev count-sig : Sig → ℕ
+abbrev pub count-sig : Sig → ℕ
 count-sig (sig ps r) = countTys ps
 
 count-cons : (t : Ty) (f : Sig) → count-sig (cons t f) ≡ suc (count-sig f)
 unfolding countTys
 count-cons t (sig ps r) = refl
 
-sig-count : (l n : ℕ) (s : List ℕ) (f : Sig) → sigAt l n s ≡ some f → count-sig f ≡ n
+pub sig-count : (l n : ℕ) (s : List ℕ) (f : Sig) → sigAt l n s ≡ some f → count-sig f ≡ n
 unfolding countTys
 sig-count l zero s f e = let g = result l s f e in ap count-sig (g .2)
 sig-count l (suc n) s f e =

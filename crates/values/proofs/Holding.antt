@@ -28,7 +28,7 @@ use Rattle.types.specs.declared.Conform.the-variants.{Yes, No}
 use Rattle.types.proofs.Reading as types
 use Rattle.types.proofs.Reading.{rest, ok-got, is-ok, cmd, cmd-is, IsCtx, IsFun, t-good, size-fun, result}
 use Rattle.types.proofs.Entries as entries
-use Rattle.types.proofs.Conforming.{judge-is, grown-judge, judge-yes}
+use Rattle.types.proofs.Conforming.{judge-is, grown-judge, judge-yes, count-sig, sig-count}
 use Rattle.values.specs.At.{valueAt, itemsAt, entriesAt, Definition, definition, size-definition, definitionAt, sizeAtV}
 use Rattle.values.specs.Held.{heldBy, held, entriesConform, definitionConforms}
 use Rattle.values.proofs.Reading as values
@@ -187,20 +187,6 @@ cmps-count no-params no-params d = absurd (d refl)
 cmps-count no-params (param t qs) d = refl
 cmps-count (param t ps) no-params d = refl
 cmps-count (param t ps) (param u qs) d = ap (λ x. cmp fixed up t u && x) (cmps-count ps qs (λ e. d (ap suc e))) ∙ and-false (cmp fixed up t u)
-
-abbrev count-sig : Sig → ℕ
-count-sig (sig ps r) = countTys ps
-
-count-cons : (t : Ty) (f : Sig) → count-sig (cons t f) ≡ suc (count-sig f)
-unfolding countTys
-count-cons t (sig ps r) = refl
-
-sig-count : (l n : ℕ) (s : List ℕ) (f : Sig) → sigAt l n s ≡ some f → count-sig f ≡ n
-unfolding countTys
-sig-count l zero s f e = let g = result l s f e in ap count-sig (g .2)
-sig-count l (suc n) s f e =
-    let g = types.parameter l n s f e in
-    ap count-sig (g .is) ∙ count-cons (g .t) (g .y) ∙ ap suc (sig-count l n (drop (size (g .t)) s) (g .y) (g .second))
 
 params-count : (l n : ℕ) (s : List ℕ) (ps : Params) → paramsAt l n s ≡ some ps → countTys (types-of ps) ≡ n
 unfolding countTys types-of

@@ -4,22 +4,29 @@ use crate::answer::Answer;
 use crate::call::{Call, Gives};
 use crate::lent::Lent;
 use crate::library::{
-    feel_check_type, feel_check_value, feel_type_common_subtype, feel_type_common_supertype,
+    feel_bif_feel_type, feel_check_type, feel_check_value, feel_interval_closed,
+    feel_interval_opened, feel_interval_undefined, feel_type_common_subtype,
+    feel_type_common_supertype, feel_type_get_conformant_value, feel_type_get_value_checked,
     feel_type_instance_of, feel_type_is_conformant, feel_type_is_null,
-    feel_type_is_simple_built_in_type, feel_type_reduced, feel_value_is_conformant,
-    feel_value_least_type, feel_value_type_of,
+    feel_type_is_simple_built_in_type, feel_type_reduced, feel_value_coerced,
+    feel_value_is_conformant, feel_value_is_false, feel_value_is_invalid_coercion,
+    feel_value_is_list, feel_value_is_null, feel_value_is_number, feel_value_is_range,
+    feel_value_is_string, feel_value_is_true, feel_value_is_valid_range, feel_value_least_type,
+    feel_value_type_of,
 };
-use crate::{records, type_answers, type_cases, value_answers, value_cases};
+use crate::{coercion_cases, records, type_answers, type_cases, value_answers, value_cases};
 use feel_cases::{Kind, Parts};
 use feel_form::{calls, read_type, read_value, write_type, write_value};
 
+const OF_A_VALUE: &[u8] = &[1, 2, 3, 4, 5];
+
 const OF_A_TYPE: &[u8] = &[6, 7, 8, 9, 10];
 
-pub const CALLS: [Call; 12] = [
+pub const CALLS: [Call; 28] = [
     Call {
         name: "check_value",
         gives: Gives::Level,
-        refusals: &[1, 2, 3, 4, 5],
+        refusals: OF_A_VALUE,
         generate: |options, each| records::cases(Kind::Value, options, each),
         expected: |case| records::expected(case, read_value, write_value),
         actual: |lent| one_record(lent, feel_check_value),
@@ -120,6 +127,138 @@ pub const CALLS: [Call; 12] = [
         expected: value_answers::type_of,
         actual: |lent| one_value_and_buffers(lent, feel_value_type_of),
     },
+    Call {
+        name: "type_get_value_checked",
+        gives: Gives::Length,
+        refusals: &[1, 2, 3, 4, 5, 6, 7, 8, 9, 10, 15, 18],
+        generate: |options, each| {
+            coercion_cases::type_and_value(calls::get_value_checked, options, each)
+        },
+        expected: value_answers::get_value_checked,
+        actual: |lent| two_records_and_output(lent, feel_type_get_value_checked),
+    },
+    Call {
+        name: "type_get_conformant_value",
+        gives: Gives::Length,
+        refusals: &[1, 2, 3, 4, 5, 6, 7, 8, 9, 10, 18],
+        generate: |options, each| {
+            coercion_cases::type_and_value(calls::get_conformant_value, options, each)
+        },
+        expected: value_answers::get_conformant_value,
+        actual: |lent| two_records_and_output(lent, feel_type_get_conformant_value),
+    },
+    Call {
+        name: "value_coerced",
+        gives: Gives::Length,
+        refusals: &[1, 2, 3, 4, 5, 6, 7, 8, 9, 10, 17, 18],
+        generate: |options, each| coercion_cases::value_and_type(calls::coerced, options, each),
+        expected: value_answers::coerced,
+        actual: |lent| two_records_and_output(lent, feel_value_coerced),
+    },
+    Call {
+        name: "value_is_invalid_coercion",
+        gives: Gives::YesOrNo,
+        refusals: OF_A_VALUE,
+        generate: coercion_cases::one_value,
+        expected: |case| value_answers::value_is(case, calls::value_is_invalid_coercion),
+        actual: |lent| one_record(lent, feel_value_is_invalid_coercion),
+    },
+    Call {
+        name: "value_is_valid_range",
+        gives: Gives::YesOrNo,
+        refusals: OF_A_VALUE,
+        generate: coercion_cases::one_value,
+        expected: |case| value_answers::value_is(case, calls::value_is_valid_range),
+        actual: |lent| one_record(lent, feel_value_is_valid_range),
+    },
+    Call {
+        name: "value_is_null",
+        gives: Gives::YesOrNo,
+        refusals: OF_A_VALUE,
+        generate: coercion_cases::one_value,
+        expected: |case| value_answers::value_is(case, calls::value_is_null),
+        actual: |lent| one_record(lent, feel_value_is_null),
+    },
+    Call {
+        name: "value_is_true",
+        gives: Gives::YesOrNo,
+        refusals: OF_A_VALUE,
+        generate: coercion_cases::one_value,
+        expected: |case| value_answers::value_is(case, calls::value_is_true),
+        actual: |lent| one_record(lent, feel_value_is_true),
+    },
+    Call {
+        name: "value_is_false",
+        gives: Gives::YesOrNo,
+        refusals: OF_A_VALUE,
+        generate: coercion_cases::one_value,
+        expected: |case| value_answers::value_is(case, calls::value_is_false),
+        actual: |lent| one_record(lent, feel_value_is_false),
+    },
+    Call {
+        name: "value_is_number",
+        gives: Gives::YesOrNo,
+        refusals: OF_A_VALUE,
+        generate: coercion_cases::one_value,
+        expected: |case| value_answers::value_is(case, calls::value_is_number),
+        actual: |lent| one_record(lent, feel_value_is_number),
+    },
+    Call {
+        name: "value_is_string",
+        gives: Gives::YesOrNo,
+        refusals: OF_A_VALUE,
+        generate: coercion_cases::one_value,
+        expected: |case| value_answers::value_is(case, calls::value_is_string),
+        actual: |lent| one_record(lent, feel_value_is_string),
+    },
+    Call {
+        name: "value_is_list",
+        gives: Gives::YesOrNo,
+        refusals: OF_A_VALUE,
+        generate: coercion_cases::one_value,
+        expected: |case| value_answers::value_is(case, calls::value_is_list),
+        actual: |lent| one_record(lent, feel_value_is_list),
+    },
+    Call {
+        name: "value_is_range",
+        gives: Gives::YesOrNo,
+        refusals: OF_A_VALUE,
+        generate: coercion_cases::one_value,
+        expected: |case| value_answers::value_is(case, calls::value_is_range),
+        actual: |lent| one_record(lent, feel_value_is_range),
+    },
+    Call {
+        name: "interval_opened",
+        gives: Gives::YesOrNo,
+        refusals: &[2],
+        generate: coercion_cases::one_byte,
+        expected: |case| value_answers::interval_is(case, calls::interval_opened),
+        actual: |lent| one_byte(lent, feel_interval_opened),
+    },
+    Call {
+        name: "interval_closed",
+        gives: Gives::YesOrNo,
+        refusals: &[2],
+        generate: coercion_cases::one_byte,
+        expected: |case| value_answers::interval_is(case, calls::interval_closed),
+        actual: |lent| one_byte(lent, feel_interval_closed),
+    },
+    Call {
+        name: "interval_undefined",
+        gives: Gives::YesOrNo,
+        refusals: &[2],
+        generate: coercion_cases::one_byte,
+        expected: |case| value_answers::interval_is(case, calls::interval_undefined),
+        actual: |lent| one_byte(lent, feel_interval_undefined),
+    },
+    Call {
+        name: "bif_feel_type",
+        gives: Gives::Length,
+        refusals: &[2, 18],
+        generate: coercion_cases::one_byte_and_output,
+        expected: value_answers::bif_feel_type,
+        actual: |lent| one_byte_and_output(lent, feel_bif_feel_type),
+    },
 ];
 
 /// A C function over one record.
@@ -138,6 +277,16 @@ type OneTypeAndOutput = unsafe extern "C" fn(*const u8, usize, *mut u8, usize) -
 /// A C function over one value, with scratch and an output.
 type OneValueAndBuffers =
     unsafe extern "C" fn(*const u8, usize, *mut u8, usize, *mut u8, usize) -> u64;
+
+/// A C function over a type and a value, with an output.
+type TwoRecordsAndOutput =
+    unsafe extern "C" fn(*const u8, usize, *const u8, usize, *mut u8, usize) -> u64;
+
+/// A C function over one byte.
+type OneByte = unsafe extern "C" fn(u8) -> u64;
+
+/// A C function over one byte, with an output.
+type OneByteAndOutput = unsafe extern "C" fn(u8, *mut u8, usize) -> u64;
 
 // In each of the following the pointer and the length of an argument are those of one buffer, which
 // lives through the call.
@@ -193,4 +342,33 @@ fn one_value_and_buffers(lent: &mut Lent, function: OneValueAndBuffers) -> Answe
             output.len(),
         )
     })
+}
+
+fn two_records_and_output(lent: &mut Lent, function: TwoRecordsAndOutput) -> Answer {
+    let [a, b] = [&lent.args[0], &lent.args[1]];
+    let output = &mut lent.output;
+    // SAFETY: as said above; the output is a buffer of its own.
+    Answer(unsafe {
+        function(
+            a.as_ptr(),
+            a.len(),
+            b.as_ptr(),
+            b.len(),
+            output.as_mut_ptr(),
+            output.len(),
+        )
+    })
+}
+
+fn one_byte(lent: &mut Lent, function: OneByte) -> Answer {
+    let byte = lent.args[0].contents()[0];
+    // SAFETY: nothing is lent.
+    Answer(unsafe { function(byte) })
+}
+
+fn one_byte_and_output(lent: &mut Lent, function: OneByteAndOutput) -> Answer {
+    let byte = lent.args[0].contents()[0];
+    let output = &mut lent.output;
+    // SAFETY: as said above.
+    Answer(unsafe { function(byte, output.as_mut_ptr(), output.len()) })
 }

@@ -4,6 +4,7 @@
 pub mod answer;
 pub mod call;
 pub mod calls;
+mod coercion_cases;
 pub mod lent;
 pub mod library;
 mod records;

@@ -2,10 +2,15 @@
 
 #[cfg(feature = "self-check")]
 pub use crate::twin::{
-    feel_check_type, feel_check_value, feel_type_common_subtype, feel_type_common_supertype,
+    feel_bif_feel_type, feel_check_type, feel_check_value, feel_interval_closed,
+    feel_interval_opened, feel_interval_undefined, feel_type_common_subtype,
+    feel_type_common_supertype, feel_type_get_conformant_value, feel_type_get_value_checked,
     feel_type_instance_of, feel_type_is_conformant, feel_type_is_null,
-    feel_type_is_simple_built_in_type, feel_type_reduced, feel_value_is_conformant,
-    feel_value_least_type, feel_value_type_of,
+    feel_type_is_simple_built_in_type, feel_type_reduced, feel_value_coerced,
+    feel_value_is_conformant, feel_value_is_false, feel_value_is_invalid_coercion,
+    feel_value_is_list, feel_value_is_null, feel_value_is_number, feel_value_is_range,
+    feel_value_is_string, feel_value_is_true, feel_value_is_valid_range, feel_value_least_type,
+    feel_value_type_of,
 };
 
 /// What the answers are compared with, for the first printed line.
@@ -61,4 +66,41 @@ unsafe extern "C" {
         out: *mut u8,
         out_len: usize,
     ) -> u64;
+    pub fn feel_type_get_value_checked(
+        t: *const u8,
+        t_len: usize,
+        v: *const u8,
+        v_len: usize,
+        out: *mut u8,
+        out_len: usize,
+    ) -> u64;
+    pub fn feel_type_get_conformant_value(
+        t: *const u8,
+        t_len: usize,
+        v: *const u8,
+        v_len: usize,
+        out: *mut u8,
+        out_len: usize,
+    ) -> u64;
+    pub fn feel_value_coerced(
+        v: *const u8,
+        v_len: usize,
+        t: *const u8,
+        t_len: usize,
+        out: *mut u8,
+        out_len: usize,
+    ) -> u64;
+    pub fn feel_value_is_invalid_coercion(v: *const u8, v_len: usize) -> u64;
+    pub fn feel_value_is_valid_range(v: *const u8, v_len: usize) -> u64;
+    pub fn feel_value_is_null(v: *const u8, v_len: usize) -> u64;
+    pub fn feel_value_is_true(v: *const u8, v_len: usize) -> u64;
+    pub fn feel_value_is_false(v: *const u8, v_len: usize) -> u64;
+    pub fn feel_value_is_number(v: *const u8, v_len: usize) -> u64;
+    pub fn feel_value_is_string(v: *const u8, v_len: usize) -> u64;
+    pub fn feel_value_is_list(v: *const u8, v_len: usize) -> u64;
+    pub fn feel_value_is_range(v: *const u8, v_len: usize) -> u64;
+    pub fn feel_interval_opened(i: u8) -> u64;
+    pub fn feel_interval_closed(i: u8) -> u64;
+    pub fn feel_interval_undefined(i: u8) -> u64;
+    pub fn feel_bif_feel_type(b: u8, out: *mut u8, out_len: usize) -> u64;
 }

@@ -7,7 +7,7 @@ use dsntk_feel::FeelType;
 use dsntk_feel::values::Value;
 use feel_form::{
     common_subtype, common_supertype, least_type, lists_inside, read_type, read_value, reduced,
-    type_level, type_of, type_of_parts, value_level, write_type,
+    type_level, type_of, type_of_parts, value_level, write_type, write_value,
 };
 
 /// Conformance is reflexive and transitive, and mutual exactly when the reduced forms are equal.
@@ -145,6 +145,93 @@ pub fn of_type_of(v: &[u8], _: &[&[u8]]) -> Checks {
         "theorem fails: the inferred type is accepted, at most one level higher",
     );
     checks
+}
+
+/// A retrieved value is neither longer nor deeper than the value, conforms to the type where the
+/// value does, and is retrieved unchanged.
+pub fn of_retrieval(t: &[u8], v: &[u8]) -> Checks {
+    let mut checks = Checks::default();
+    let length = v.len();
+    let (t, v) = (read(t), value(v));
+    if let Ok(answer) = t.get_value_checked(&v) {
+        retrieved(&mut checks, &t, &v, length, &answer);
+        checks.check(
+            t.get_value_checked(&answer)
+                .is_ok_and(|again| again == answer),
+            "theorem fails: a retrieved value is retrieved unchanged",
+        );
+    }
+    checks
+}
+
+/// Behind conformance a value is always retrieved; the answer conforms to the type.
+pub fn of_conformant_value(t: &[u8], v: &[u8]) -> Checks {
+    let mut checks = Checks::default();
+    let length = v.len();
+    let (t, v) = (read(t), value(v));
+    checks.check(
+        t.get_conformant_value(&v).is_conformant(&t),
+        "theorem fails: the conformant value conforms to the type",
+    );
+    if v.is_conformant(&t) {
+        let answer = t.get_value_checked(&v);
+        checks.check(
+            answer.is_ok(),
+            "theorem fails: a value that conforms is always retrieved",
+        );
+        if let Ok(answer) = answer {
+            retrieved(&mut checks, &t, &v, length, &answer);
+        }
+    }
+    checks
+}
+
+/// A coerced value is coerced unchanged; it conforms to the type, unless it was a function; it is
+/// null only where coercion failed, unless it was Null or a one-item list of it before; and it is
+/// little larger.
+pub fn of_coercion(v: &[u8], t: &[u8]) -> Checks {
+    let mut checks = Checks::default();
+    let length = v.len();
+    let (v, t) = (value(v), read(t));
+    let answer = v.coerced(&t);
+    checks.check(
+        answer.coerced(&t) == answer,
+        "theorem fails: a coerced value is coerced unchanged",
+    );
+    let is_function = matches!(v, Value::FunctionDefinition(..) | Value::BuiltInFunction(_));
+    checks.check(
+        is_function || answer.is_conformant(&t),
+        "theorem fails: a coerced value that was no function conforms to the type",
+    );
+    let holds_null = match &v {
+        Value::List(items) => items.len() == 1 && items[0].is_null(),
+        other => other.is_null(),
+    };
+    checks.check(
+        !answer.is_null() || answer.is_invalid_coercion() || holds_null,
+        "theorem fails: coercion gives null from other values only where it fails",
+    );
+    checks.check(
+        write_value(&answer).len() <= length + 3 && value_level(&answer) <= value_level(&v) + 1,
+        "theorem fails: a coerced value has at most three bytes and one level more",
+    );
+    checks
+}
+
+/// What holds of a retrieved value beside the value, which has this length.
+fn retrieved(checks: &mut Checks, t: &FeelType, v: &Value, length: usize, answer: &Value) {
+    checks.check(
+        write_value(answer).len() <= length,
+        "theorem fails: a retrieved value is never longer",
+    );
+    checks.check(
+        value_level(answer) <= value_level(v),
+        "theorem fails: a retrieved value is never deeper",
+    );
+    checks.check(
+        !v.is_conformant(t) || answer.is_conformant(t),
+        "theorem fails: a retrieved value conforms where the value did",
+    );
 }
 
 /// Data conforms to a type exactly when its least type does.
@@ -316,6 +403,41 @@ mod tests {
         }
         assert!(failed(NULLS, NUMBERS).contains("exactly when"));
         assert!(failed(LISTS, booleans).contains("exactly when"));
+    }
+
+    #[test]
+    fn wrong_retrieved_values_are_seen() {
+        // {1: true, 2: null} with the type context<1: boolean>.
+        let v: &[u8] = &[0x0B, 2, 0, 1, 0, 0x01, 1, 2, 0, 0x00, 0];
+        let failed = |answer: &[u8]| {
+            let mut checks = Checks::default();
+            let t = read(&[0x2C, 1, 0, 1, 0, 0x21]);
+            retrieved(&mut checks, &t, &value(v), v.len(), &value(answer));
+            checks.failed.unwrap_or("nothing")
+        };
+        assert_eq!(failed(&[0x0B, 1, 0, 1, 0, 0x01, 1]), "nothing");
+        assert!(failed(&[0x0B, 0, 0]).contains("conforms where"));
+        assert!(failed(&[0x0A, 1, 0, 0x0A, 1, 0, 0x0F]).contains("deeper"));
+        let number = [0x02, 0, 0, 0, 0, 0, 0, 0, 0];
+        assert!(failed(&[&[0x0A, 1, 0], &number[..]].concat()).contains("longer"));
+    }
+
+    #[test]
+    fn samples_of_retrieval_and_coercion_hold() {
+        // [null after coercion]
+        let v: &[u8] = &[0x0A, 1, 0, 0x00, 1];
+        for (checks, held) in [
+            (of_retrieval(NUMBERS, v), 4),
+            (of_retrieval(NUMBERS, &[0x0F]), 0),
+            (of_conformant_value(NUMBERS, v), 5),
+            (of_conformant_value(&[0x29], v), 1),
+            (of_conformant_value(NUMBERS, &[0x0F]), 1),
+            (of_coercion(v, &[0x22]), 4),
+            (of_coercion(&[0x0F], LISTS), 4),
+            (of_coercion(&[0x0D, 0], &[0x2D, 1, 0x22, 0x22]), 4),
+        ] {
+            assert_eq!((checks.held, checks.failed), (held, None));
+        }
     }
 
     #[test]

@@ -5,8 +5,10 @@ mod bounds;
 mod conformance;
 mod parts;
 mod read;
+mod retrieval;
 mod values;
 
+use retrieval::Coerced;
 use std::slice::{from_raw_parts, from_raw_parts_mut};
 
 /// The answer, or the refusal.
@@ -67,6 +69,46 @@ fn type_of_value(
         return Err(14);
     }
     deliver(&written, out)
+}
+
+fn of_one_value(v: &[u8], decide: fn(&[u8]) -> bool) -> u64 {
+    answer(read_value(v).map(|_| u64::from(decide(v))))
+}
+
+fn of_interval(i: u8, decide: fn(u8) -> bool) -> u64 {
+    answer(if i < 4 {
+        Ok(u64::from(decide(i)))
+    } else {
+        Err(2)
+    })
+}
+
+/// The value retrieved with the type; `None` where it cannot be.
+fn retrieve(
+    t: &[u8],
+    v: &[u8],
+    how: fn(&[u8], &[u8]) -> Option<Vec<u8>>,
+    out: &mut [u8],
+) -> Judged {
+    read_type(t)?;
+    read_value(v)?;
+    let written = how(v, t).ok_or(15u64)?;
+    if written.len() > 16_384 {
+        return Err(17);
+    }
+    deliver(&written, out)
+}
+
+/// The coerced value. A list around it has three bytes and one level more.
+fn coerce(v: &[u8], t: &[u8], out: &mut [u8]) -> Judged {
+    let level = read_value(v)?;
+    read_type(t)?;
+    match retrieval::coerced(v, t) {
+        Coerced::Kept(kept) => deliver(kept, out),
+        Coerced::InList if v.len() > 16_381 || level > 30 => Err(17),
+        Coerced::InList => deliver(&[&[0x0A, 1, 0], v].concat(), out),
+        Coerced::Failed => deliver(&[0x00, 1], out),
+    }
 }
 
 /// # Safety
@@ -217,4 +259,136 @@ pub unsafe extern "C" fn feel_value_type_of(
     let out = unsafe { from_raw_parts_mut(out, out_len) };
     let of = |v: &[u8]| Some(values::inferred(v));
     answer(type_of_value(v, of, scratch, out))
+}
+
+/// # Safety
+/// `t` and `v` point to as many readable bytes as their lengths say, `out` to as many writable
+/// ones; `out` overlaps with neither.
+pub unsafe extern "C" fn feel_type_get_value_checked(
+    t: *const u8,
+    t_len: usize,
+    v: *const u8,
+    v_len: usize,
+    out: *mut u8,
+    out_len: usize,
+) -> u64 {
+    let (t, v) = unsafe { (from_raw_parts(t, t_len), from_raw_parts(v, v_len)) };
+    let out = unsafe { from_raw_parts_mut(out, out_len) };
+    answer(retrieve(t, v, retrieval::retrieved, out))
+}
+
+/// # Safety
+/// As for [feel_type_get_value_checked].
+pub unsafe extern "C" fn feel_type_get_conformant_value(
+    t: *const u8,
+    t_len: usize,
+    v: *const u8,
+    v_len: usize,
+    out: *mut u8,
+    out_len: usize,
+) -> u64 {
+    let (t, v) = unsafe { (from_raw_parts(t, t_len), from_raw_parts(v, v_len)) };
+    let out = unsafe { from_raw_parts_mut(out, out_len) };
+    answer(retrieve(t, v, retrieval::conformant, out))
+}
+
+/// # Safety
+/// As for [feel_type_get_value_checked].
+pub unsafe extern "C" fn feel_value_coerced(
+    v: *const u8,
+    v_len: usize,
+    t: *const u8,
+    t_len: usize,
+    out: *mut u8,
+    out_len: usize,
+) -> u64 {
+    let (v, t) = unsafe { (from_raw_parts(v, v_len), from_raw_parts(t, t_len)) };
+    let out = unsafe { from_raw_parts_mut(out, out_len) };
+    answer(coerce(v, t, out))
+}
+
+/// # Safety
+/// `v` points to `v_len` readable bytes.
+pub unsafe extern "C" fn feel_value_is_invalid_coercion(v: *const u8, v_len: usize) -> u64 {
+    of_one_value(unsafe { from_raw_parts(v, v_len) }, |v| v == [0x00, 1])
+}
+
+/// # Safety
+/// `v` points to `v_len` readable bytes.
+pub unsafe extern "C" fn feel_value_is_valid_range(v: *const u8, v_len: usize) -> u64 {
+    of_one_value(
+        unsafe { from_raw_parts(v, v_len) },
+        retrieval::is_valid_range,
+    )
+}
+
+/// # Safety
+/// `v` points to `v_len` readable bytes.
+pub unsafe extern "C" fn feel_value_is_null(v: *const u8, v_len: usize) -> u64 {
+    of_one_value(unsafe { from_raw_parts(v, v_len) }, |v| v[0] == 0x00)
+}
+
+/// # Safety
+/// `v` points to `v_len` readable bytes.
+pub unsafe extern "C" fn feel_value_is_true(v: *const u8, v_len: usize) -> u64 {
+    of_one_value(unsafe { from_raw_parts(v, v_len) }, |v| v == [0x01, 1])
+}
+
+/// # Safety
+/// `v` points to `v_len` readable bytes.
+pub unsafe extern "C" fn feel_value_is_false(v: *const u8, v_len: usize) -> u64 {
+    of_one_value(unsafe { from_raw_parts(v, v_len) }, |v| v == [0x01, 0])
+}
+
+/// # Safety
+/// `v` points to `v_len` readable bytes.
+pub unsafe extern "C" fn feel_value_is_number(v: *const u8, v_len: usize) -> u64 {
+    of_one_value(unsafe { from_raw_parts(v, v_len) }, |v| v[0] == 0x02)
+}
+
+/// # Safety
+/// `v` points to `v_len` readable bytes.
+pub unsafe extern "C" fn feel_value_is_string(v: *const u8, v_len: usize) -> u64 {
+    of_one_value(unsafe { from_raw_parts(v, v_len) }, |v| v[0] == 0x03)
+}
+
+/// # Safety
+/// `v` points to `v_len` readable bytes.
+pub unsafe extern "C" fn feel_value_is_list(v: *const u8, v_len: usize) -> u64 {
+    of_one_value(unsafe { from_raw_parts(v, v_len) }, |v| v[0] == 0x0A)
+}
+
+/// # Safety
+/// `v` points to `v_len` readable bytes.
+pub unsafe extern "C" fn feel_value_is_range(v: *const u8, v_len: usize) -> u64 {
+    of_one_value(unsafe { from_raw_parts(v, v_len) }, |v| v[0] == 0x09)
+}
+
+/// # Safety
+/// There is nothing to keep.
+pub unsafe extern "C" fn feel_interval_opened(i: u8) -> u64 {
+    of_interval(i, |i| i < 2)
+}
+
+/// # Safety
+/// There is nothing to keep.
+pub unsafe extern "C" fn feel_interval_closed(i: u8) -> u64 {
+    of_interval(i, |i| i >= 2)
+}
+
+/// # Safety
+/// There is nothing to keep.
+pub unsafe extern "C" fn feel_interval_undefined(i: u8) -> u64 {
+    of_interval(i, |i| i % 2 == 1)
+}
+
+/// # Safety
+/// `out` points to `out_len` writable bytes.
+pub unsafe extern "C" fn feel_bif_feel_type(b: u8, out: *mut u8, out_len: usize) -> u64 {
+    let out = unsafe { from_raw_parts_mut(out, out_len) };
+    answer(if b < 86 {
+        deliver(retrieval::bif_type(b), out)
+    } else {
+        Err(2)
+    })
 }

@@ -11,7 +11,7 @@ use feel_form::{MAX_LENGTH, MAX_TYPE_LEVEL, calls};
 const TEN: [u8; 10] = [0x20, 0x21, 0x22, 0x23, 0x24, 0x25, 0x26, 0x27, 0x28, 0x29];
 
 /// Simple types enough for every answer.
-const FOUR: [u8; 4] = [0x20, 0x22, 0x23, 0x29];
+pub const FOUR: [u8; 4] = [0x20, 0x22, 0x23, 0x29];
 
 /// Of this many cases one is repeated with every length of the buffers around the need.
 pub const BUFFERS_EACH: usize = 16;

@@ -1,7 +1,7 @@
 //! The Rust's answers of the calls over values, with the checks of the theorems where the case asks
 //! for them.
 
-use crate::call::{Case, Expected};
+use crate::call::{Case, Checks, Expected};
 use crate::theorems;
 use crate::type_answers::{bytes, checks, two, yes_or_no};
 use feel_form::calls;
@@ -30,5 +30,43 @@ pub fn type_of(case: Case) -> Expected {
     bytes(
         answer,
         checks(case, |others| theorems::of_type_of(v, others)),
+    )
+}
+
+pub fn get_value_checked(case: Case) -> Expected {
+    let [t, v] = two(case);
+    let answer = calls::get_value_checked(t, v, case.output);
+    bytes(answer, checks(case, |_| theorems::of_retrieval(t, v)))
+}
+
+pub fn get_conformant_value(case: Case) -> Expected {
+    let [t, v] = two(case);
+    let answer = calls::get_conformant_value(t, v, case.output);
+    bytes(
+        answer,
+        checks(case, |_| theorems::of_conformant_value(t, v)),
+    )
+}
+
+pub fn coerced(case: Case) -> Expected {
+    let [v, t] = two(case);
+    let answer = calls::coerced(v, t, case.output);
+    bytes(answer, checks(case, |_| theorems::of_coercion(v, t)))
+}
+
+/// The answer of a question on a value.
+pub fn value_is(case: Case, question: fn(&[u8]) -> Result<bool, u8>) -> Expected {
+    yes_or_no(question(case.args[0]), Checks::default)
+}
+
+/// The answer of a question on an interval byte.
+pub fn interval_is(case: Case, question: fn(u8) -> Result<bool, u8>) -> Expected {
+    yes_or_no(question(case.args[0][0]), Checks::default)
+}
+
+pub fn bif_feel_type(case: Case) -> Expected {
+    bytes(
+        calls::bif_feel_type(case.args[0][0], case.output),
+        Checks::default,
     )
 }

@@ -10,7 +10,7 @@ use feel_cases::{
 use feel_form::{MAX_LENGTH, MAX_VALUE_LEVEL, calls};
 
 /// Leaves of small values: Null, data of three types, Irrelevant.
-const LEAVES: [&[u8]; 5] = [
+pub const LEAVES: [&[u8]; 5] = [
     &[0x00, 0],
     &[0x01, 1],
     &[0x02, 1, 0, 0, 0, 0, 0, 0, 0],
@@ -19,7 +19,7 @@ const LEAVES: [&[u8]; 5] = [
 ];
 
 /// Of so many records of one sort one is taken where they are many and a case costs much.
-const FEW: usize = 8;
+pub const FEW: usize = 8;
 
 /// Cases of a value and a type.
 pub fn value_and_type(options: &Options, each: &mut EachCase) {
@@ -212,7 +212,7 @@ fn small_pairs(options: &Options, each: &mut EachTwo) {
 }
 
 /// A leaf of each kind, every built-in function, types and small function definitions as values.
-fn leaves() -> Vec<Vec<u8>> {
+pub fn leaves() -> Vec<Vec<u8>> {
     let mut all: Vec<Vec<u8>> = (0..4).map(|trace| vec![0x00, trace]).collect();
     all.extend([
         vec![0x01, 0],
@@ -235,7 +235,7 @@ fn leaves() -> Vec<Vec<u8>> {
 /// The value beside the type; both in a list, with Null, in a range, in a context with one name
 /// more, and with one name less than the type has; a value in a list beside the type alone, and the
 /// reverse.
-fn each_parent(v: &[u8], t: &[u8], each: &mut dyn FnMut(&[u8], &[u8])) {
+pub fn each_parent(v: &[u8], t: &[u8], each: &mut dyn FnMut(&[u8], &[u8])) {
     let list = [&[0x0A, 1, 0], v].concat();
     let of_list = [&[0x2A], t].concat();
     let null: &[u8] = &[0x00, 0];
@@ -253,7 +253,7 @@ fn each_parent(v: &[u8], t: &[u8], each: &mut dyn FnMut(&[u8], &[u8])) {
 }
 
 /// Ranges and lists of two, of each two kinds of leaves.
-fn each_ends(each: &mut Each) {
+pub fn each_ends(each: &mut Each) {
     let mut kinds = leaves();
     kinds.retain(|v| v[0] < 0x0C || v == &[0x0D, 0] || v == &[0x0F]);
     kinds.extend([vec![0x0A, 0, 0], vec![0x0B, 0, 0], vec![0x0E, 0x22]]);
@@ -298,17 +298,17 @@ fn each_types_together(options: &Options, each: &mut Each) {
 }
 
 /// Of how many ways in which a function definition stands to a function type one is taken.
-fn step(options: &Options) -> usize {
+pub fn step(options: &Options) -> usize {
     if is_quick(options) { 40 } else { 4 }
 }
 
 /// Whether few random cases are wanted, and then few of the others.
-fn is_quick(options: &Options) -> bool {
+pub fn is_quick(options: &Options) -> bool {
     options.pairs < 50_000
 }
 
 /// Says yes each time after `step - 1` times no.
-fn one_in(step: usize) -> impl FnMut() -> bool {
+pub fn one_in(step: usize) -> impl FnMut() -> bool {
     let mut count = 0;
     move || {
         count += 1;
@@ -317,7 +317,7 @@ fn one_in(step: usize) -> impl FnMut() -> bool {
 }
 
 /// The inferred and the least type of a value, as far as it has them.
-fn own_types(v: &[u8]) -> Vec<Vec<u8>> {
+pub fn own_types(v: &[u8]) -> Vec<Vec<u8>> {
     let least = calls::value_least_type(v, usize::MAX, usize::MAX);
     let inferred = calls::value_type_of(v, usize::MAX, usize::MAX);
     [inferred, least].into_iter().flatten().collect()
@@ -325,7 +325,7 @@ fn own_types(v: &[u8]) -> Vec<Vec<u8>> {
 
 /// The value beside its own types, and beside copies of them: widened, narrowed, changed, one level
 /// more and one less. A value that is refused stands beside Any.
-fn near_types(v: &[u8], random: &mut Random, each: &mut EachTwo) {
+pub fn near_types(v: &[u8], random: &mut Random, each: &mut EachTwo) {
     let own = own_types(v);
     if own.is_empty() {
         each(v, &[0x20], None);
@@ -347,7 +347,7 @@ fn near_types(v: &[u8], random: &mut Random, each: &mut EachTwo) {
 }
 
 /// Values for each of the refusals 1 to 5.
-fn refused_values() -> Vec<Vec<u8>> {
+pub fn refused_values() -> Vec<Vec<u8>> {
     vec![
         vec![],
         long_records(Kind::Value, MAX_LENGTH + 1).swap_remove(0),
@@ -382,7 +382,7 @@ fn refused_types() -> Vec<Vec<u8>> {
 }
 
 /// Each refused value and an accepted one beside each refused type and an accepted one.
-fn refused_pairs(options: &Options, each: &mut EachTwo) {
+pub fn refused_pairs(options: &Options, each: &mut EachTwo) {
     let accepted: [&[u8]; 4] = [&[0x00, 0], &[0x01, 1], &[0x0F], &[0x0A, 1, 0, 0x01, 1]];
     let types: [&[u8]; 4] = [&[0x20], &[0x29], &[0x21], &[0x2A, 0x21]];
     let (bad_values, bad_types) = (refused_values(), refused_types());
@@ -401,7 +401,7 @@ fn refused_pairs(options: &Options, each: &mut EachTwo) {
 
 /// A value and a type near its own, the value damaged, the type damaged, and both; and Null with
 /// the type damaged.
-fn damaged_pair(random: &mut Random, each: &mut EachTwo) {
+pub fn damaged_pair(random: &mut Random, each: &mut EachTwo) {
     let tree = ValueTree::random_of_any_size(Parts::All, random);
     let (v, t) = (
         tree.draft(),

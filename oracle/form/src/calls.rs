@@ -1,8 +1,14 @@
 //! The answers of the calls over types and over values, as bytes: the arguments are read in turn,
 //! then comes the scratch, then the room in the output. What the published Rust has is asked of it.
 
-use crate::{bounds, inferred, read_type, read_value, write_type};
+use crate::read::interval_type;
+use crate::{
+    BIFS, MAX_LENGTH, MAX_VALUE_LEVEL, bounds, inferred, read_type, read_value, value_level,
+    write_type, write_value,
+};
 use dsntk_feel::FeelType;
+use dsntk_feel::ranges::IntervalType;
+use dsntk_feel::values::Value;
 
 /// `FeelType::is_conformant`, or the refusal.
 pub fn is_conformant(a: &[u8], b: &[u8]) -> Result<bool, u8> {
@@ -70,6 +76,103 @@ pub fn value_type_of(v: &[u8], scratch: usize, room: usize) -> Result<Vec<u8>, u
     written(&inferred::type_of(&value), room)
 }
 
+/// The bytes of `FeelType::get_value_checked`, or the refusal.
+pub fn get_value_checked(t: &[u8], v: &[u8], room: usize) -> Result<Vec<u8>, u8> {
+    let (t, _) = read_type(t)?;
+    let (v, _) = read_value(v)?;
+    let answer = t.get_value_checked(&v).map_err(|_| 15)?;
+    written_value(&answer, room)
+}
+
+/// The bytes of `FeelType::get_conformant_value`, or the refusal.
+pub fn get_conformant_value(t: &[u8], v: &[u8], room: usize) -> Result<Vec<u8>, u8> {
+    let (t, _) = read_type(t)?;
+    let (v, _) = read_value(v)?;
+    written_value(&t.get_conformant_value(&v), room)
+}
+
+/// The bytes of `Value::coerced`, or the refusal.
+pub fn coerced(v: &[u8], t: &[u8], room: usize) -> Result<Vec<u8>, u8> {
+    let (v, _) = read_value(v)?;
+    let (t, _) = read_type(t)?;
+    written_value(&v.coerced(&t), room)
+}
+
+/// `Value::is_invalid_coercion`, or the refusal.
+pub fn value_is_invalid_coercion(v: &[u8]) -> Result<bool, u8> {
+    value_is(v, Value::is_invalid_coercion)
+}
+
+/// `Value::is_valid_range`, or the refusal.
+pub fn value_is_valid_range(v: &[u8]) -> Result<bool, u8> {
+    value_is(v, Value::is_valid_range)
+}
+
+/// `Value::is_null`, or the refusal.
+pub fn value_is_null(v: &[u8]) -> Result<bool, u8> {
+    value_is(v, Value::is_null)
+}
+
+/// `Value::is_true`, or the refusal.
+pub fn value_is_true(v: &[u8]) -> Result<bool, u8> {
+    value_is(v, Value::is_true)
+}
+
+/// `Value::is_false`, or the refusal.
+pub fn value_is_false(v: &[u8]) -> Result<bool, u8> {
+    value_is(v, Value::is_false)
+}
+
+/// `Value::is_number`, or the refusal.
+pub fn value_is_number(v: &[u8]) -> Result<bool, u8> {
+    value_is(v, Value::is_number)
+}
+
+/// `Value::is_string`, or the refusal.
+pub fn value_is_string(v: &[u8]) -> Result<bool, u8> {
+    value_is(v, Value::is_string)
+}
+
+/// `Value::is_list`, or the refusal.
+pub fn value_is_list(v: &[u8]) -> Result<bool, u8> {
+    value_is(v, Value::is_list)
+}
+
+/// `Value::is_range`, or the refusal.
+pub fn value_is_range(v: &[u8]) -> Result<bool, u8> {
+    value_is(v, Value::is_range)
+}
+
+/// `IntervalType::opened`, or the refusal.
+pub fn interval_opened(i: u8) -> Result<bool, u8> {
+    interval_is(i, IntervalType::opened)
+}
+
+/// `IntervalType::closed`, or the refusal.
+pub fn interval_closed(i: u8) -> Result<bool, u8> {
+    interval_is(i, IntervalType::closed)
+}
+
+/// `IntervalType::undefined`, or the refusal.
+pub fn interval_undefined(i: u8) -> Result<bool, u8> {
+    interval_is(i, IntervalType::undefined)
+}
+
+/// The bytes of `Bif::feel_type`, or the refusal.
+pub fn bif_feel_type(b: u8, room: usize) -> Result<Vec<u8>, u8> {
+    let bif = BIFS.get(usize::from(b)).ok_or(2)?;
+    written(&bif.feel_type(), room)
+}
+
+fn value_is(v: &[u8], method: fn(&Value) -> bool) -> Result<bool, u8> {
+    let (v, _) = read_value(v)?;
+    Ok(method(&v))
+}
+
+fn interval_is(i: u8, method: fn(&IntervalType) -> bool) -> Result<bool, u8> {
+    Ok(method(&interval_type(i).ok_or(2)?))
+}
+
 fn bound(
     a: &[u8],
     b: &[u8],
@@ -92,7 +195,19 @@ fn read_two(a: &[u8], b: &[u8]) -> Result<(FeelType, FeelType), u8> {
 }
 
 fn written(answer: &FeelType, room: usize) -> Result<Vec<u8>, u8> {
-    let bytes = write_type(answer);
+    fitting(write_type(answer), room)
+}
+
+/// A value must be one that can be read.
+fn written_value(answer: &Value, room: usize) -> Result<Vec<u8>, u8> {
+    let bytes = write_value(answer);
+    if bytes.len() > MAX_LENGTH || value_level(answer) > MAX_VALUE_LEVEL {
+        return Err(17);
+    }
+    fitting(bytes, room)
+}
+
+fn fitting(bytes: Vec<u8>, room: usize) -> Result<Vec<u8>, u8> {
     if room < bytes.len() {
         Err(18)
     } else {

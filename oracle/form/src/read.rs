@@ -58,6 +58,17 @@ pub fn read_type(bytes: &[u8]) -> Result<(FeelType, usize), u8> {
     Ok((feel_type, level))
 }
 
+/// The interval type of a range's operand.
+pub(crate) fn interval_type(operand: u8) -> Option<IntervalType> {
+    match operand {
+        0 => Some(IntervalType::Opened),
+        1 => Some(IntervalType::OpenedUndef),
+        2 => Some(IntervalType::Closed),
+        3 => Some(IntervalType::ClosedUndef),
+        _ => None,
+    }
+}
+
 /// Reads the whole of `bytes` as one tree: length first, leftovers last.
 fn read<'a, T>(
     bytes: &'a [u8],
@@ -129,13 +140,7 @@ impl Reader<'_> {
     }
 
     fn interval(&self, operand: u8) -> Result<IntervalType, u8> {
-        match operand {
-            0 => Ok(IntervalType::Opened),
-            1 => Ok(IntervalType::OpenedUndef),
-            2 => Ok(IntervalType::Closed),
-            3 => Ok(IntervalType::ClosedUndef),
-            _ => Err(self.refusals.form),
-        }
+        interval_type(operand).ok_or(self.refusals.form)
     }
 
     fn trace(&self, operand: u8) -> Result<Option<String>, u8> {

@@ -18,6 +18,22 @@ pub enum Call {
     ValueIsConformant,
     ValueLeastType,
     ValueTypeOf,
+    GetValueChecked,
+    GetConformantValue,
+    Coerced,
+    IsInvalidCoercion,
+    IsValidRange,
+    ValueIsNull,
+    IsTrue,
+    IsFalse,
+    IsNumber,
+    IsString,
+    IsList,
+    IsRange,
+    IntervalOpened,
+    IntervalClosed,
+    IntervalUndefined,
+    BifFeelType,
 }
 
 impl Call {
@@ -35,6 +51,22 @@ impl Call {
             Call::ValueIsConformant => "value_is_conformant",
             Call::ValueLeastType => "value_least_type",
             Call::ValueTypeOf => "value_type_of",
+            Call::GetValueChecked => "type_get_value_checked",
+            Call::GetConformantValue => "type_get_conformant_value",
+            Call::Coerced => "value_coerced",
+            Call::IsInvalidCoercion => "value_is_invalid_coercion",
+            Call::IsValidRange => "value_is_valid_range",
+            Call::ValueIsNull => "value_is_null",
+            Call::IsTrue => "value_is_true",
+            Call::IsFalse => "value_is_false",
+            Call::IsNumber => "value_is_number",
+            Call::IsString => "value_is_string",
+            Call::IsList => "value_is_list",
+            Call::IsRange => "value_is_range",
+            Call::IntervalOpened => "interval_opened",
+            Call::IntervalClosed => "interval_closed",
+            Call::IntervalUndefined => "interval_undefined",
+            Call::BifFeelType => "bif_feel_type",
         }
     }
 
@@ -62,6 +94,26 @@ impl Call {
             (Call::ValueTypeOf, [v], [scratch, room]) => {
                 bytes_or_refusal(calls::value_type_of(v, *scratch, *room))
             }
+            (Call::GetValueChecked, [t, v], [room]) => {
+                bytes_or_refusal(calls::get_value_checked(t, v, *room))
+            }
+            (Call::GetConformantValue, [t, v], [room]) => {
+                bytes_or_refusal(calls::get_conformant_value(t, v, *room))
+            }
+            (Call::Coerced, [v, t], [room]) => bytes_or_refusal(calls::coerced(v, t, *room)),
+            (Call::IsInvalidCoercion, [v], []) => number(calls::value_is_invalid_coercion(v)),
+            (Call::IsValidRange, [v], []) => number(calls::value_is_valid_range(v)),
+            (Call::ValueIsNull, [v], []) => number(calls::value_is_null(v)),
+            (Call::IsTrue, [v], []) => number(calls::value_is_true(v)),
+            (Call::IsFalse, [v], []) => number(calls::value_is_false(v)),
+            (Call::IsNumber, [v], []) => number(calls::value_is_number(v)),
+            (Call::IsString, [v], []) => number(calls::value_is_string(v)),
+            (Call::IsList, [v], []) => number(calls::value_is_list(v)),
+            (Call::IsRange, [v], []) => number(calls::value_is_range(v)),
+            (Call::IntervalOpened, [[i]], []) => number(calls::interval_opened(*i)),
+            (Call::IntervalClosed, [[i]], []) => number(calls::interval_closed(*i)),
+            (Call::IntervalUndefined, [[i]], []) => number(calls::interval_undefined(*i)),
+            (Call::BifFeelType, [[b]], [room]) => bytes_or_refusal(calls::bif_feel_type(*b, *room)),
             _ => panic!("no case of {self:?}: {case:?}"),
         }
     }

@@ -6,6 +6,8 @@ mod inferred;
 mod kinds;
 mod list;
 mod pairs;
+mod questions;
+mod retrieval;
 mod shared;
 mod types;
 mod values;
@@ -22,6 +24,8 @@ fn groups() -> Vec<Group> {
         .chain(kinds::groups())
         .chain(conformance::groups())
         .chain(inferred::groups())
+        .chain(retrieval::groups())
+        .chain(questions::groups())
         .collect()
 }
 
@@ -51,7 +55,7 @@ mod tests {
     #[test]
     fn groups_have_distinct_plain_titles() {
         let groups = groups();
-        assert!((90..=120).contains(&groups.len()), "{}", groups.len());
+        assert!((150..=180).contains(&groups.len()), "{}", groups.len());
         let titles: BTreeSet<&str> = groups.iter().map(|group| &group.title[..]).collect();
         assert_eq!(titles.len(), groups.len());
         for title in titles {
@@ -105,10 +109,15 @@ mod tests {
         }
         // A function definition with 255 parameters, or nearly 256 items.
         assert!(rather_long <= 6, "{rather_long}");
-        assert_eq!(answers.len(), 10);
+        assert_eq!(answers.len(), 26);
         for (call, answers) in answers {
-            let of_values = call >= Call::ValueIsConformant;
-            let counts = if of_values { 150..=300 } else { 25..=60 };
+            let counts = match call {
+                Call::GetValueChecked | Call::GetConformantValue | Call::Coerced => 100..=200,
+                Call::IsInvalidCoercion | Call::IsValidRange => 20..=60,
+                _ if call > Call::IsValidRange => 5..=20,
+                _ if call >= Call::ValueIsConformant => 150..=300,
+                _ => 25..=60,
+            };
             assert!(
                 counts.contains(&answers.len()),
                 "{call:?} {}",
@@ -116,8 +125,10 @@ mod tests {
             );
             let (own, least): (&[u8], _) = match call {
                 Call::CommonSupertype | Call::CommonSubtype | Call::ValueTypeOf => (&[14, 18], 3),
-                Call::Reduced => (&[18], 3),
+                Call::Reduced | Call::GetConformantValue | Call::BifFeelType => (&[18], 3),
                 Call::ValueLeastType => (&[13, 14, 18], 3),
+                Call::GetValueChecked => (&[15, 18], 3),
+                Call::Coerced => (&[17, 18], 3),
                 _ => {
                     assert!(answers.contains(&Answer::Number(0)));
                     assert!(answers.contains(&Answer::Number(1)));
@@ -129,8 +140,12 @@ mod tests {
                 answers.iter().filter(|answer| **answer == refused).count()
             };
             let mut of_reading = match call {
-                Call::ValueIsConformant => 1..=10,
-                Call::ValueLeastType | Call::ValueTypeOf => 1..=5,
+                Call::ValueIsConformant
+                | Call::GetValueChecked
+                | Call::GetConformantValue
+                | Call::Coerced => 1..=10,
+                _ if call >= Call::IntervalOpened => 2..=2,
+                _ if call >= Call::ValueLeastType => 1..=5,
                 _ => 6..=10,
             };
             assert!(of_reading.all(|refusal| count(&refusal) > 0), "{call:?}");
@@ -159,6 +174,10 @@ mod tests {
             examples(Call::ValueLeastType),
             bytes(["2A 29", "2A 22", "2A 22", "2A 20", "2A 2C 0100 0500 22"])
         );
+        let one = |line: &str| vec![Answer::Bytes(list::bytes(line))];
+        assert_eq!(examples(Call::Coerced), one("00 01"));
+        assert_eq!(examples(Call::GetValueChecked), one("0B 0000"));
+        assert_eq!(examples(Call::GetConformantValue), one("00 02"));
     }
 
     #[test]
@@ -178,7 +197,7 @@ mod tests {
     #[test]
     fn the_text_is_small_and_in_its_form() {
         let text = list::text(&groups());
-        assert!(text.len() < 400_000, "{}", text.len());
+        assert!(text.len() < 450_000, "{}", text.len());
         assert_eq!(text, list::text(&groups()));
         assert!(text.ends_with('\n'));
         let is_hex = |byte: u8| byte.is_ascii_digit() || (b'A'..=b'F').contains(&byte);
@@ -197,10 +216,11 @@ mod tests {
             let accepted = !answer.starts_with('!');
             assert!(is_number(answer.trim_start_matches('!')), "{line}");
             let (args, lent) = match call {
-                1 | 2 | 8 | 9 => (1, 0),
+                1 | 2 | 8 | 9 | 16..=27 => (1, 0),
                 3 | 4 | 10 => (2, 0),
                 5 | 6 => (2, 2),
-                7 => (1, 1),
+                7 | 28 => (1, 1),
+                13..=15 => (2, 1),
                 _ => (1, 2),
             };
             assert!(words.by_ref().take(args).all(is_bytes), "{line}");

@@ -5,8 +5,9 @@
 //! say something.
 
 use compare::library::{
-    COMPARED, feel_check_type, feel_check_value, feel_type_is_conformant, feel_value_is_conformant,
-    feel_value_least_type, feel_value_type_of,
+    COMPARED, feel_check_type, feel_check_value, feel_type_get_conformant_value,
+    feel_type_get_value_checked, feel_type_is_conformant, feel_value_coerced,
+    feel_value_is_conformant, feel_value_least_type, feel_value_type_of,
 };
 use dsntk_feel::FeelType;
 use dsntk_feel::values::Value;
@@ -59,6 +60,19 @@ fn main() {
     for size in SIZES {
         let (function, rust) = (feel_value_type_of, calls::value_type_of);
         type_of_values("value_type_of", size, function, rust, Value::type_of);
+    }
+    for size in SIZES {
+        let (function, rust) = (feel_type_get_value_checked, calls::get_value_checked);
+        let alone = |t: &FeelType, v: &Value| t.get_value_checked(v).ok();
+        retrieval("type_get_value_checked", size, function, rust, alone);
+    }
+    for size in SIZES {
+        let (function, rust) = (feel_type_get_conformant_value, calls::get_conformant_value);
+        let alone = |t: &FeelType, v: &Value| Some(t.get_conformant_value(v));
+        retrieval("type_get_conformant_value", size, function, rust, alone);
+    }
+    for size in SIZES {
+        coercion(size);
     }
 }
 
@@ -146,6 +160,79 @@ fn type_of_values<T>(
         best = least_of(best, round);
     }
     row(name, bytes / values.len(), bytes * repeats, best);
+}
+
+/// Retrieval of values of these lengths with their least types.
+fn retrieval(
+    name: &str,
+    (least, most): (usize, usize),
+    function: Build,
+    rust: RustBuild,
+    alone: fn(&FeelType, &Value) -> Option<Value>,
+) {
+    let own = |v: &Vec<u8>| {
+        let t = calls::value_least_type(v, usize::MAX, usize::MAX).expect("data");
+        [t, v.clone()]
+    };
+    let pairs: Vec<[Vec<u8>; 2]> = values(least, most).iter().map(own).collect();
+    let trees: Vec<(FeelType, Value)> = pairs
+        .iter()
+        .map(|[t, v]| (read_type(t).expect("accepted").0, value(v)))
+        .collect();
+    let firsts: usize = pairs.iter().map(|[_, v]| v.len()).sum();
+    build(name, firsts, &pairs, function, rust, &mut |repeats| {
+        timed(repeats, &trees, |(t, v)| alone(t, v))
+    });
+}
+
+/// Coercion of values of these lengths to lists of their least types.
+fn coercion((least, most): (usize, usize)) {
+    // A list is made around each.
+    let most = most.min(16_381);
+    let own = |v: &Vec<u8>| {
+        let t = calls::value_least_type(v, usize::MAX, usize::MAX).expect("data");
+        [v.clone(), [&[0x2A], &t[..]].concat()]
+    };
+    let pairs: Vec<[Vec<u8>; 2]> = values(least, most).iter().map(own).collect();
+    let trees: Vec<(Value, FeelType)> = pairs
+        .iter()
+        .map(|[v, t]| (value(v), read_type(t).expect("accepted").0))
+        .collect();
+    let firsts: usize = pairs.iter().map(|[v, _]| v.len()).sum();
+    let (function, rust) = (feel_value_coerced, calls::coerced);
+    build(
+        "value_coerced",
+        firsts,
+        &pairs,
+        function,
+        rust,
+        &mut |repeats| timed(repeats, &trees, |(v, t)| v.coerced(t)),
+    );
+}
+
+/// A call over two records that writes a value, beside the Rust, and beside its answer alone; the
+/// values have so many bytes.
+fn build(
+    name: &str,
+    firsts: usize,
+    pairs: &[[Vec<u8>; 2]],
+    function: Build,
+    rust: RustBuild,
+    alone: &mut dyn FnMut(usize) -> Duration,
+) {
+    let bytes: usize = pairs.iter().flatten().map(Vec::len).sum();
+    let repeats = ROUND.div_ceil(bytes);
+    let mut out = vec![0; 16_384];
+    let mut best = [Duration::MAX; 3];
+    for _ in 0..ROUNDS {
+        let round = [
+            timed(repeats, pairs, |[a, b]| built(a, b, function, &mut out)),
+            timed(repeats, pairs, |[a, b]| rust(a, b, 16_384)),
+            alone(repeats),
+        ];
+        best = least_of(best, round);
+    }
+    row(name, firsts / pairs.len(), bytes * repeats, best);
 }
 
 /// The shorter of each two times.
@@ -309,6 +396,26 @@ fn type_of_value(v: &[u8], function: TypeOf, scratch: &mut [u8], out: &mut [u8])
             v.len(),
             scratch.as_mut_ptr(),
             scratch.len(),
+            out.as_mut_ptr(),
+            out.len(),
+        )
+    }
+}
+
+/// A C function over two records, with an output.
+type Build = unsafe extern "C" fn(*const u8, usize, *const u8, usize, *mut u8, usize) -> u64;
+
+/// The Rust over the bytes of two records, with the length of the output.
+type RustBuild = fn(&[u8], &[u8], usize) -> Result<Vec<u8>, u8>;
+
+fn built(a: &[u8], b: &[u8], function: Build, out: &mut [u8]) -> u64 {
+    // SAFETY: each pointer and length are those of one slice, which lives through the call.
+    unsafe {
+        function(
+            a.as_ptr(),
+            a.len(),
+            b.as_ptr(),
+            b.len(),
             out.as_mut_ptr(),
             out.len(),
         )

@@ -51,7 +51,7 @@ fn count(v: &[u8], at: usize) -> usize {
 }
 
 /// The children of a range, a list or a context.
-fn children(v: &[u8]) -> Vec<Part<'_>> {
+pub fn children(v: &[u8]) -> Vec<Part<'_>> {
     let (count, name_width) = match v[0] {
         0x09 => (2, 0),
         0x0A => (count(v, 0), 0),
