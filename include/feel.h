@@ -34,7 +34,7 @@
  *   18  output too short for the answer
  *   19  texts: table or parts malformed, or with bytes left over
  *   20  texts: a name's number is not in the table
- * The numbers 11, 12, 16, 19 and 20 belong to calls that are not in this version.
+ * The numbers 19 and 20 belong to calls that are not in this version.
  */
 #ifndef FEEL_H
 #define FEEL_H
@@ -118,6 +118,66 @@ uint64_t feel_interval_undefined(uint8_t i);
 
 /* Bif::feel_type of the built-in function at position b, at the front of out. Answers its length, or 2 for a position over 85, or 18. */
 uint64_t feel_bif_feel_type(uint8_t b, uint8_t *out, size_t out_len);
+
+/* CONTEXTS. A path is a slice of 16-bit names, path_len of them, the outermost first. A part is the whole value found, as a part of the
+ * caller's own bytes c: its place from the start of c and its length. An update leaves c as it is and writes the context after the update
+ * at the front of out. */
+
+/* FeelContext::get_entry: the value of the entry with this name. Answers the part, or none, or refusal 1 to 5, or 12. */
+uint64_t feel_context_get_entry(const uint8_t *c, size_t c_len, uint16_t name);
+
+/* FeelContext::search_deep: the value at the path. Answers the part, or none, also for an empty path; or c's refusal 1 to 5; 11; 12. */
+uint64_t feel_context_search_deep(const uint8_t *c, size_t c_len, const uint16_t *path, size_t path_len);
+
+/* FeelContext::get_first: the value of the first entry. Answers the part, or none where there is no entry; or refusal 1 to 5, or 12. */
+uint64_t feel_context_get_first(const uint8_t *c, size_t c_len);
+
+/* FeelContext::contains_entry: is there an entry with this name? Answers 1 or 0, or refusal 1 to 5, or 12. */
+uint64_t feel_context_contains_entry(const uint8_t *c, size_t c_len, uint16_t name);
+
+/* FeelContext::contains_deep: is there a value at the path? No for an empty path. Answers 1 or 0, or c's refusal 1 to 5; 11; 12. */
+uint64_t feel_context_contains_deep(const uint8_t *c, size_t c_len, const uint16_t *path, size_t path_len);
+
+/* FeelContext::is_context: is there an entry with this name, and is its value a context? Answers 1 or 0, or refusal 1 to 5, or 12. */
+uint64_t feel_context_is_context(const uint8_t *c, size_t c_len, uint16_t name);
+
+/* FeelContext::is_empty: is there no entry? Answers 1 or 0, or refusal 1 to 5, or 12. */
+uint64_t feel_context_is_empty(const uint8_t *c, size_t c_len);
+
+/* FeelContext::len. Answers how many entries there are, or refusal 1 to 5, or 12. */
+uint64_t feel_context_len(const uint8_t *c, size_t c_len);
+
+/* FeelContext::create_entries: c with the value v at the path, at the front of out; a value on the way that is no context is replaced by a
+ * new context, an empty path copies c. Answers its length, or c's refusal 1 to 5; 11; v's 1 to 5; 12; 17; 18. */
+uint64_t feel_context_create_entries(const uint8_t *c, size_t c_len, const uint16_t *path, size_t path_len, const uint8_t *v, size_t v_len,
+                                     uint8_t *out, size_t out_len);
+
+/* FeelContext::apply_entries: the same, but 16 where a value on the way is no context. Answers its length, or c's refusal 1 to 5; 11; v's 1
+ * to 5; 12; 16; 17; 18. */
+uint64_t feel_context_apply_entries(const uint8_t *c, size_t c_len, const uint16_t *path, size_t path_len, const uint8_t *v, size_t v_len,
+                                    uint8_t *out, size_t out_len);
+
+/* FeelContext::zip: c with all entries of the other context, which replace those of equal names, at the front of out. Answers its length, or
+ * c's refusal 1 to 5, or the other's; 12 where either is no context; 17; 18. */
+uint64_t feel_context_zip(const uint8_t *c, size_t c_len, const uint8_t *other, size_t other_len, uint8_t *out, size_t out_len);
+
+/* FeelContext::overwrite: c with those entries of the other context whose names it has, at the front of out. Answers and refusals as above. */
+uint64_t feel_context_overwrite(const uint8_t *c, size_t c_len, const uint8_t *other, size_t other_len, uint8_t *out, size_t out_len);
+
+/* FeelContext::move_entry: c without the entry of this name, and with its value created at the path of parent and name, at the front of out;
+ * an absent name copies c. Answers its length, or refusal 1 to 5; 12; 17; 18. */
+uint64_t feel_context_move_entry(const uint8_t *c, size_t c_len, uint16_t name, uint16_t parent, uint8_t *out, size_t out_len);
+
+/* FeelContext::set_entry: c with the value v under this name, at the front of out. Answers its length, or c's refusal 1 to 5, or v's; 12; 17;
+ * 18. */
+uint64_t feel_context_set_entry(const uint8_t *c, size_t c_len, uint16_t name, const uint8_t *v, size_t v_len, uint8_t *out, size_t out_len);
+
+/* FeelContext::remove_entry: c without the entry of this name, at the front of out; an absent name copies c. Answers its length, or refusal 1
+ * to 5; 12; 18. (17 is never met.) */
+uint64_t feel_context_remove_entry(const uint8_t *c, size_t c_len, uint16_t name, uint8_t *out, size_t out_len);
+
+/* FeelContext::set_null: c with null of trace 0 under this name, at the front of out. Answers its length, or refusal 1 to 5; 12; 17; 18. */
+uint64_t feel_context_set_null(const uint8_t *c, size_t c_len, uint16_t name, uint8_t *out, size_t out_len);
 
 #ifdef __cplusplus
 }

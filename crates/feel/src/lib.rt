@@ -10,13 +10,21 @@ ghost use Rattle.retrieval.specs.Calls.{getValueCheckedCall, getConformantValue
 ghost use Rattle.coercion.specs.Calls.{coercedCall};
 ghost use Rattle.ranges.specs.Calls.{isInvalidCoercionCall, isValidRangeCall, isNullCall, isTrueCall, isFalseCall, isNumberCall, isStringCall, isListCall, isRangeCall, openedCall, closedCall, undefinedCall, bifTypeCall};
 ghost use Rattle.bounds.specs.Calls.{commonSupertype, commonSubtype, reducedCall};
-ghost use Rattle.feel.specs.Numbers.{numbered, judged, Exported};
+ghost use Rattle.paths.specs.Places.{found, extentOf};
+ghost use Rattle.paths.specs.Calls.{searchDeepCall, getEntryCall, getFirstCall, containsDeepCall, containsEntryCall, isContextCall, isEmptyCall, lenCall, count};
+ghost use Rattle.context.specs.Calls.{createEntriesCall, applyEntriesCall, zipCall, overwriteCall, moveEntryCall, setEntryCall, removeEntryCall, setNullCall};
+ghost use Rattle.feel.specs.Numbers.{numbered, judged, parted, Halves, Exported};
 use form::Checked;
 use form::Verdict;
 use form::Written;
+use paths::Count;
+use paths::Found;
 
 // High word 1: refused.
 const REFUSED: u64 = 0x1_0000_0000;
+
+// High word 2: none.
+const NONE: u64 = 0x2_0000_0000;
 
 // The number of a reader's answer.
 fn check_number(c: Checked) -> u64
@@ -46,6 +54,28 @@ fn written_number(w: Written) -> u64
     match w {
         Written::Bytes(n) => n as u64,
         Written::Refused(n) => REFUSED + n as u64,
+    }
+}
+
+// The number of a count.
+fn count_number(c: Count) -> u64
+    ensures { λ r. ⌜ r ≡ numbered (count c) ⌝ }
+{
+    match c {
+        Count::Entries(n) => n as u64,
+        Count::Refused(n) => REFUSED + n as u64,
+    }
+}
+
+// The number of a part that was found.
+fn found_number(f: Found) -> u64
+    requires { ⌜ Halves (found f) ⌝ }
+    ensures { λ r. ⌜ r ≡ parted (found f) ⌝ }
+{
+    match f {
+        Found::Part { place, size } => place as u64 * 65536 + size as u64,
+        Found::None => NONE,
+        Found::Refused(n) => REFUSED + n as u64,
     }
 }
 
@@ -281,4 +311,142 @@ pub extern "C" fn feel_bif_feel_type(b: u8, out: &mut [u8]) -> u64
     ensures { λ r. ⌜ Exported (bifTypeCall b (length (now (out .entry)))) (now (out .entry)) (now (out .exit)) r ⌝ }
 {
     written_number(ranges::bif_feel_type(b, out))
+}
+
+// The value of the name: its place in the context and its length.
+#[no_mangle]
+pub extern "C" fn feel_context_get_entry(c: &[u8], name: u16) -> u64
+    ensures { λ r. ⌜ r ≡ parted (extentOf (getEntryCall (now (c .entry)) name)) ⌝ }
+{
+    found_number(paths::entry_place(c, name))
+}
+
+// The value at the path: its place in the context and its length.
+#[no_mangle]
+pub extern "C" fn feel_context_search_deep(c: &[u8], path: &[u16]) -> u64
+    ensures { λ r. ⌜ r ≡ parted (extentOf (searchDeepCall (now (c .entry)) (now (path .entry)))) ⌝ }
+{
+    found_number(paths::search_place(c, path))
+}
+
+// The first value: its place in the context and its length.
+#[no_mangle]
+pub extern "C" fn feel_context_get_first(c: &[u8]) -> u64
+    ensures { λ r. ⌜ r ≡ parted (extentOf (getFirstCall (now (c .entry)))) ⌝ }
+{
+    found_number(paths::first_place(c))
+}
+
+// Has the context the name?
+#[no_mangle]
+pub extern "C" fn feel_context_contains_entry(c: &[u8], name: u16) -> u64
+    ensures { λ r. ⌜ r ≡ judged (containsEntryCall (now (c .entry)) name) ⌝ }
+{
+    verdict_number(paths::contains_entry(c, name))
+}
+
+// Is there a value at the path?
+#[no_mangle]
+pub extern "C" fn feel_context_contains_deep(c: &[u8], path: &[u16]) -> u64
+    ensures { λ r. ⌜ r ≡ judged (containsDeepCall (now (c .entry)) (now (path .entry))) ⌝ }
+{
+    verdict_number(paths::contains_deep(c, path))
+}
+
+// Is the value of the name a context?
+#[no_mangle]
+pub extern "C" fn feel_context_is_context(c: &[u8], name: u16) -> u64
+    ensures { λ r. ⌜ r ≡ judged (isContextCall (now (c .entry)) name) ⌝ }
+{
+    verdict_number(paths::is_context(c, name))
+}
+
+// Has the context no entries?
+#[no_mangle]
+pub extern "C" fn feel_context_is_empty(c: &[u8]) -> u64
+    ensures { λ r. ⌜ r ≡ judged (isEmptyCall (now (c .entry))) ⌝ }
+{
+    verdict_number(paths::is_empty(c))
+}
+
+// How many entries has the context?
+#[no_mangle]
+pub extern "C" fn feel_context_len(c: &[u8]) -> u64
+    ensures { λ r. ⌜ r ≡ numbered (lenCall (now (c .entry))) ⌝ }
+{
+    count_number(paths::len(c))
+}
+
+// The context with the value at the path; contexts on the way are made where there are none.
+#[no_mangle]
+pub extern "C" fn feel_context_create_entries(
+    c: &[u8],
+    path: &[u16],
+    v: &[u8],
+    out: &mut [u8],
+) -> u64
+    ensures { λ r. ⌜ Exported (createEntriesCall (now (c .entry)) (now (path .entry)) (now (v .entry)) (length (now (out .entry)))) (now (out .entry)) (now (out .exit)) r ⌝ }
+{
+    written_number(context::create_entries(c, path, v, out))
+}
+
+// The same, refused where a value on the way is no context.
+#[no_mangle]
+pub extern "C" fn feel_context_apply_entries(
+    c: &[u8],
+    path: &[u16],
+    v: &[u8],
+    out: &mut [u8],
+) -> u64
+    ensures { λ r. ⌜ Exported (applyEntriesCall (now (c .entry)) (now (path .entry)) (now (v .entry)) (length (now (out .entry)))) (now (out .entry)) (now (out .exit)) r ⌝ }
+{
+    written_number(context::apply_entries(c, path, v, out))
+}
+
+// The context with all entries of the other one.
+#[no_mangle]
+pub extern "C" fn feel_context_zip(c: &[u8], other: &[u8], out: &mut [u8]) -> u64
+    ensures { λ r. ⌜ Exported (zipCall (now (c .entry)) (now (other .entry)) (length (now (out .entry)))) (now (out .entry)) (now (out .exit)) r ⌝ }
+{
+    written_number(context::zip(c, other, out))
+}
+
+// The context with those entries of the other one whose names it has.
+#[no_mangle]
+pub extern "C" fn feel_context_overwrite(c: &[u8], other: &[u8], out: &mut [u8]) -> u64
+    ensures { λ r. ⌜ Exported (overwriteCall (now (c .entry)) (now (other .entry)) (length (now (out .entry)))) (now (out .entry)) (now (out .exit)) r ⌝ }
+{
+    written_number(context::overwrite(c, other, out))
+}
+
+// The context with the entry of the name moved below the parent.
+#[no_mangle]
+pub extern "C" fn feel_context_move_entry(c: &[u8], name: u16, parent: u16, out: &mut [u8]) -> u64
+    ensures { λ r. ⌜ Exported (moveEntryCall (now (c .entry)) name parent (length (now (out .entry)))) (now (out .entry)) (now (out .exit)) r ⌝ }
+{
+    written_number(context::move_entry(c, name, parent, out))
+}
+
+// The context with the value at the name.
+#[no_mangle]
+pub extern "C" fn feel_context_set_entry(c: &[u8], name: u16, v: &[u8], out: &mut [u8]) -> u64
+    ensures { λ r. ⌜ Exported (setEntryCall (now (c .entry)) name (now (v .entry)) (length (now (out .entry)))) (now (out .entry)) (now (out .exit)) r ⌝ }
+{
+    written_number(context::set_entry(c, name, v, out))
+}
+
+// The context without the entry of the name.
+#[no_mangle]
+pub extern "C" fn feel_context_remove_entry(c: &[u8], name: u16, out: &mut [u8]) -> u64
+    ensures { λ r. ⌜ Exported (removeEntryCall (now (c .entry)) name (length (now (out .entry)))) (now (out .entry)) (now (out .exit)) r ⌝ }
+{
+    written_number(context::remove_entry(c, name, out))
+}
+
+// The context with null at the name.
+#[no_mangle]
+pub extern "C" fn feel_context_set_null(c: &[u8], name: u16, out: &mut [u8]) -> u64
+    ensures { λ r. ⌜ Exported (setNullCall (now (c .entry)) name (length (now (out .entry)))) (now (out .entry)) (now (out .exit)) r ⌝ }
+{
+    written_number(context::set_null(c, name, out))
 }

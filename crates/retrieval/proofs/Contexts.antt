@@ -46,13 +46,13 @@ pub record Contexts (l : ℕ) (t v : List ℕ) : Type 0 where
   pub fields : fieldsAt (l - 1) (numAt 2 1 t) 0 (drop 3 t) ≡ some fs
   pub entries : entriesAt (l - 1) (numAt 2 1 v) 0 (drop 3 v) ≡ some es
 
-record ContextVal (l : ℕ) (s : List ℕ) (v : Val) : Type 0 where
-  es : Entries
-  three : 3 ≤ length s
-  entries : entriesAt (l - 1) (numAt 2 1 s) 0 (drop 3 s) ≡ some es
-  is : v ≡ v-context es
+pub record ContextVal (l : ℕ) (s : List ℕ) (v : Val) : Type 0 where
+  pub es : Entries
+  pub three : 3 ≤ length s
+  pub entries : entriesAt (l - 1) (numAt 2 1 s) 0 (drop 3 s) ≡ some es
+  pub is : v ≡ v-context es
 
-context-val : (l : ℕ) (s : List ℕ) (v : Val) → IsVal l s v → getD s 0 0 ≡ 11 → ContextVal l s v
+pub context-val : (l : ℕ) (s : List ℕ) (v : Val) → IsVal l s v → getD s 0 0 ≡ 11 → ContextVal l s v
 context-val l s v (is-null x c) h = absurd (omega arith)
 context-val l s v (is-boolean x c) h = absurd (omega arith)
 context-val l s v (is-number x c) h = absurd (omega arith)
@@ -85,7 +85,7 @@ contexts l t v p q c d = go (ok-got (typeAt l t) p) (ok-got (valueAt l v) q)
           entries = B .entries;
         }
 
-size-context : (es : Entries) → size-val (v-context es) ≡ 3 + size-entries es
+pub size-context : (es : Entries) → size-val (v-context es) ≡ 3 + size-entries es
 unfolding size-val
 size-context es = refl
 
@@ -93,11 +93,11 @@ size-type : (fs : Fields) → size (built (context fs)) ≡ 3 + size-fields fs
 unfolding size
 size-type fs = refl
 
-size-next : (n : ℕ) (v : Val) (es : Entries) → size-entries (entry n v es) ≡ nameWidth + size-val v + size-entries es
+pub size-next : (n : ℕ) (v : Val) (es : Entries) → size-entries (entry n v es) ≡ nameWidth + size-val v + size-entries es
 unfolding size-val
 size-next n v es = refl
 
-size-none : size-entries no-entries ≡ 0
+pub size-none : size-entries no-entries ≡ 0
 unfolding size-val
 size-none = refl
 
@@ -105,16 +105,16 @@ fields-none : size-fields no-fields ≡ 0
 unfolding size
 fields-none = refl
 
-text-none : encEntries no-entries ≡ []
+pub text-none : encEntries no-entries ≡ []
 unfolding encEntries
 text-none = refl
 
-count-none : countEntries no-entries ≡ 0
+pub count-none : countEntries no-entries ≡ 0
 unfolding countEntries
 count-none = refl
 
 -- no entry is left of a context of k entries
-ended : (k p q : ℕ) (d : List ℕ) → k < 65536 → p ≡ k % 256 → q ≡ k / 256 → contextText k d no-entries ≡ (11 ∷ p ∷ q ∷ []) ++ d
+pub ended : (k p q : ℕ) (d : List ℕ) → k < 65536 → p ≡ k % 256 → q ≡ k / 256 → contextText k d no-entries ≡ (11 ∷ p ∷ q ∷ []) ++ d
 unfolding bytes
 ended k p q d h ep eq =
     let e : k + countEntries no-entries ≡ k = omega (arith, count-none) in
@@ -124,7 +124,7 @@ ended k p q d h ep eq =
     ∙ ap (λ (z : List ℕ). (11 ∷ p ∷ q ∷ []) ++ z) (append-nil d)
 
 -- the names that were read ascend
-from-read : (l n least : ℕ) (s : List ℕ) (es : Entries) → entriesAt l n least s ≡ some es → From least es
+pub from-read : (l n least : ℕ) (s : List ℕ) (es : Entries) → entriesAt l n least s ≡ some es → From least es
 from-read l zero least s es e = subst (From least) (sym (no-entry l least s es e)) (from-none least)
 from-read l (suc n) least s es e =
     let E = next-entry l n least s es e in
@@ -146,7 +146,7 @@ pub record This (l n at least : ℕ) (s : List ℕ) (es : Entries) : Type 0 wher
   pub sized : size-entries es ≡ nameWidth + size-val v + size-entries more
   pub from : From (suc name) more
 
-this : (l i n at least : ℕ) (s : List ℕ) (es : Entries) → i < n → at ≤ length s → entriesAt l (n - i) least (drop at s) ≡ some es → This l (n - (i + 1)) at least s es
+pub this : (l i n at least : ℕ) (s : List ℕ) (es : Entries) → i < n → at ≤ length s → entriesAt l (n - i) least (drop at s) ≡ some es → This l (n - (i + 1)) at least s es
 this l i n at least s es h k e = go (next-entry l (n - (i + 1)) least (drop at s) es (ap (λ (z : ℕ). entriesAt l z least (drop at s)) (sym (step i n h)) ∙ e))
   where
     go : Entry l (n - (i + 1)) least (drop at s) es → This l (n - (i + 1)) at least s es
@@ -167,11 +167,11 @@ this l i n at least s es h k e = go (next-entry l (n - (i + 1)) least (drop at s
           from = from-read l (n - (i + 1)) (suc (E .name)) (drop (size-val (E .v)) (drop nameWidth (drop at s))) (E .more) (E .second);
         }
 
-none-left : (l i n at least : ℕ) (s : List ℕ) (es : Entries) → n ≤ i → entriesAt l (n - i) least (drop at s) ≡ some es → es ≡ no-entries
+pub none-left : (l i n at least : ℕ) (s : List ℕ) (es : Entries) → n ≤ i → entriesAt l (n - i) least (drop at s) ≡ some es → es ≡ no-entries
 none-left l i n at least s es h e = let z : n - i ≡ 0 = omega arith in no-entry l least (drop at s) es (ap (λ (k : ℕ). entriesAt l k least (drop at s)) (sym z) ∙ e)
 
 -- all names of the value are above y, since the next one is, or there is none
-above : (l i n at least : ℕ) (s : List ℕ) (es : Entries) → at ≤ length s → entriesAt l (n - i) least (drop at s) ≡ some es → (x y : ℕ) → x ≡ cond (ltb i n) (numAt nameWidth at s) nameEnd → y < x → From (suc y) es
+pub above : (l i n at least : ℕ) (s : List ℕ) (es : Entries) → at ≤ length s → entriesAt l (n - i) least (drop at s) ≡ some es → (x y : ℕ) → x ≡ cond (ltb i n) (numAt nameWidth at s) nameEnd → y < x → From (suc y) es
 above l i n at least s es k e x y p h = go (ltb i n) refl
   where
     go : (q : Bool) → ltb i n ≡ q → From (suc y) es

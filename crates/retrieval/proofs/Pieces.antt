@@ -9,7 +9,7 @@ use lib.Seq.{take-all}
 use borrow.Rule.Slice.PartMut.{putMid, same-len-mid}
 use Rattle.form.specs.Answers.{onto}
 use Rattle.bounds.proofs.Laws.{rest}
-use Rattle.retrieval.specs.Filling.{fill}
+use Rattle.retrieval.specs.Filling.{fill, puts}
 
 -- ---- byte by byte
 fill-nil : (old : List ℕ) → fill [] old ≡ old
@@ -67,6 +67,21 @@ fill-then a b old xs ys n p ex el ep ey =
     let none : drop (length xs - p) (drop p xs) ≡ [] = drop-of-length-le (drop p xs) short in
     let same : length xs ≡ length old = ap length ex ∙ length-fill a old in
     rw (none, append-nil, ey, rest xs p, ex) (fill-rest a b old p (omega arith))
+
+past-end : (xs : List ℕ) (p : ℕ) → drop (length xs - p) (drop p xs) ≡ []
+past-end xs p = let short : length (drop p xs) ≤ length xs - p = simp length-drop (omega arith) in drop-of-length-le (drop p xs) short
+
+-- `&mut out[p..]` was lent with `out` at xs, and came back at ys
+pub put-is : (src xs ys : List ℕ) (at p : ℕ) → p ≡ min at (length xs) → ys ≡ fill src (take (length xs - p) (drop p xs)) → putMid p (length xs - p) xs ys ≡ puts at src xs
+unfolding puts
+put-is src xs ys at p ep ey = rw (past-end xs p, append-nil, ey, rest xs p, ep)
+
+-- behind what was written before
+pub put-then : (a b old xs new : List ℕ) (n : ℕ) → xs ≡ fill a old → length a ≡ n → new ≡ puts n b xs → new ≡ fill (a ++ b) old
+put-then a b old xs new n ex el en =
+    let p = min n (length xs) in
+    let ys = fill b (take (length xs - p) (drop p xs)) in
+    en ∙ sym (put-is b xs ys n p refl refl) ∙ fill-then a b old xs ys n p ex el refl refl
 
 pub then-length : (p : ℕ) (xs ys : List ℕ) → length ys ≡ length (take (length xs - p) (drop p xs)) → length (putMid p (length xs - p) xs ys) ≡ length xs
 then-length p xs ys e = same-len-mid p (length xs - p) xs ys e

@@ -24,13 +24,13 @@ use Rattle.order.specs.Inferred.{valueConformsTo}
 use Rattle.retrieval.specs.Retrieve.{mapped, both, copied, retrieve-leaf, by-range, by-function, by-any, by-list, by-context, kept, retrieve, retrieve-items, retrieve-entries}
 
 -- ---- what was retrieved is no longer and no deeper, with as many items, and at most as many entries
-none-some : {X : Type 0} {x : X} → none ≡ some x → ⊥
+pub none-some : {X : Type 0} {x : X} → none ≡ some x → ⊥
 none-some e = let z : _≡_ {A = ℕ} 0 1 = cc in omega arith
 
-some-same : {X : Type 0} {x y : X} → some x ≡ some y → x ≡ y
+pub some-same : {X : Type 0} {x y : X} → some x ≡ some y → x ≡ y
 some-same e = cc
 
-mapped-is : {X Y : Type 0} (f : X → Y) (o : Option X) (y : Y) → mapped f o ≡ some y → (x : X) × (o ≡ some x) × (y ≡ f x)
+pub mapped-is : {X Y : Type 0} (f : X → Y) (o : Option X) (y : Y) → mapped f o ≡ some y → (x : X) × (o ≡ some x) × (y ≡ f x)
 mapped-is f none y e = absurd (none-some e)
 mapped-is f (some x) y e = (x, refl, sym (some-same e))
 

@@ -3,9 +3,9 @@
 use mathlib.Core.Path.{_≡_}
 use mathlib.Core.Bool.{Bool, true, false, _&&_, _||_}
 use mathlib.Core.Option.{Option, none, some}
-use mathlib.Core.List.{List}
-use Prim.Native.Nat.{ℕ, _-_}
-use lib.ListN.{length, take}
+use mathlib.Core.List.{List, _++_}
+use Prim.Native.Nat.{ℕ, _-_, min}
+use lib.ListN.{length, take, drop}
 use lib.Dec.{leb, eqb}
 use Rattle.form.specs.Trees.{Ty, Val}
 use Rattle.form.specs.Form.{Bytes, encV}
@@ -20,6 +20,10 @@ use Rattle.retrieval.specs.declared.Retrieved.the-variants.{Yes, No}
 -- as much of `bs` as has room, over the front of `old`
 unfoldable pub fill : List ℕ → List ℕ → List ℕ
 fill bs old = onto (take (length old) bs) old
+
+-- `src` from `at` on, as much as has room
+unfoldable pub puts : ℕ → List ℕ → List ℕ → List ℕ
+puts at src old = take (min at (length old)) old ++ fill src (drop (min at (length old)) old)
 
 -- whether a type with command d copies a value with command c: Any, and the outer kind of leaves, ranges and functions
 abbrev pub outerKind : ℕ → ℕ → Bool

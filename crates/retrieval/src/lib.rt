@@ -1,13 +1,13 @@
 // Retrieval by a type over the byte form: `get_value_checked` and `get_conformant_value` of types.rs.
 ghost use mathlib.Core.Path.{_≡_};
 ghost use mathlib.Core.Bool.{Bool, true, false, _&&_, _||_};
-ghost use Prim.Native.Nat.{ℕ, _+_, _<_, _≤_, min};
+ghost use Prim.Native.Nat.{ℕ, _+_, _<_, _≤_, _^_, min};
 ghost use lib.ListN.{length, getD};
 ghost use Rattle.form.specs.Answers.{onto, Built};
 ghost use Rattle.form.specs.Outcome.{fits};
 ghost use Rattle.types.specs.At.{typeAt, Ok};
 ghost use Rattle.values.specs.At.{valueAt};
-ghost use Rattle.retrieval.specs.Filling.{fill, Retrieves, outerKind, Accepted};
+ghost use Rattle.retrieval.specs.Filling.{fill, puts, Retrieves, outerKind, Accepted};
 ghost use Rattle.retrieval.specs.Calls.{getValueCheckedCall, getConformantValueCall};
 use form::Checked;
 use form::NAME_WIDTH;
@@ -24,18 +24,29 @@ pub enum Retrieved {
 
 // ---- small helpers
 
-fn smaller(a: usize, b: usize) -> usize
+pub fn smaller(a: usize, b: usize) -> usize
     ensures { λ r. ⌜ r ≡ min a b ⌝ }
 {
     if a < b { a } else { b }
 }
 
 // As much of `src` as has room, over the front of the output.
-fn fill(src: &[u8], out: &mut [u8])
+pub fn fill(src: &[u8], out: &mut [u8])
     ensures { λ _. ⌜ now (out .exit) ≡ fill (now (src .entry)) (now (out .entry)) ⌝ }
 {
     let n = smaller(src.len(), out.len());
     bounds::copy(&src[..n], out);
+}
+
+// `src` over the output from `at` on, as much as has room; answers where it ends.
+pub fn put(src: &[u8], out: &mut [u8], at: usize) -> usize
+    requires { ⌜ at + length (now src) < 2 ^ 64 ⌝ }
+    ensures { λ r. ⌜ r ≡ at + length (now (src .entry)) ⌝ }
+    ensures { λ r. ⌜ now (out .exit) ≡ puts at (now (src .entry)) (now (out .entry)) ⌝ }
+{
+    let p = smaller(at, out.len());
+    fill(src, &mut out[p..]);
+    at + src.len()
 }
 
 // Whether a type with command d copies a value with command c: Any, and the outer kind of leaves, ranges and functions.

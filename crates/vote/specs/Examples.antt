@@ -20,6 +20,9 @@ use Rattle.infer.specs.Calls.{leastTypeCall, typeOfCall}
 use Rattle.retrieval.specs.Retrieve.{retrieve}
 use Rattle.retrieval.specs.Calls.{getValueCheckedCall}
 use Rattle.coercion.specs.Calls.{coercedCall}
+use Rattle.paths.specs.Paths.{value-of}
+use Rattle.updates.specs.Update.{insert, create, apply}
+use Rattle.context.specs.Calls.{givenOf, createEntriesCall, applyEntriesCall}
 
 -- a row: bytes, a verdict or a level that a call gives, or its refusal
 data Row : Type 0 where
@@ -27,12 +30,14 @@ data Row : Type 0 where
   verdict-is : Outcome Bool → Bool → Row
   level-is : Outcome ℕ → ℕ → Row
   refused-by : Outcome ℕ → ℕ → Row
+  build-refused-by : Outcome (List ℕ) → ℕ → Row
 
 Holds : Row → Type 0
 Holds (bytes-are o bs) = o ≡ done bs
 Holds (verdict-is o b) = o ≡ done b
 Holds (level-is o n) = o ≡ done n
 Holds (refused-by o n) = o ≡ refused n
+Holds (build-refused-by o n) = o ≡ refused n
 
 All : List Row → Type 0
 All [] = Unit {0}
@@ -116,6 +121,9 @@ table =
     -- 11. {} against context<1: number>, and retrieved by it
     ∷ verdict-is (values.isConformant (0x0B ∷ 0 ∷ 0 ∷ []) (0x2C ∷ 1 ∷ 0 ∷ 1 ∷ 0 ∷ 0x22 ∷ [])) false
     ∷ bytes-are (getValueCheckedCall (0x2C ∷ 1 ∷ 0 ∷ 1 ∷ 0 ∷ 0x22 ∷ []) (0x0B ∷ 0 ∷ 0 ∷ []) 16) (0x0B ∷ 0 ∷ 0 ∷ [])
+    -- 12. {1: true}, path 1 2
+    ∷ bytes-are (createEntriesCall (0x0B ∷ 1 ∷ 0 ∷ 1 ∷ 0 ∷ yes) (1 ∷ 2 ∷ []) one 32) (0x0B ∷ 1 ∷ 0 ∷ 1 ∷ 0 ∷ 0x0B ∷ 1 ∷ 0 ∷ 2 ∷ 0 ∷ one)
+    ∷ build-refused-by (applyEntriesCall (0x0B ∷ 1 ∷ 0 ∷ 1 ∷ 0 ∷ yes) (1 ∷ 2 ∷ []) one 32) 16
     -- a list at level 31 is read, at 32 refused 4
     ∷ level-is (checkValue (nested 30)) 31
     ∷ refused-by (checkValue (nested 31)) 4
@@ -125,5 +133,5 @@ table =
     ∷ []
 
 examples : All table
-unfolding Holds All one null yes pair full part inferred least-of nested times longest table bytes num countFields countTys enc level levelV kindOf front andThen orElse operand readRun named readNamed readFlag readKey counted readFunction readRange signature readDefinition stepType stepT readT stepValue stepV readV numberOf all readWhole checkValue cmp reduce bound look place same-count all-fields eqTy least is-data conforms typeOf types.isConformant leastTypeCall typeOfCall values.isConformant getValueCheckedCall coercedCall retrieve encV encLeaf countVals countEntries _>>=_ _>>_
-examples = (refl, (refl, (refl, (refl, (refl, (refl, (refl, (refl, (refl, (refl, (refl, (refl, (refl, (refl, (refl, (refl, (refl, (refl, (refl, (refl, (refl, (refl, (refl, (refl, (refl, tt)))))))))))))))))))))))))
+unfolding Holds All one null yes pair full part inferred least-of nested times longest table bytes num countFields countTys enc level levelV kindOf front andThen orElse operand readRun named readNamed readFlag readKey counted readFunction readRange signature readDefinition stepType stepT readT stepValue stepV readV numberOf all readWhole checkValue cmp reduce bound look place same-count all-fields eqTy least is-data conforms typeOf types.isConformant leastTypeCall typeOfCall values.isConformant getValueCheckedCall coercedCall retrieve encV encLeaf countVals countEntries givenOf value-of insert create apply _>>=_ _>>_
+examples = (refl, (refl, (refl, (refl, (refl, (refl, (refl, (refl, (refl, (refl, (refl, (refl, (refl, (refl, (refl, (refl, (refl, (refl, (refl, (refl, (refl, (refl, (refl, (refl, (refl, (refl, (refl, tt)))))))))))))))))))))))))))

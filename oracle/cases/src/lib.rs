@@ -2,10 +2,12 @@
 //! of level and length, random well-formed records, and damaged copies. For the calls over two
 //! types: all short types, types near each other, and pairs at the limits. For the calls over
 //! values: all values with few nodes, values near each other, function definitions beside function
-//! types, data at the limits. Nothing here reads or writes by the code of `feel-form`, so that a
-//! fault there does not shape the cases.
+//! types, data at the limits. For the calls over contexts: contexts inside each other, and paths.
+//! Nothing here reads or writes by the code of `feel-form`, so that a fault there does not shape the
+//! cases.
 
 mod chains;
+mod contexts;
 mod damage;
 mod definitions;
 mod draft;
@@ -23,6 +25,7 @@ pub use chains::{
     DATA_IN_DATA, Ending, TYPE_IN_TYPE, TYPE_IN_VALUE, VALUE_IN_VALUE, Wrapper, chain, each_chain,
     each_data_chain,
 };
+pub use contexts::{context_chain, filled_list, random_context, random_path};
 pub use damage::each_damage;
 pub use definitions::each_definition;
 pub use draft::{Draft, random_draft};

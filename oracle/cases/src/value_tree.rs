@@ -383,7 +383,7 @@ fn leaf(parts: Parts, random: &mut Random) -> ValueTree {
 }
 
 /// Strictly ascending names, close to each other: from 0 on, or across the change of the high byte.
-fn names(count: usize, random: &mut Random) -> Vec<u16> {
+pub(crate) fn names(count: usize, random: &mut Random) -> Vec<u16> {
     let mut next = random.pick(&[0, 0, 0, 0x00FC]);
     let mut names = vec![];
     for _ in 0..count {

@@ -16,6 +16,10 @@ impl Answer {
         Answer((1 << 32) | u64::from(number))
     }
 
+    pub fn none() -> Self {
+        Answer(2 << 32)
+    }
+
     pub fn high(self) -> u32 {
         (self.0 >> 32) as u32
     }

@@ -20,7 +20,8 @@ pub struct Options {
     pub seed: u64,
 }
 
-/// The arguments of one case, and the sizes of the buffers lent with them.
+/// The arguments of one case, and the sizes of the buffers lent with them. A name has two bytes, a
+/// path two for each name, little endian.
 #[derive(Debug, Clone, Copy, Default)]
 pub struct Case<'a> {
     pub args: &'a [&'a [u8]],
@@ -70,6 +71,10 @@ pub enum Gives {
     YesOrNo,
     /// The length written; the checks are of theorems.
     Length,
+    /// How many there are; the checks are of theorems.
+    Count,
+    /// The place and the length of a part, or none; the checks are of theorems.
+    Part,
 }
 
 /// A call: its name, its cases, and the two sides to be compared.

@@ -2,10 +2,14 @@
 
 use crate::answer::Answer;
 use crate::call::{Call, Gives};
-use crate::lent::Lent;
+use crate::lent::{Buffer, Lent};
 use crate::library::{
-    feel_bif_feel_type, feel_check_type, feel_check_value, feel_interval_closed,
-    feel_interval_opened, feel_interval_undefined, feel_type_common_subtype,
+    feel_bif_feel_type, feel_check_type, feel_check_value, feel_context_apply_entries,
+    feel_context_contains_deep, feel_context_contains_entry, feel_context_create_entries,
+    feel_context_get_entry, feel_context_get_first, feel_context_is_context, feel_context_is_empty,
+    feel_context_len, feel_context_move_entry, feel_context_overwrite, feel_context_remove_entry,
+    feel_context_search_deep, feel_context_set_entry, feel_context_set_null, feel_context_zip,
+    feel_interval_closed, feel_interval_opened, feel_interval_undefined, feel_type_common_subtype,
     feel_type_common_supertype, feel_type_get_conformant_value, feel_type_get_value_checked,
     feel_type_instance_of, feel_type_is_conformant, feel_type_is_null,
     feel_type_is_simple_built_in_type, feel_type_reduced, feel_value_coerced,
@@ -14,15 +18,20 @@ use crate::library::{
     feel_value_is_string, feel_value_is_true, feel_value_is_valid_range, feel_value_least_type,
     feel_value_type_of,
 };
-use crate::{coercion_cases, records, type_answers, type_cases, value_answers, value_cases};
+use crate::{
+    coercion_cases, context_answers, context_cases, context_theorems, records, type_answers,
+    type_cases, value_answers, value_cases,
+};
 use feel_cases::{Kind, Parts};
 use feel_form::{calls, read_type, read_value, write_type, write_value};
 
 const OF_A_VALUE: &[u8] = &[1, 2, 3, 4, 5];
 
+const OF_A_CONTEXT: &[u8] = &[1, 2, 3, 4, 5, 12];
+
 const OF_A_TYPE: &[u8] = &[6, 7, 8, 9, 10];
 
-pub const CALLS: [Call; 28] = [
+pub const CALLS: [Call; 44] = [
     Call {
         name: "check_value",
         gives: Gives::Level,
@@ -259,6 +268,182 @@ pub const CALLS: [Call; 28] = [
         expected: value_answers::bif_feel_type,
         actual: |lent| one_byte_and_output(lent, feel_bif_feel_type),
     },
+    Call {
+        name: "context_get_entry",
+        gives: Gives::Part,
+        refusals: OF_A_CONTEXT,
+        generate: |options, each| context_cases::asked(context_cases::with_name, options, each),
+        expected: context_answers::get_entry,
+        actual: |lent| record_and_name(lent, feel_context_get_entry),
+    },
+    Call {
+        name: "context_search_deep",
+        gives: Gives::Part,
+        refusals: &[1, 2, 3, 4, 5, 11, 12],
+        generate: |options, each| context_cases::asked(context_cases::with_path, options, each),
+        expected: context_answers::search_deep,
+        actual: |lent| record_and_path(lent, feel_context_search_deep),
+    },
+    Call {
+        name: "context_get_first",
+        gives: Gives::Part,
+        refusals: OF_A_CONTEXT,
+        generate: |options, each| context_cases::asked(context_cases::alone, options, each),
+        expected: context_answers::get_first,
+        actual: |lent| one_record(lent, feel_context_get_first),
+    },
+    Call {
+        name: "context_contains_entry",
+        gives: Gives::YesOrNo,
+        refusals: OF_A_CONTEXT,
+        generate: |options, each| context_cases::asked(context_cases::with_name, options, each),
+        expected: context_answers::contains_entry,
+        actual: |lent| record_and_name(lent, feel_context_contains_entry),
+    },
+    Call {
+        name: "context_contains_deep",
+        gives: Gives::YesOrNo,
+        refusals: &[1, 2, 3, 4, 5, 11, 12],
+        generate: |options, each| context_cases::asked(context_cases::with_path, options, each),
+        expected: context_answers::contains_deep,
+        actual: |lent| record_and_path(lent, feel_context_contains_deep),
+    },
+    Call {
+        name: "context_is_context",
+        gives: Gives::YesOrNo,
+        refusals: OF_A_CONTEXT,
+        generate: |options, each| context_cases::asked(context_cases::with_name, options, each),
+        expected: context_answers::is_context,
+        actual: |lent| record_and_name(lent, feel_context_is_context),
+    },
+    Call {
+        name: "context_is_empty",
+        gives: Gives::YesOrNo,
+        refusals: OF_A_CONTEXT,
+        generate: |options, each| context_cases::asked(context_cases::alone, options, each),
+        expected: context_answers::is_empty,
+        actual: |lent| one_record(lent, feel_context_is_empty),
+    },
+    Call {
+        name: "context_len",
+        gives: Gives::Count,
+        refusals: OF_A_CONTEXT,
+        generate: |options, each| context_cases::asked(context_cases::alone, options, each),
+        expected: context_answers::len,
+        actual: |lent| one_record(lent, feel_context_len),
+    },
+    Call {
+        name: "context_create_entries",
+        gives: Gives::Length,
+        refusals: &[1, 2, 3, 4, 5, 11, 12, 17, 18],
+        generate: |options, each| {
+            let call = context_answers::create_entries;
+            context_cases::built(context_cases::with_path_and_value, call, options, each)
+        },
+        expected: |case| {
+            let theorems = context_theorems::of_create;
+            context_answers::updated(case, context_answers::create_entries, theorems)
+        },
+        actual: |lent| path_value_and_output(lent, feel_context_create_entries),
+    },
+    Call {
+        name: "context_apply_entries",
+        gives: Gives::Length,
+        refusals: &[1, 2, 3, 4, 5, 11, 12, 16, 17, 18],
+        generate: |options, each| {
+            let call = context_answers::apply_entries;
+            context_cases::built(context_cases::with_path_and_value, call, options, each)
+        },
+        expected: |case| {
+            let theorems = context_theorems::of_apply;
+            context_answers::updated(case, context_answers::apply_entries, theorems)
+        },
+        actual: |lent| path_value_and_output(lent, feel_context_apply_entries),
+    },
+    Call {
+        name: "context_zip",
+        gives: Gives::Length,
+        refusals: &[1, 2, 3, 4, 5, 12, 17, 18],
+        generate: |options, each| {
+            let call = context_answers::zip;
+            context_cases::built(context_cases::with_other, call, options, each)
+        },
+        expected: |case| {
+            let theorems = context_theorems::of_zip;
+            context_answers::updated(case, context_answers::zip, theorems)
+        },
+        actual: |lent| two_records_and_output(lent, feel_context_zip),
+    },
+    Call {
+        name: "context_overwrite",
+        gives: Gives::Length,
+        refusals: &[1, 2, 3, 4, 5, 12, 17, 18],
+        generate: |options, each| {
+            let call = context_answers::overwrite;
+            context_cases::built(context_cases::with_other, call, options, each)
+        },
+        expected: |case| {
+            let theorems = context_theorems::of_overwrite;
+            context_answers::updated(case, context_answers::overwrite, theorems)
+        },
+        actual: |lent| two_records_and_output(lent, feel_context_overwrite),
+    },
+    Call {
+        name: "context_move_entry",
+        gives: Gives::Length,
+        refusals: &[1, 2, 3, 4, 5, 12, 17, 18],
+        generate: |options, each| {
+            let call = context_answers::move_entry;
+            context_cases::built(context_cases::with_two_names, call, options, each)
+        },
+        expected: |case| {
+            let theorems = context_theorems::of_move;
+            context_answers::updated(case, context_answers::move_entry, theorems)
+        },
+        actual: |lent| two_names_and_output(lent, feel_context_move_entry),
+    },
+    Call {
+        name: "context_set_entry",
+        gives: Gives::Length,
+        refusals: &[1, 2, 3, 4, 5, 12, 17, 18],
+        generate: |options, each| {
+            let call = context_answers::set_entry;
+            context_cases::built(context_cases::with_name_and_value, call, options, each)
+        },
+        expected: |case| {
+            let theorems = context_theorems::of_set;
+            context_answers::updated(case, context_answers::set_entry, theorems)
+        },
+        actual: |lent| name_value_and_output(lent, feel_context_set_entry),
+    },
+    Call {
+        name: "context_remove_entry",
+        gives: Gives::Length,
+        refusals: &[1, 2, 3, 4, 5, 12, 18],
+        generate: |options, each| {
+            let call = context_answers::remove_entry;
+            context_cases::built(context_cases::with_name, call, options, each)
+        },
+        expected: |case| {
+            let theorems = context_theorems::of_remove;
+            context_answers::updated(case, context_answers::remove_entry, theorems)
+        },
+        actual: |lent| name_and_output(lent, feel_context_remove_entry),
+    },
+    Call {
+        name: "context_set_null",
+        gives: Gives::Length,
+        refusals: &[1, 2, 3, 4, 5, 12, 17, 18],
+        generate: |options, each| {
+            let call = context_answers::set_null;
+            context_cases::built(context_cases::with_name, call, options, each)
+        },
+        expected: |case| {
+            let theorems = context_theorems::of_set_null;
+            context_answers::updated(case, context_answers::set_null, theorems)
+        },
+        actual: |lent| name_and_output(lent, feel_context_set_null),
+    },
 ];
 
 /// A C function over one record.
@@ -287,6 +472,34 @@ type OneByte = unsafe extern "C" fn(u8) -> u64;
 
 /// A C function over one byte, with an output.
 type OneByteAndOutput = unsafe extern "C" fn(u8, *mut u8, usize) -> u64;
+
+/// A C function over a context and a name.
+type RecordAndName = unsafe extern "C" fn(*const u8, usize, u16) -> u64;
+
+/// A C function over a context and a path.
+type RecordAndPath = unsafe extern "C" fn(*const u8, usize, *const u16, usize) -> u64;
+
+/// A C function over a context, a path and a value, with an output.
+type PathValueAndOutput = unsafe extern "C" fn(
+    *const u8,
+    usize,
+    *const u16,
+    usize,
+    *const u8,
+    usize,
+    *mut u8,
+    usize,
+) -> u64;
+
+/// A C function over a context and two names, with an output.
+type TwoNamesAndOutput = unsafe extern "C" fn(*const u8, usize, u16, u16, *mut u8, usize) -> u64;
+
+/// A C function over a context, a name and a value, with an output.
+type NameValueAndOutput =
+    unsafe extern "C" fn(*const u8, usize, u16, *const u8, usize, *mut u8, usize) -> u64;
+
+/// A C function over a context and a name, with an output.
+type NameAndOutput = unsafe extern "C" fn(*const u8, usize, u16, *mut u8, usize) -> u64;
 
 // In each of the following the pointer and the length of an argument are those of one buffer, which
 // lives through the call.
@@ -371,4 +584,93 @@ fn one_byte_and_output(lent: &mut Lent, function: OneByteAndOutput) -> Answer {
     let output = &mut lent.output;
     // SAFETY: as said above.
     Answer(unsafe { function(byte, output.as_mut_ptr(), output.len()) })
+}
+
+/// The name that an argument spells.
+fn name(arg: &Buffer) -> u16 {
+    context_answers::name(arg.contents())
+}
+
+fn record_and_name(lent: &mut Lent, function: RecordAndName) -> Answer {
+    let [c, n] = [&lent.args[0], &lent.args[1]];
+    // SAFETY: as said above.
+    Answer(unsafe { function(c.as_ptr(), c.len(), name(n)) })
+}
+
+fn record_and_path(lent: &mut Lent, function: RecordAndPath) -> Answer {
+    let (c, rest) = lent.args.split_at_mut(1);
+    // SAFETY: as said above; the names of the path are lent for the call.
+    rest[0].lend_words(|path, path_len| {
+        Answer(unsafe { function(c[0].as_ptr(), c[0].len(), path, path_len) })
+    })
+}
+
+fn path_value_and_output(lent: &mut Lent, function: PathValueAndOutput) -> Answer {
+    let (c, rest) = lent.args.split_at_mut(1);
+    let (path, v) = rest.split_at_mut(1);
+    let output = &mut lent.output;
+    // SAFETY: as said above; the names of the path are lent for the call, and the output is a buffer
+    // of its own.
+    path[0].lend_words(|path, path_len| {
+        Answer(unsafe {
+            function(
+                c[0].as_ptr(),
+                c[0].len(),
+                path,
+                path_len,
+                v[0].as_ptr(),
+                v[0].len(),
+                output.as_mut_ptr(),
+                output.len(),
+            )
+        })
+    })
+}
+
+fn two_names_and_output(lent: &mut Lent, function: TwoNamesAndOutput) -> Answer {
+    let [c, n, parent] = [&lent.args[0], &lent.args[1], &lent.args[2]];
+    let output = &mut lent.output;
+    // SAFETY: as said above; the output is a buffer of its own.
+    Answer(unsafe {
+        function(
+            c.as_ptr(),
+            c.len(),
+            name(n),
+            name(parent),
+            output.as_mut_ptr(),
+            output.len(),
+        )
+    })
+}
+
+fn name_value_and_output(lent: &mut Lent, function: NameValueAndOutput) -> Answer {
+    let [c, n, v] = [&lent.args[0], &lent.args[1], &lent.args[2]];
+    let output = &mut lent.output;
+    // SAFETY: as said above; the output is a buffer of its own.
+    Answer(unsafe {
+        function(
+            c.as_ptr(),
+            c.len(),
+            name(n),
+            v.as_ptr(),
+            v.len(),
+            output.as_mut_ptr(),
+            output.len(),
+        )
+    })
+}
+
+fn name_and_output(lent: &mut Lent, function: NameAndOutput) -> Answer {
+    let [c, n] = [&lent.args[0], &lent.args[1]];
+    let output = &mut lent.output;
+    // SAFETY: as said above; the output is a buffer of its own.
+    Answer(unsafe {
+        function(
+            c.as_ptr(),
+            c.len(),
+            name(n),
+            output.as_mut_ptr(),
+            output.len(),
+        )
+    })
 }

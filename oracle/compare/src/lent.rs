@@ -45,6 +45,19 @@ impl Buffer {
         &self.bytes[GUARD..self.bytes.len() - GUARD]
     }
 
+    /// Lends the contents as 16-bit words to the function, between the same guards; what stands
+    /// there afterwards, also beside them, is what stands in this buffer.
+    pub fn lend_words<T>(&mut self, function: impl FnOnce(*const u16, usize) -> T) -> T {
+        let two = |bytes: &[u8]| u16::from_le_bytes([bytes[0], bytes[1]]);
+        let mut words: Vec<u16> = self.bytes.chunks_exact(2).map(two).collect();
+        assert!(self.bytes.len().is_multiple_of(2), "a word has two bytes");
+        let answer = function(words[GUARD / 2..].as_mut_ptr(), self.len() / 2);
+        self.bytes.clear();
+        let bytes = words.iter().flat_map(|word| word.to_le_bytes());
+        self.bytes.extend(bytes);
+        answer
+    }
+
     fn guards_stand(&self) -> bool {
         let (front, rest) = self.bytes.split_at(GUARD);
         let back = &rest[rest.len() - GUARD..];
@@ -93,6 +106,41 @@ impl Lent {
         match self.output.contents().split_at_checked(written.len()) {
             Some((front, rest)) if front == written && holds_filler(rest, written.len()) => None,
             _ => Some("the output differs"),
+        }
+    }
+}
+
+#[cfg(test)]
+mod tests {
+    use super::*;
+
+    /// What is seen where a word at this place, counted from the start of a path, is written.
+    fn fault_of_write(place: Option<isize>) -> Option<&'static str> {
+        let case = Case {
+            args: &[&[0x0F], &[1, 0, 2, 1]],
+            ..Case::default()
+        };
+        let mut lent = Lent::default();
+        lent.fill(case);
+        lent.args[1].lend_words(|path, path_len| {
+            assert_eq!(path_len, 2);
+            assert_eq!(unsafe { [path.read(), path.add(1).read()] }, [1, 0x0102]);
+            if let Some(place) = place {
+                unsafe { path.offset(place).cast_mut().write(0) };
+            }
+        });
+        lent.fault(case, &[])
+    }
+
+    #[test]
+    fn a_path_is_lent_as_words() {
+        assert_eq!(fault_of_write(None), None);
+        assert_eq!(fault_of_write(Some(1)), Some("an argument was changed"));
+        for beside in [-1, 2] {
+            assert_eq!(
+                fault_of_write(Some(beside)),
+                Some("a byte beside a buffer was changed")
+            );
         }
     }
 }

@@ -2,8 +2,12 @@
 
 #[cfg(feature = "self-check")]
 pub use crate::twin::{
-    feel_bif_feel_type, feel_check_type, feel_check_value, feel_interval_closed,
-    feel_interval_opened, feel_interval_undefined, feel_type_common_subtype,
+    feel_bif_feel_type, feel_check_type, feel_check_value, feel_context_apply_entries,
+    feel_context_contains_deep, feel_context_contains_entry, feel_context_create_entries,
+    feel_context_get_entry, feel_context_get_first, feel_context_is_context, feel_context_is_empty,
+    feel_context_len, feel_context_move_entry, feel_context_overwrite, feel_context_remove_entry,
+    feel_context_search_deep, feel_context_set_entry, feel_context_set_null, feel_context_zip,
+    feel_interval_closed, feel_interval_opened, feel_interval_undefined, feel_type_common_subtype,
     feel_type_common_supertype, feel_type_get_conformant_value, feel_type_get_value_checked,
     feel_type_instance_of, feel_type_is_conformant, feel_type_is_null,
     feel_type_is_simple_built_in_type, feel_type_reduced, feel_value_coerced,
@@ -103,4 +107,89 @@ unsafe extern "C" {
     pub fn feel_interval_closed(i: u8) -> u64;
     pub fn feel_interval_undefined(i: u8) -> u64;
     pub fn feel_bif_feel_type(b: u8, out: *mut u8, out_len: usize) -> u64;
+    pub fn feel_context_get_entry(c: *const u8, c_len: usize, name: u16) -> u64;
+    pub fn feel_context_search_deep(
+        c: *const u8,
+        c_len: usize,
+        path: *const u16,
+        path_len: usize,
+    ) -> u64;
+    pub fn feel_context_get_first(c: *const u8, c_len: usize) -> u64;
+    pub fn feel_context_contains_entry(c: *const u8, c_len: usize, name: u16) -> u64;
+    pub fn feel_context_contains_deep(
+        c: *const u8,
+        c_len: usize,
+        path: *const u16,
+        path_len: usize,
+    ) -> u64;
+    pub fn feel_context_is_context(c: *const u8, c_len: usize, name: u16) -> u64;
+    pub fn feel_context_is_empty(c: *const u8, c_len: usize) -> u64;
+    pub fn feel_context_len(c: *const u8, c_len: usize) -> u64;
+    pub fn feel_context_create_entries(
+        c: *const u8,
+        c_len: usize,
+        path: *const u16,
+        path_len: usize,
+        v: *const u8,
+        v_len: usize,
+        out: *mut u8,
+        out_len: usize,
+    ) -> u64;
+    pub fn feel_context_apply_entries(
+        c: *const u8,
+        c_len: usize,
+        path: *const u16,
+        path_len: usize,
+        v: *const u8,
+        v_len: usize,
+        out: *mut u8,
+        out_len: usize,
+    ) -> u64;
+    pub fn feel_context_zip(
+        c: *const u8,
+        c_len: usize,
+        other: *const u8,
+        other_len: usize,
+        out: *mut u8,
+        out_len: usize,
+    ) -> u64;
+    pub fn feel_context_overwrite(
+        c: *const u8,
+        c_len: usize,
+        other: *const u8,
+        other_len: usize,
+        out: *mut u8,
+        out_len: usize,
+    ) -> u64;
+    pub fn feel_context_move_entry(
+        c: *const u8,
+        c_len: usize,
+        name: u16,
+        parent: u16,
+        out: *mut u8,
+        out_len: usize,
+    ) -> u64;
+    pub fn feel_context_set_entry(
+        c: *const u8,
+        c_len: usize,
+        name: u16,
+        v: *const u8,
+        v_len: usize,
+        out: *mut u8,
+        out_len: usize,
+    ) -> u64;
+    pub fn feel_context_remove_entry(
+        c: *const u8,
+        c_len: usize,
+        name: u16,
+        out: *mut u8,
+        out_len: usize,
+    ) -> u64;
+    pub fn feel_context_set_null(
+        c: *const u8,
+        c_len: usize,
+        name: u16,
+        out: *mut u8,
+        out_len: usize,
+    ) -> u64;
 }

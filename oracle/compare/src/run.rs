@@ -122,7 +122,7 @@ impl fmt::Display for Tally {
         }
         let checked = match self.gives {
             Gives::Level => "written back",
-            Gives::YesOrNo | Gives::Length => "checks of theorems",
+            Gives::YesOrNo | Gives::Length | Gives::Count | Gives::Part => "checks of theorems",
         };
         if self.checks > 0 {
             write!(f, ", {} {checked}", self.checks)?;

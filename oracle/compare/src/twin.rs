@@ -3,6 +3,7 @@
 
 mod bounds;
 mod conformance;
+mod contexts;
 mod parts;
 mod read;
 mod retrieval;
@@ -109,6 +110,69 @@ fn coerce(v: &[u8], t: &[u8], out: &mut [u8]) -> Judged {
         Coerced::InList => deliver(&[&[0x0A, 1, 0], v].concat(), out),
         Coerced::Failed => deliver(&[0x00, 1], out),
     }
+}
+
+/// Refuses a value that is no context.
+fn want_context(v: &[u8]) -> Judged {
+    if v[0] == 0x0B { Ok(0) } else { Err(12) }
+}
+
+fn of_context(c: &[u8], decide: impl FnOnce() -> u64) -> u64 {
+    answer(
+        read_value(c)
+            .and_then(|_| want_context(c))
+            .map(|_| decide()),
+    )
+}
+
+/// Refuses a path that is too long.
+fn count_names(path: &[u16]) -> Judged {
+    if path.len() < 32 { Ok(0) } else { Err(11) }
+}
+
+fn of_context_and_path(c: &[u8], path: &[u16], decide: impl FnOnce() -> u64) -> u64 {
+    let judged = read_value(c).and_then(|_| count_names(path));
+    answer(judged.and_then(|_| want_context(c)).map(|_| decide()))
+}
+
+/// The number of a part, or none.
+fn part(found: Option<(usize, usize)>) -> u64 {
+    match found {
+        Some((start, length)) => (start as u64) << 16 | length as u64,
+        None => 2 << 32,
+    }
+}
+
+/// A written value must be one that can be read.
+fn deliver_value(written: &[u8], out: &mut [u8]) -> Judged {
+    read_value(written).map_err(|_| 17u64)?;
+    deliver(written, out)
+}
+
+/// The context with the value at the path.
+fn put_at_path(c: &[u8], path: &[u16], v: &[u8], force: bool, out: &mut [u8]) -> Judged {
+    read_value(c)?;
+    count_names(path)?;
+    read_value(v)?;
+    want_context(c)?;
+    let written = contexts::put(c, path, v, force).ok_or(16u64)?;
+    deliver_value(&written, out)
+}
+
+/// The two contexts as one.
+fn merge(c: &[u8], other: &[u8], all: bool, out: &mut [u8]) -> Judged {
+    read_value(c)?;
+    read_value(other)?;
+    want_context(c)?;
+    want_context(other)?;
+    deliver_value(&contexts::merge(c, other, all), out)
+}
+
+/// The context after an update that needs nothing more to be read.
+fn update(c: &[u8], updated: impl FnOnce() -> Vec<u8>, out: &mut [u8]) -> Judged {
+    read_value(c)?;
+    want_context(c)?;
+    deliver_value(&updated(), out)
 }
 
 /// # Safety
@@ -391,4 +455,208 @@ pub unsafe extern "C" fn feel_bif_feel_type(b: u8, out: *mut u8, out_len: usize)
     } else {
         Err(2)
     })
+}
+
+/// # Safety
+/// `c` points to `c_len` readable bytes.
+pub unsafe extern "C" fn feel_context_get_entry(c: *const u8, c_len: usize, name: u16) -> u64 {
+    let c = unsafe { from_raw_parts(c, c_len) };
+    of_context(c, || part(contexts::search(c, &[name])))
+}
+
+/// # Safety
+/// `c` points to `c_len` readable bytes, `path` to `path_len` readable names.
+pub unsafe extern "C" fn feel_context_search_deep(
+    c: *const u8,
+    c_len: usize,
+    path: *const u16,
+    path_len: usize,
+) -> u64 {
+    let c = unsafe { from_raw_parts(c, c_len) };
+    let path = unsafe { from_raw_parts(path, path_len) };
+    of_context_and_path(c, path, || part(contexts::search(c, path)))
+}
+
+/// # Safety
+/// `c` points to `c_len` readable bytes.
+pub unsafe extern "C" fn feel_context_get_first(c: *const u8, c_len: usize) -> u64 {
+    let c = unsafe { from_raw_parts(c, c_len) };
+    of_context(c, || part(contexts::first(c)))
+}
+
+/// # Safety
+/// `c` points to `c_len` readable bytes.
+pub unsafe extern "C" fn feel_context_contains_entry(c: *const u8, c_len: usize, name: u16) -> u64 {
+    let c = unsafe { from_raw_parts(c, c_len) };
+    of_context(c, || contexts::search(c, &[name]).is_some().into())
+}
+
+/// # Safety
+/// `c` points to `c_len` readable bytes, `path` to `path_len` readable names.
+pub unsafe extern "C" fn feel_context_contains_deep(
+    c: *const u8,
+    c_len: usize,
+    path: *const u16,
+    path_len: usize,
+) -> u64 {
+    let c = unsafe { from_raw_parts(c, c_len) };
+    let path = unsafe { from_raw_parts(path, path_len) };
+    of_context_and_path(c, path, || contexts::search(c, path).is_some().into())
+}
+
+/// # Safety
+/// `c` points to `c_len` readable bytes.
+pub unsafe extern "C" fn feel_context_is_context(c: *const u8, c_len: usize, name: u16) -> u64 {
+    let c = unsafe { from_raw_parts(c, c_len) };
+    of_context(c, || {
+        let found = contexts::search(c, &[name]);
+        found.is_some_and(|(start, _)| c[start] == 0x0B).into()
+    })
+}
+
+/// # Safety
+/// `c` points to `c_len` readable bytes.
+pub unsafe extern "C" fn feel_context_is_empty(c: *const u8, c_len: usize) -> u64 {
+    let c = unsafe { from_raw_parts(c, c_len) };
+    of_context(c, || u64::from(c == [0x0B, 0, 0]))
+}
+
+/// # Safety
+/// `c` points to `c_len` readable bytes.
+pub unsafe extern "C" fn feel_context_len(c: *const u8, c_len: usize) -> u64 {
+    let c = unsafe { from_raw_parts(c, c_len) };
+    of_context(c, || contexts::count(c))
+}
+
+/// # Safety
+/// `c` and `v` point to as many readable bytes as their lengths say, `path` to `path_len` readable
+/// names, `out` to `out_len` writable bytes; `out` overlaps with none of them.
+pub unsafe extern "C" fn feel_context_create_entries(
+    c: *const u8,
+    c_len: usize,
+    path: *const u16,
+    path_len: usize,
+    v: *const u8,
+    v_len: usize,
+    out: *mut u8,
+    out_len: usize,
+) -> u64 {
+    let c = unsafe { from_raw_parts(c, c_len) };
+    let path = unsafe { from_raw_parts(path, path_len) };
+    let v = unsafe { from_raw_parts(v, v_len) };
+    let out = unsafe { from_raw_parts_mut(out, out_len) };
+    answer(put_at_path(c, path, v, true, out))
+}
+
+/// # Safety
+/// As for [feel_context_create_entries].
+pub unsafe extern "C" fn feel_context_apply_entries(
+    c: *const u8,
+    c_len: usize,
+    path: *const u16,
+    path_len: usize,
+    v: *const u8,
+    v_len: usize,
+    out: *mut u8,
+    out_len: usize,
+) -> u64 {
+    let c = unsafe { from_raw_parts(c, c_len) };
+    let path = unsafe { from_raw_parts(path, path_len) };
+    let v = unsafe { from_raw_parts(v, v_len) };
+    let out = unsafe { from_raw_parts_mut(out, out_len) };
+    answer(put_at_path(c, path, v, false, out))
+}
+
+/// # Safety
+/// `c` and `other` point to as many readable bytes as their lengths say, `out` to as many writable
+/// ones; `out` overlaps with neither.
+pub unsafe extern "C" fn feel_context_zip(
+    c: *const u8,
+    c_len: usize,
+    other: *const u8,
+    other_len: usize,
+    out: *mut u8,
+    out_len: usize,
+) -> u64 {
+    let c = unsafe { from_raw_parts(c, c_len) };
+    let other = unsafe { from_raw_parts(other, other_len) };
+    let out = unsafe { from_raw_parts_mut(out, out_len) };
+    answer(merge(c, other, true, out))
+}
+
+/// # Safety
+/// As for [feel_context_zip].
+pub unsafe extern "C" fn feel_context_overwrite(
+    c: *const u8,
+    c_len: usize,
+    other: *const u8,
+    other_len: usize,
+    out: *mut u8,
+    out_len: usize,
+) -> u64 {
+    let c = unsafe { from_raw_parts(c, c_len) };
+    let other = unsafe { from_raw_parts(other, other_len) };
+    let out = unsafe { from_raw_parts_mut(out, out_len) };
+    answer(merge(c, other, false, out))
+}
+
+/// # Safety
+/// `c` points to `c_len` readable bytes, `out` to `out_len` writable ones, and they do not overlap.
+pub unsafe extern "C" fn feel_context_move_entry(
+    c: *const u8,
+    c_len: usize,
+    name: u16,
+    parent: u16,
+    out: *mut u8,
+    out_len: usize,
+) -> u64 {
+    let c = unsafe { from_raw_parts(c, c_len) };
+    let out = unsafe { from_raw_parts_mut(out, out_len) };
+    answer(update(c, || contexts::moved(c, name, parent), out))
+}
+
+/// # Safety
+/// `c` and `v` point to as many readable bytes as their lengths say, `out` to as many writable ones;
+/// `out` overlaps with neither.
+pub unsafe extern "C" fn feel_context_set_entry(
+    c: *const u8,
+    c_len: usize,
+    name: u16,
+    v: *const u8,
+    v_len: usize,
+    out: *mut u8,
+    out_len: usize,
+) -> u64 {
+    let c = unsafe { from_raw_parts(c, c_len) };
+    let v = unsafe { from_raw_parts(v, v_len) };
+    let out = unsafe { from_raw_parts_mut(out, out_len) };
+    answer(put_at_path(c, &[name], v, true, out))
+}
+
+/// # Safety
+/// `c` points to `c_len` readable bytes, `out` to `out_len` writable ones, and they do not overlap.
+pub unsafe extern "C" fn feel_context_remove_entry(
+    c: *const u8,
+    c_len: usize,
+    name: u16,
+    out: *mut u8,
+    out_len: usize,
+) -> u64 {
+    let c = unsafe { from_raw_parts(c, c_len) };
+    let out = unsafe { from_raw_parts_mut(out, out_len) };
+    answer(update(c, || contexts::without(c, name), out))
+}
+
+/// # Safety
+/// `c` points to `c_len` readable bytes, `out` to `out_len` writable ones, and they do not overlap.
+pub unsafe extern "C" fn feel_context_set_null(
+    c: *const u8,
+    c_len: usize,
+    name: u16,
+    out: *mut u8,
+    out_len: usize,
+) -> u64 {
+    let c = unsafe { from_raw_parts(c, c_len) };
+    let out = unsafe { from_raw_parts_mut(out, out_len) };
+    answer(put_at_path(c, &[name], &[0x00, 0], true, out))
 }

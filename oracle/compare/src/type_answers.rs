@@ -92,7 +92,7 @@ pub fn bytes(answer: Result<Vec<u8>, u8>, theorems: impl FnOnce() -> Checks) -> 
     }
 }
 
-fn refused(refusal: u8) -> Expected {
+pub fn refused(refusal: u8) -> Expected {
     Expected {
         answer: Answer::refused(refusal),
         output: vec![],

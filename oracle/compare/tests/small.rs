@@ -1,6 +1,6 @@
 //! Every call agrees with the Rust on few cases, and these give each of its refusals.
 
-use compare::call::Options;
+use compare::call::{Gives, Options};
 use compare::calls::CALLS;
 use compare::run::run;
 
@@ -19,5 +19,6 @@ fn every_call_agrees_on_few_cases() {
         assert_eq!(tally.smallest, None, "{tally}");
         assert!(tally.accepted > 0, "{tally}");
         assert!(tally.refused.values().all(|&count| count > 0), "{tally}");
+        assert_eq!(tally.none > 0, call.gives == Gives::Part, "{tally}");
     }
 }

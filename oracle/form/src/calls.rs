@@ -199,7 +199,7 @@ fn written(answer: &FeelType, room: usize) -> Result<Vec<u8>, u8> {
 }
 
 /// A value must be one that can be read.
-fn written_value(answer: &Value, room: usize) -> Result<Vec<u8>, u8> {
+pub(crate) fn written_value(answer: &Value, room: usize) -> Result<Vec<u8>, u8> {
     let bytes = write_value(answer);
     if bytes.len() > MAX_LENGTH || value_level(answer) > MAX_VALUE_LEVEL {
         return Err(17);

@@ -58,6 +58,17 @@ pub fn read_type(bytes: &[u8]) -> Result<(FeelType, usize), u8> {
     Ok((feel_type, level))
 }
 
+/// How many bytes the value at the front has; it is a part of an accepted value.
+pub(crate) fn value_length(bytes: &[u8]) -> usize {
+    let mut reader = Reader {
+        rest: bytes,
+        refusals: &VALUE_REFUSALS,
+        max_level: MAX_VALUE_LEVEL,
+    };
+    reader.value(1).expect("a part of an accepted value");
+    bytes.len() - reader.rest.len()
+}
+
 /// The interval type of a range's operand.
 pub(crate) fn interval_type(operand: u8) -> Option<IntervalType> {
     match operand {

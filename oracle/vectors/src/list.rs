@@ -1,5 +1,6 @@
 //! The list of cases, in groups, and its text.
 
+use feel_form::contexts::{self, Part};
 use feel_form::{calls, read_type, read_value};
 use std::fmt::{self, Write};
 
@@ -34,6 +35,22 @@ pub enum Call {
     IntervalClosed,
     IntervalUndefined,
     BifFeelType,
+    GetEntry,
+    SearchDeep,
+    GetFirst,
+    ContainsEntry,
+    ContainsDeep,
+    IsContext,
+    IsEmpty,
+    Len,
+    CreateEntries,
+    ApplyEntries,
+    Zip,
+    Overwrite,
+    MoveEntry,
+    SetEntry,
+    RemoveEntry,
+    SetNull,
 }
 
 impl Call {
@@ -67,6 +84,22 @@ impl Call {
             Call::IntervalClosed => "interval_closed",
             Call::IntervalUndefined => "interval_undefined",
             Call::BifFeelType => "bif_feel_type",
+            Call::GetEntry => "context_get_entry",
+            Call::SearchDeep => "context_search_deep",
+            Call::GetFirst => "context_get_first",
+            Call::ContainsEntry => "context_contains_entry",
+            Call::ContainsDeep => "context_contains_deep",
+            Call::IsContext => "context_is_context",
+            Call::IsEmpty => "context_is_empty",
+            Call::Len => "context_len",
+            Call::CreateEntries => "context_create_entries",
+            Call::ApplyEntries => "context_apply_entries",
+            Call::Zip => "context_zip",
+            Call::Overwrite => "context_overwrite",
+            Call::MoveEntry => "context_move_entry",
+            Call::SetEntry => "context_set_entry",
+            Call::RemoveEntry => "context_remove_entry",
+            Call::SetNull => "context_set_null",
         }
     }
 
@@ -114,6 +147,36 @@ impl Call {
             (Call::IntervalClosed, [[i]], []) => number(calls::interval_closed(*i)),
             (Call::IntervalUndefined, [[i]], []) => number(calls::interval_undefined(*i)),
             (Call::BifFeelType, [[b]], [room]) => bytes_or_refusal(calls::bif_feel_type(*b, *room)),
+            (Call::GetEntry, [c, n], []) => part(contexts::get_entry(c, name(n))),
+            (Call::SearchDeep, [c, p], []) => part(contexts::search_deep(c, &path(p))),
+            (Call::GetFirst, [c], []) => part(contexts::get_first(c)),
+            (Call::ContainsEntry, [c, n], []) => number(contexts::contains_entry(c, name(n))),
+            (Call::ContainsDeep, [c, p], []) => number(contexts::contains_deep(c, &path(p))),
+            (Call::IsContext, [c, n], []) => number(contexts::is_context(c, name(n))),
+            (Call::IsEmpty, [c], []) => number(contexts::is_empty(c)),
+            (Call::Len, [c], []) => number(contexts::len(c)),
+            (Call::CreateEntries, [c, p, v], [room]) => {
+                bytes_or_refusal(contexts::create_entries(c, &path(p), v, *room))
+            }
+            (Call::ApplyEntries, [c, p, v], [room]) => {
+                bytes_or_refusal(contexts::apply_entries(c, &path(p), v, *room))
+            }
+            (Call::Zip, [c, other], [room]) => bytes_or_refusal(contexts::zip(c, other, *room)),
+            (Call::Overwrite, [c, other], [room]) => {
+                bytes_or_refusal(contexts::overwrite(c, other, *room))
+            }
+            (Call::MoveEntry, [c, n, parent], [room]) => {
+                bytes_or_refusal(contexts::move_entry(c, name(n), name(parent), *room))
+            }
+            (Call::SetEntry, [c, n, v], [room]) => {
+                bytes_or_refusal(contexts::set_entry(c, name(n), v, *room))
+            }
+            (Call::RemoveEntry, [c, n], [room]) => {
+                bytes_or_refusal(contexts::remove_entry(c, name(n), *room))
+            }
+            (Call::SetNull, [c, n], [room]) => {
+                bytes_or_refusal(contexts::set_null(c, name(n), *room))
+            }
             _ => panic!("no case of {self:?}: {case:?}"),
         }
     }
@@ -122,7 +185,8 @@ impl Call {
 /// What the Rust answers.
 #[derive(Debug, Clone, PartialEq, Eq)]
 pub enum Answer {
-    /// A level, or 0 no and 1 yes.
+    /// A level, a count, or 0 no and 1 yes; of a part its place times 65,536 and its length, or 0 for
+    /// none.
     Number(usize),
     /// The bytes written; the answer is their length.
     Bytes(Vec<u8>),
@@ -131,6 +195,20 @@ pub enum Answer {
 
 fn number(answer: Result<impl Into<usize>, u8>) -> Answer {
     answer.map_or_else(Answer::Refused, |number| Answer::Number(number.into()))
+}
+
+fn part(answer: Result<Option<Part>, u8>) -> Answer {
+    number(answer.map(|part| part.map_or(0, Part::number)))
+}
+
+/// The name that two bytes spell.
+fn name(arg: &[u8]) -> u16 {
+    u16::from_le_bytes(arg.try_into().expect("two bytes"))
+}
+
+/// The names of a path.
+fn path(arg: &[u8]) -> Vec<u16> {
+    arg.chunks(2).map(name).collect()
 }
 
 fn bytes_or_refusal(answer: Result<Vec<u8>, u8>) -> Answer {

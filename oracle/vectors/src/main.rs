@@ -2,6 +2,7 @@
 
 mod bounds;
 mod conformance;
+mod contexts;
 mod inferred;
 mod kinds;
 mod list;
@@ -26,6 +27,7 @@ fn groups() -> Vec<Group> {
         .chain(inferred::groups())
         .chain(retrieval::groups())
         .chain(questions::groups())
+        .chain(contexts::groups())
         .collect()
 }
 
@@ -55,7 +57,7 @@ mod tests {
     #[test]
     fn groups_have_distinct_plain_titles() {
         let groups = groups();
-        assert!((150..=180).contains(&groups.len()), "{}", groups.len());
+        assert!((230..=270).contains(&groups.len()), "{}", groups.len());
         let titles: BTreeSet<&str> = groups.iter().map(|group| &group.title[..]).collect();
         assert_eq!(titles.len(), groups.len());
         for title in titles {
@@ -102,18 +104,23 @@ mod tests {
         let mut rather_long = 0;
         for (call, case, answer) in cases() {
             if call > Call::CheckType {
-                rather_long += case.args.iter().filter(|arg| arg.len() > 400).count();
-                assert!(case.args.iter().all(|arg| arg.len() <= 800));
+                let lengths = || case.args.iter().map(Vec::len);
+                rather_long += lengths()
+                    .filter(|length| (401..=800).contains(length))
+                    .count();
+                let long = lengths().filter(|length| *length > 800).count();
+                assert!(long == 0 || call >= Call::CreateEntries);
                 answers.entry(call).or_default().push(answer);
             }
         }
-        // A function definition with 255 parameters, or nearly 256 items.
-        assert!(rather_long <= 6, "{rather_long}");
-        assert_eq!(answers.len(), 26);
+        // A function definition with 255 parameters, or nearly 256 items, or 256 entries.
+        assert!(rather_long <= 9, "{rather_long}");
+        assert_eq!(answers.len(), 42);
         for (call, answers) in answers {
             let counts = match call {
                 Call::GetValueChecked | Call::GetConformantValue | Call::Coerced => 100..=200,
                 Call::IsInvalidCoercion | Call::IsValidRange => 20..=60,
+                _ if call > Call::BifFeelType => 60..=140,
                 _ if call > Call::IsValidRange => 5..=20,
                 _ if call >= Call::ValueIsConformant => 150..=300,
                 _ => 25..=60,
@@ -129,6 +136,14 @@ mod tests {
                 Call::ValueLeastType => (&[13, 14, 18], 3),
                 Call::GetValueChecked => (&[15, 18], 3),
                 Call::Coerced => (&[17, 18], 3),
+                Call::GetEntry | Call::GetFirst => (&[12], 3),
+                Call::SearchDeep => (&[11, 12], 3),
+                Call::CreateEntries => (&[11, 12, 17, 18], 3),
+                Call::ApplyEntries => (&[11, 12, 16, 17, 18], 3),
+                Call::MoveEntry | Call::SetEntry => (&[12, 17, 18], 3),
+                // Only length leads to 17.
+                Call::Zip | Call::Overwrite | Call::SetNull => (&[12, 17, 18], 1),
+                Call::RemoveEntry => (&[12, 18], 3),
                 _ => {
                     assert!(answers.contains(&Answer::Number(0)));
                     assert!(answers.contains(&Answer::Number(1)));
@@ -139,11 +154,25 @@ mod tests {
                 let refused = Answer::Refused(*refusal);
                 answers.iter().filter(|answer| **answer == refused).count()
             };
+            if call > Call::BifFeelType {
+                let parts = |answer: &&Answer| matches!(answer, Answer::Number(2..));
+                let none = answers.contains(&Answer::Number(0));
+                let found = answers.iter().filter(parts).count();
+                match call {
+                    Call::GetEntry | Call::SearchDeep | Call::GetFirst => {
+                        assert!(none && found > 10, "{call:?}");
+                    }
+                    Call::Len => assert!(none && answers.contains(&Answer::Number(256))),
+                    Call::ContainsDeep => assert!(count(&11) >= 3 && count(&12) >= 3),
+                    _ => assert!(count(&12) >= 3, "{call:?}"),
+                }
+            }
             let mut of_reading = match call {
                 Call::ValueIsConformant
                 | Call::GetValueChecked
                 | Call::GetConformantValue
                 | Call::Coerced => 1..=10,
+                _ if call > Call::BifFeelType => 1..=5,
                 _ if call >= Call::IntervalOpened => 2..=2,
                 _ if call >= Call::ValueLeastType => 1..=5,
                 _ => 6..=10,
@@ -178,6 +207,11 @@ mod tests {
         assert_eq!(examples(Call::Coerced), one("00 01"));
         assert_eq!(examples(Call::GetValueChecked), one("0B 0000"));
         assert_eq!(examples(Call::GetConformantValue), one("00 02"));
+        assert_eq!(
+            examples(Call::CreateEntries),
+            one("0B 0100 0100 0B 0100 0200 0F")
+        );
+        assert_eq!(examples(Call::ApplyEntries), [Answer::Refused(16)]);
     }
 
     #[test]
@@ -188,16 +222,18 @@ mod tests {
             .map(Vec::len)
             .filter(|&length| length > 1_000)
             .collect();
+        // Of the readers, of create_entries, of zip twice, of overwrite and of set_null.
         assert_eq!(
-            long,
+            long[..4],
             [MAX_LENGTH, MAX_LENGTH + 1, MAX_LENGTH, MAX_LENGTH + 1]
         );
+        assert_eq!(long.len(), 4 + 2 + 4 + 2 + 1);
     }
 
     #[test]
     fn the_text_is_small_and_in_its_form() {
         let text = list::text(&groups());
-        assert!(text.len() < 450_000, "{}", text.len());
+        assert!(text.len() < 850_000, "{}", text.len());
         assert_eq!(text, list::text(&groups()));
         assert!(text.ends_with('\n'));
         let is_hex = |byte: u8| byte.is_ascii_digit() || (b'A'..=b'F').contains(&byte);
@@ -216,11 +252,12 @@ mod tests {
             let accepted = !answer.starts_with('!');
             assert!(is_number(answer.trim_start_matches('!')), "{line}");
             let (args, lent) = match call {
-                1 | 2 | 8 | 9 | 16..=27 => (1, 0),
-                3 | 4 | 10 => (2, 0),
+                1 | 2 | 8 | 9 | 16..=27 | 31 | 35 | 36 => (1, 0),
+                3 | 4 | 10 | 29 | 30 | 32..=34 => (2, 0),
                 5 | 6 => (2, 2),
                 7 | 28 => (1, 1),
-                13..=15 => (2, 1),
+                13..=15 | 39 | 40 | 43 | 44 => (2, 1),
+                37 | 38 | 41 | 42 => (3, 1),
                 _ => (1, 2),
             };
             assert!(words.by_ref().take(args).all(is_bytes), "{line}");

@@ -1,18 +1,23 @@
 //! The speed of exported functions beside the Rust: of the readers beside the Rust reading the same
 //! bytes into its trees; of the other calls beside the Rust reading the arguments, answering and
-//! writing its answer, and beside its answer alone on trees that were built before. All run on the
-//! same accepted records in turn; the best of several rounds counts, so only the ratios in one run
-//! say something.
+//! writing its answer, and beside its answer alone on trees that were built before. An update of a
+//! context alone is that of a copy of the tree, since the call leaves the context as it is. All run
+//! on the same accepted records in turn; the best of several rounds counts, so only the ratios in
+//! one run say something.
 
 use compare::library::{
-    COMPARED, feel_check_type, feel_check_value, feel_type_get_conformant_value,
-    feel_type_get_value_checked, feel_type_is_conformant, feel_value_coerced,
-    feel_value_is_conformant, feel_value_least_type, feel_value_type_of,
+    COMPARED, feel_check_type, feel_check_value, feel_context_create_entries,
+    feel_context_move_entry, feel_context_search_deep, feel_context_set_entry, feel_context_zip,
+    feel_type_get_conformant_value, feel_type_get_value_checked, feel_type_is_conformant,
+    feel_value_coerced, feel_value_is_conformant, feel_value_least_type, feel_value_type_of,
 };
-use dsntk_feel::FeelType;
+use dsntk_feel::context::FeelContext;
 use dsntk_feel::values::Value;
-use feel_cases::{ANY, Kind, Move, Parts, Random, Tree, ValueTree, near, random_draft};
-use feel_form::{calls, least_type, read_type, read_value};
+use dsntk_feel::{FeelType, Name};
+use feel_cases::{
+    ANY, Kind, Move, Parts, Random, Tree, ValueTree, context_chain, near, random_draft,
+};
+use feel_form::{calls, contexts, least_type, name, read_type, read_value};
 use std::hint::black_box;
 use std::time::{Duration, Instant};
 
@@ -73,6 +78,11 @@ fn main() {
     }
     for size in SIZES {
         coercion(size);
+    }
+    for of_contexts in [creation, search, zip, setting, moving] {
+        for size in SIZES {
+            of_contexts(size);
+        }
     }
 }
 
@@ -210,6 +220,217 @@ fn coercion((least, most): (usize, usize)) {
     );
 }
 
+/// A value that is put into a context.
+const PUT: [u8; 3] = [0x03, 7, 0];
+
+/// Where a call goes in a context.
+struct Way {
+    path: Vec<u16>,
+    names: Vec<Name>,
+}
+
+impl Way {
+    fn new(path: &[u16]) -> Way {
+        Way {
+            path: path.to_vec(),
+            names: path.iter().map(|number| name(*number)).collect(),
+        }
+    }
+}
+
+/// A new entry three contexts inside a context of these lengths.
+fn creation(size: (usize, usize)) {
+    let last = |c: &[u8]| Way::new(&[1, 2, count(&c[10..])]);
+    let put = value(&PUT);
+    context_row(
+        "context_create_entries",
+        &inside_two(size, last),
+        |c, way, out| {
+            let (path, v) = (&way.path, &PUT);
+            // SAFETY: each pointer and length are those of one slice, which lives through the call.
+            unsafe {
+                feel_context_create_entries(
+                    c.as_ptr(),
+                    c.len(),
+                    path.as_ptr(),
+                    path.len(),
+                    v.as_ptr(),
+                    v.len(),
+                    out.as_mut_ptr(),
+                    out.len(),
+                )
+            }
+        },
+        |c, way| contexts::create_entries(c, &way.path, &PUT, 16_384),
+        |context, way| {
+            let mut copy = context.clone();
+            copy.create_entries(&way.names, put.clone());
+            copy
+        },
+    );
+}
+
+/// The last entry three contexts inside a context of these lengths.
+fn search(size: (usize, usize)) {
+    let last = |c: &[u8]| Way::new(&[1, 2, count(&c[10..]) - 1]);
+    context_row(
+        "context_search_deep",
+        &inside_two(size, last),
+        |c, way, _| {
+            let path = &way.path;
+            // SAFETY: each pointer and length are those of one slice, which lives through the call.
+            unsafe { feel_context_search_deep(c.as_ptr(), c.len(), path.as_ptr(), path.len()) }
+        },
+        // The place in the bytes, which the Rust does not give, is no part of its work.
+        |c, way| {
+            let names: Vec<Name> = way.path.iter().map(|number| name(*number)).collect();
+            context(c).search_deep(&names).is_some()
+        },
+        |context, way| context.search_deep(&way.names).is_some(),
+    );
+}
+
+/// Two contexts, each of half these lengths, of whose names some are equal.
+fn zip((least, most): (usize, usize)) {
+    let own = named_values(least / 2, most / 2, 2);
+    let pairs: Vec<[Vec<u8>; 2]> = own
+        .into_iter()
+        .zip(named_values(least / 2, most / 2, 3))
+        .map(|(c, other)| [c, other])
+        .collect();
+    let trees: Vec<[FeelContext; 2]> = pairs
+        .iter()
+        .map(|[c, other]| [context(c), context(other)])
+        .collect();
+    let both: usize = pairs.iter().flatten().map(Vec::len).sum();
+    let (function, rust) = (feel_context_zip, contexts::zip);
+    build(
+        "context_zip",
+        both,
+        &pairs,
+        function,
+        rust,
+        &mut |repeats| {
+            timed(repeats, &trees, |[c, other]| {
+                let mut copy = c.clone();
+                copy.zip(other);
+                copy
+            })
+        },
+    );
+}
+
+/// The last entry of a context of these lengths replaced.
+fn setting(size: (usize, usize)) {
+    let last = |c: &[u8]| Way::new(&[count(c) - 1]);
+    let put = value(&PUT);
+    context_row(
+        "context_set_entry",
+        &with_ways(size, last),
+        |c, way, out| {
+            // SAFETY: each pointer and length are those of one slice, which lives through the call.
+            unsafe {
+                feel_context_set_entry(
+                    c.as_ptr(),
+                    c.len(),
+                    way.path[0],
+                    PUT.as_ptr(),
+                    PUT.len(),
+                    out.as_mut_ptr(),
+                    out.len(),
+                )
+            }
+        },
+        |c, way| contexts::set_entry(c, way.path[0], &PUT, 16_384),
+        |context, way| {
+            let mut copy = context.clone();
+            copy.set_entry(&way.names[0], put.clone());
+            copy
+        },
+    );
+}
+
+/// The first entry of a context of these lengths moved below a new parent behind all others.
+fn moving(size: (usize, usize)) {
+    let first_and_new = |c: &[u8]| Way::new(&[0, count(c)]);
+    context_row(
+        "context_move_entry",
+        &with_ways(size, first_and_new),
+        |c, way, out| {
+            // SAFETY: each pointer and length are those of one slice, which lives through the call.
+            unsafe {
+                feel_context_move_entry(
+                    c.as_ptr(),
+                    c.len(),
+                    way.path[0],
+                    way.path[1],
+                    out.as_mut_ptr(),
+                    out.len(),
+                )
+            }
+        },
+        |c, way| contexts::move_entry(c, way.path[0], way.path[1], 16_384),
+        |context, way| {
+            let mut copy = context.clone();
+            copy.move_entry(way.names[0].clone(), way.names[1].clone());
+            copy
+        },
+    );
+}
+
+/// Contexts of these lengths, with room for what is added, and a way into each.
+fn with_ways((least, most): (usize, usize), way: fn(&[u8]) -> Way) -> Vec<(Vec<u8>, Way)> {
+    let values = values(least, most.min(16_300)).into_iter();
+    values
+        .map(|c| (way(&c), c))
+        .map(|(way, c)| (c, way))
+        .collect()
+}
+
+/// The same, each inside two contexts with the names 1 and 2.
+fn inside_two((least, most): (usize, usize), way: fn(&[u8]) -> Way) -> Vec<(Vec<u8>, Way)> {
+    let inside = |v: Vec<u8>| context_chain(1, 1, &context_chain(2, 1, &v));
+    let values = values(least - 10, most.min(16_300) - 10).into_iter();
+    values
+        .map(inside)
+        .map(|c| (way(&c), c))
+        .map(|(way, c)| (c, way))
+        .collect()
+}
+
+/// How many entries a context has.
+fn count(c: &[u8]) -> u16 {
+    u16::from_le_bytes([c[1], c[2]])
+}
+
+/// A call over contexts, by `ours` with an output, by `rust` over the bytes and by `alone` over the
+/// trees.
+fn context_row<R, T>(
+    name: &str,
+    cases: &[(Vec<u8>, Way)],
+    ours: impl Fn(&[u8], &Way, &mut [u8]) -> u64,
+    rust: impl Fn(&[u8], &Way) -> R,
+    alone: impl Fn(&FeelContext, &Way) -> T,
+) {
+    let trees: Vec<(FeelContext, &Way)> = cases.iter().map(|(c, way)| (context(c), way)).collect();
+    let bytes: usize = cases.iter().map(|(c, _)| c.len()).sum();
+    let repeats = ROUND.div_ceil(bytes);
+    let mut out = vec![0; 16_384];
+    for (c, way) in cases {
+        assert_eq!(ours(c, way, &mut out) >> 32, 0, "no answer");
+    }
+    let mut best = [Duration::MAX; 3];
+    for _ in 0..ROUNDS {
+        let round = [
+            timed(repeats, cases, |(c, way)| ours(c, way, &mut out)),
+            timed(repeats, cases, |(c, way)| rust(c, way)),
+            timed(repeats, &trees, |(context, way)| alone(context, way)),
+        ];
+        best = least_of(best, round);
+    }
+    row(name, bytes / cases.len(), bytes * repeats, best);
+}
+
 /// A call over two records that writes a value, beside the Rust, and beside its answer alone; the
 /// values have so many bytes.
 fn build(
@@ -251,8 +472,13 @@ fn row(name: &str, length: usize, bytes: usize, times: [Duration; 3]) {
     );
 }
 
-/// Data of these lengths: contexts whose entries are lists of equal records.
+/// Data of these lengths: contexts whose entries are lists of equal records, with the names 0, 1, 2.
 fn values(least: usize, most: usize) -> Vec<Vec<u8>> {
+    named_values(least, most, 1)
+}
+
+/// The same with names at this distance.
+fn named_values(least: usize, most: usize, step: u16) -> Vec<Vec<u8>> {
     let mut random = Random::new(7);
     let mut values = vec![];
     let mut bytes = 0;
@@ -263,7 +489,7 @@ fn values(least: usize, most: usize) -> Vec<Vec<u8>> {
             let record = record(&mut random);
             let copies = 1 + most / 8 / record.bytes().len();
             let list = ValueTree::List(vec![record; copies]);
-            entries.push((entries.len() as u16, list));
+            entries.push((step * entries.len() as u16, list));
             v = ValueTree::Context(entries.clone()).bytes();
         }
         if v.len() <= most {
@@ -420,6 +646,10 @@ fn built(a: &[u8], b: &[u8], function: Build, out: &mut [u8]) -> u64 {
             out.len(),
         )
     }
+}
+
+fn context(bytes: &[u8]) -> FeelContext {
+    FeelContext::try_from(value(bytes)).expect("a context")
 }
 
 fn value(bytes: &[u8]) -> Value {

@@ -1,0 +1,154 @@
+-- The loop that finds a name in a context: what is left of its entries.
+-- Assumes nothing.
+use Prim.Native.Nat.{ℕ, suc, _+_, _-_, _<_, _≤_}
+use native.Mathlib.Omega.{arith}
+use mathlib.Core.Path.{_≡_, refl, sym, ap, ap₂, _∙_}
+use mathlib.Core.Bool.{cond}
+use mathlib.Core.Option.{none, some}
+use mathlib.Core.List.{List}
+use lib.ListN.{length, drop}
+use borrow.Author.Tests.{eq-eqb, ne-eqb, lt-ltb, le-ltb}
+use Rattle.form.specs.Limits.{nameWidth}
+use Rattle.form.specs.Trees.{Val, Entries, no-entries, entry}
+use Rattle.form.specs.Form.{numAt}
+use Rattle.order.specs.Size.{size-val, size-entries}
+use Rattle.types.specs.At.{Ok}
+use Rattle.types.proofs.Reading.{rest}
+use Rattle.values.specs.At.{valueAt, entriesAt, sizeAtV}
+use Rattle.values.proofs.Reading.{size-got}
+use Rattle.retrieval.proofs.Trees.{From}
+use Rattle.retrieval.proofs.Contexts.{This, this, none-left, size-next, size-none}
+use Rattle.retrieval.proofs.Answering.{behind}
+use Rattle.paths.specs.Paths.{value-of, below, entry-place}
+use Rattle.paths.specs.Places.{contextAt, placed, Finds}
+use Rattle.paths.specs.declared.Place.{Place}
+use Rattle.paths.specs.declared.Place.the-variants as place-is
+use Rattle.paths.proofs.Whole.{Ctx, ctx-ok}
+
+-- ---- on trees
+pub value-first : (n : ℕ) (v : Val) (es : Entries) → value-of n (entry n v es) ≡ some v
+unfolding value-of
+value-first n v es = ap (λ q. cond q (some v) (value-of n es)) (eq-eqb n n refl)
+
+pub value-later : (n m : ℕ) (v : Val) (es : Entries) → (n ≡ m → ⊥) → value-of n (entry m v es) ≡ value-of n es
+unfolding value-of
+value-later n m v es d = ap (λ q. cond q (some v) (value-of n es)) (ne-eqb n m d)
+
+-- a name below all of them
+pub value-absent : (n k : ℕ) (es : Entries) → From k es → n < k → value-of n es ≡ none
+unfolding From value-of
+value-absent n k no-entries f h = refl
+value-absent n k (entry m v es) f h = let d : n ≡ m → ⊥ = λ e. omega (arith, f .0) in ap (λ q. cond q (some v) (value-of n es)) (ne-eqb n m d) ∙ value-absent n k es (f .1) h
+
+pub below-more : (n m : ℕ) (v : Val) (es : Entries) → m < n → below n (entry m v es) ≡ entry m v (below n es)
+unfolding below
+below-more n m v es h = ap (λ q. cond q (entry m v (below n es)) no-entries) (lt-ltb m n h)
+
+pub below-none : (n m : ℕ) (v : Val) (es : Entries) → n ≤ m → below n (entry m v es) ≡ no-entries
+unfolding below
+below-none n m v es h = ap (λ q. cond q (entry m v (below n es)) no-entries) (le-ltb m n h)
+
+below-empty : (n : ℕ) → below n no-entries ≡ no-entries
+unfolding below
+below-empty n = refl
+
+value-empty : (n : ℕ) → value-of n no-entries ≡ none
+unfolding value-of
+value-empty n = refl
+
+-- ---- in and out
+pub finds : (l : ℕ) (s : List ℕ) (n : ℕ) (es : Entries) (r : Place) → contextAt l s ≡ some es → r ≡ placed (entry-place n es) (value-of n es) → Finds (contextAt l s) n r
+unfolding Finds
+finds l s n es r e h = rw e h
+
+pub finds-is : (l : ℕ) (s : List ℕ) (n : ℕ) (es : Entries) (r : Place) → contextAt l s ≡ some es → Finds (contextAt l s) n r → r ≡ placed (entry-place n es) (value-of n es)
+unfolding Finds
+finds-is l s n es r e h = rw e at h
+
+-- ---- the loop
+pub record Finding (l : ℕ) (s : List ℕ) (name n at i : ℕ) : Type 0 where
+  pub whole : Entries
+  pub ctx : Ctx l s whole
+  pub es : Entries
+  pub least : ℕ
+  pub upto : i ≤ n
+  pub inside : at ≤ length s
+  pub read : entriesAt (l - 1) (n - i) least (drop at s) ≡ some es
+  pub place : entry-place name whole ≡ at + size-entries (below name es)
+  pub value : value-of name whole ≡ value-of name es
+
+pub finding-starts : (l : ℕ) (s : List ℕ) (name n : ℕ) → Ok (contextAt l s) → n ≡ numAt 2 1 s → Finding l s name n 3 0
+finding-starts l s name n h e = go (ctx-ok l s h)
+  where
+    go : (es : Entries) × Ctx l s es → Finding l s name n 3 0
+    go (es, C) =
+        let z : n - 0 ≡ numAt 2 1 s = omega arith in
+        record {
+          whole = es;
+          ctx = C;
+          es = es;
+          least = 0;
+          upto = omega arith;
+          inside = C .three;
+          read = ap (λ (k : ℕ). entriesAt (l - 1) k 0 (drop 3 s)) z ∙ C .entries;
+          place = refl;
+          value = refl;
+        }
+
+module _ {l : ℕ} {s : List ℕ} {name n at i : ℕ} (Q : Finding l s name n at i) where
+  -- no entry is left
+  pub finding-ended : n ≤ i → Finds (contextAt l s) name (place-is.None at)
+  finding-ended h =
+      let z = none-left (l - 1) i n at (Q .least) s (Q .es) h (Q .read) in
+      let p : entry-place name (Q .whole) ≡ at = omega (arith, Q .place, ap (λ x. size-entries (below name x)) z ∙ ap size-entries (below-empty name) ∙ size-none) in
+      let v : value-of name (Q .whole) ≡ none = Q .value ∙ ap (value-of name) z ∙ value-empty name in
+      finds l s name (Q .whole) (place-is.None at) (Q .ctx .read) (sym (ap₂ placed p v))
+
+  module _ (h : i < n) where
+    abbrev A : This (l - 1) (n - (i + 1)) at (Q .least) s (Q .es)
+    A = this (l - 1) i n at (Q .least) s (Q .es) h (Q .inside) (Q .read)
+
+    pub finding-name : at + nameWidth ≤ length s
+    finding-name = A .two
+
+    module _ (x : ℕ) (ex : x ≡ numAt nameWidth at s) where
+      is-name : x ≡ A .name
+      is-name = ex ∙ sym (A .named)
+
+      -- the name is above the one that is looked for
+      pub finding-passed : name < x → Finds (contextAt l s) name (place-is.None at)
+      finding-passed b =
+          let m : name < A .name = omega (arith, is-name) in
+          let p : entry-place name (Q .whole) ≡ at = omega (arith, Q .place, ap (λ z. size-entries (below name z)) (A .is) ∙ ap size-entries (below-none name (A .name) (A .v) (A .more) (omega arith)) ∙ size-none) in
+          let v : value-of name (Q .whole) ≡ none =
+          Q .value ∙ ap (value-of name) (A .is) ∙ value-later name (A .name) (A .v) (A .more) (λ e. omega arith) ∙ value-absent name (suc (A .name)) (A .more) (A .from) (omega arith) in
+          finds l s name (Q .whole) (place-is.None at) (Q .ctx .read) (sym (ap₂ placed p v))
+
+      module _ (k : ℕ) (ek : k ≡ sizeAtV (valueAt (l - 1) (behind (at + nameWidth) s))) where
+        skipped : k ≡ size-val (A .v)
+        skipped = ek ∙ ap (λ (r : List ℕ). sizeAtV (valueAt (l - 1) r)) (rest s (at + nameWidth)) ∙ size-got (valueAt (l - 1) (drop (at + nameWidth) s)) (A .v) (A .first)
+
+        pub finding-end : at + nameWidth + k ≤ length s
+        finding-end = omega (arith, A .fits, skipped)
+
+        pub finding-hit : x ≡ name → Finds (contextAt l s) name (place-is.At at (at + nameWidth + k))
+        finding-hit b =
+            let m : A .name ≡ name = sym is-name ∙ b in
+            let p : entry-place name (Q .whole) ≡ at = omega (arith, Q .place, ap (λ z. size-entries (below name z)) (A .is) ∙ ap size-entries (below-none name (A .name) (A .v) (A .more) (omega arith)) ∙ size-none) in
+            let v : value-of name (Q .whole) ≡ some (A .v) = Q .value ∙ ap (value-of name) (A .is ∙ ap (λ z. entry z (A .v) (A .more)) m) ∙ value-first name (A .v) (A .more) in
+            finds l s name (Q .whole) (place-is.At at (at + nameWidth + k)) (Q .ctx .read) (ap (λ z. place-is.At at (at + nameWidth + z)) skipped ∙ sym (ap₂ placed p v))
+
+        pub finding-next : x ≤ name → (x ≡ name → ⊥) → Finding l s name n (at + nameWidth + k) (i + 1)
+        finding-next b d =
+            let m : A .name < name = omega (arith, is-name) in
+            record {
+              whole = Q .whole;
+              ctx = Q .ctx;
+              es = A .more;
+              least = suc (A .name);
+              upto = omega arith;
+              inside = finding-end;
+              read = ap (λ (z : ℕ). entriesAt (l - 1) (n - (i + 1)) (suc (A .name)) (drop (at + nameWidth + z) s)) skipped ∙ A .second;
+              place = omega (arith, Q .place, ap (λ z. size-entries (below name z)) (A .is) ∙ ap size-entries (below-more name (A .name) (A .v) (A .more) m) ∙ size-next (A .name) (A .v) (below name (A .more)), skipped);
+              value = Q .value ∙ ap (value-of name) (A .is) ∙ value-later name (A .name) (A .v) (A .more) (λ e. omega arith);
+            }

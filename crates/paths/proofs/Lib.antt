@@ -1,0 +1,5 @@
+pub mod Whole
+pub mod Finding
+pub mod Splitting
+pub mod Searching
+pub mod Calling

@@ -1,0 +1,122 @@
+-- A context of which all bytes were read.
+-- Assumes nothing.
+use Prim.Native.Nat.{ℕ, _+_, _-_, _<_, _≤_}
+use native.Mathlib.Omega.{arith}
+use mathlib.Core.Path.{_≡_, refl, ap, _∙_}
+use mathlib.Core.Bool.{Bool, true, false}
+use mathlib.Core.Option.{Option, none, some}
+use mathlib.Core.List.{List}
+use lib.ListN.{length, getD, drop}
+use lib.Dec.{eqb}
+use borrow.Author.Tests.{eqb-true, eq-eqb}
+use Rattle.form.specs.Trees.{Val, v-leaf, v-range, v-list, v-context, v-function, v-built-in, v-type, v-irrelevant, Entries}
+use Rattle.form.specs.Form.{numAt}
+use Rattle.form.specs.Outcome.{pick}
+use Rattle.form.specs.Read.{Got, got, bad, readV}
+use Rattle.order.specs.Size.{size-entries}
+use Rattle.types.specs.At.{Ok}
+use Rattle.types.proofs.Reading.{ok-got, got-seen}
+use Rattle.values.specs.At.{valueAt, entriesAt}
+use Rattle.values.proofs.Reading.{value-told, IsVal, is-null, is-boolean, is-number, is-string, is-temporal, is-range, is-list, is-context, is-definition, is-built-in, is-type, is-irrelevant, is-val, some-level}
+use Rattle.retrieval.proofs.Contexts.{size-context}
+use Rattle.retrieval.proofs.Theorems.{none-some, some-same}
+use Rattle.paths.specs.Paths.{entries-of, given}
+use Rattle.paths.specs.Places.{taken, wholeAt, contextAt}
+
+-- ---- all bytes were taken
+pub taken-is : (n : ℕ) (r : Got Val) (v : Val) → taken n r ≡ some v → r ≡ got v n
+unfolding taken
+taken-is n (got w m) v e = go (eqb m n) refl e
+  where
+    go : (q : Bool) → eqb m n ≡ q → pick q (some w) none ≡ some v → got w m ≡ got v n
+    go true p h = let a = eqb-true m n p in let b = some-same h in cc
+    go false p h = absurd (none-some h)
+taken-is n (bad f) v e = absurd (none-some e)
+
+pub is-taken : (n : ℕ) (r : Got Val) (v : Val) → r ≡ got v n → taken n r ≡ some v
+unfolding taken
+is-taken n r v e = ap (taken n) e ∙ ap (λ q. pick q (some v) none) (eq-eqb n n refl)
+
+pub whole-is : (l : ℕ) (s : List ℕ) (v : Val) → wholeAt l s ≡ some v → readV l s ≡ got v (length s)
+unfolding wholeAt
+whole-is l s v e = taken-is (length s) (readV l s) v e
+
+pub is-whole : (l : ℕ) (s : List ℕ) (v : Val) → readV l s ≡ got v (length s) → wholeAt l s ≡ some v
+unfolding wholeAt
+is-whole l s v e = is-taken (length s) (readV l s) v e
+
+-- ---- a context
+pub of-context : (v : Val) (es : Entries) → entries-of v ≡ some es → v ≡ v-context es
+of-context (v-leaf l) es e = absurd (none-some e)
+of-context (v-range i j v w) es e = absurd (none-some e)
+of-context (v-list vs) es e = absurd (none-some e)
+of-context (v-context fs) es e = ap v-context (some-same e)
+of-context (v-function ps b r) es e = absurd (none-some e)
+of-context (v-built-in n) es e = absurd (none-some e)
+of-context (v-type t) es e = absurd (none-some e)
+of-context v-irrelevant es e = absurd (none-some e)
+
+pub given-is : {X Y : Type 0} (o : Option X) (f : X → Option Y) (y : Y) → given o f ≡ some y → (x : X) × (o ≡ some x) × (f x ≡ some y)
+given-is none f y e = absurd (none-some e)
+given-is (some x) f y e = (x, refl, e)
+
+pub context-read : (l : ℕ) (s : List ℕ) (es : Entries) → contextAt l s ≡ some es → readV l s ≡ got (v-context es) (length s)
+unfolding contextAt
+context-read l s es e = go (given-is (wholeAt l s) entries-of es e)
+  where
+    go : (v : Val) × (wholeAt l s ≡ some v) × (entries-of v ≡ some es) → readV l s ≡ got (v-context es) (length s)
+    go (v, p, q) = whole-is l s v p ∙ ap (λ w. got w (length s)) (of-context v es q)
+
+pub read-context : (l : ℕ) (s : List ℕ) (es : Entries) → readV l s ≡ got (v-context es) (length s) → contextAt l s ≡ some es
+unfolding contextAt
+read-context l s es e = ap (λ o. given o entries-of) (is-whole l s (v-context es) e)
+
+pub record Ctx (l : ℕ) (s : List ℕ) (es : Entries) : Type 0 where
+  pub read : contextAt l s ≡ some es
+  pub value : valueAt l s ≡ some (v-context es)
+  pub all : 3 + size-entries es ≡ length s
+  pub three : 3 ≤ length s
+  pub level : 0 < l
+  pub command : getD s 0 0 ≡ 11
+  pub entries : entriesAt (l - 1) (numAt 2 1 s) 0 (drop 3 s) ≡ some es
+
+record Node (l : ℕ) (s : List ℕ) (es : Entries) : Type 0 where
+  three : 3 ≤ length s
+  command : getD s 0 0 ≡ 11
+  entries : entriesAt (l - 1) (numAt 2 1 s) 0 (drop 3 s) ≡ some es
+
+node : (l : ℕ) (s : List ℕ) (v : Val) (es : Entries) → IsVal l s v → entries-of v ≡ some es → Node l s es
+node l s v es (is-null x c) h = absurd (none-some h)
+node l s v es (is-boolean x c) h = absurd (none-some h)
+node l s v es (is-number x c) h = absurd (none-some h)
+node l s v es (is-string x c) h = absurd (none-some h)
+node l s v es (is-temporal x c d) h = absurd (none-some h)
+node l s v es (is-range i j a b c k p) h = absurd (none-some h)
+node l s v es (is-list vs c k p) h = absurd (none-some h)
+node l s v es (is-context fs c k p) h = record { three = k; command = c; entries = p ∙ h }
+node l s v es (is-definition r ps b c k p) h = absurd (none-some h)
+node l s v es (is-built-in x c) h = absurd (none-some h)
+node l s v es (is-type t c p) h = absurd (none-some h)
+node l s v es (is-irrelevant c) h = absurd (none-some h)
+
+pub ctx-of : (l : ℕ) (s : List ℕ) (es : Entries) → contextAt l s ≡ some es → Ctx l s es
+unfolding valueAt
+ctx-of l s es e =
+    let r = context-read l s es e in
+    let v : valueAt l s ≡ some (v-context es) = got-seen (readV l s) (v-context es) (length s) r in
+    let N = node l s (v-context es) es (is-val l s (v-context es) v) refl in
+    record {
+      read = e;
+      value = v;
+      all = omega (arith, value-told l s (v-context es) (length s) r .sized, size-context es);
+      three = N .three;
+      level = some-level l s (v-context es) v;
+      command = N .command;
+      entries = N .entries;
+    }
+
+pub ctx-ok : (l : ℕ) (s : List ℕ) → Ok (contextAt l s) → (es : Entries) × Ctx l s es
+ctx-ok l s h = go (ok-got (contextAt l s) h)
+  where
+    go : (es : Entries) × (contextAt l s ≡ some es) → (es : Entries) × Ctx l s es
+    go (es, e) = (es, ctx-of l s es e)

@@ -1,0 +1,24 @@
+-- `paths::lend` meets its contract.
+-- Assumes nothing.
+use borrow.Author.Needs.{needs}
+use Rattle.paths.proofs.lend.Statement.{statement}
+use Rattle.paths.proofs.lend.Tie as tie
+use Rattle.paths.proofs.Calling.{within-part, lends-part}
+use native.Mathlib.Omega.{arith}
+
+pub lend-spec : {M : Type 1} → statement M
+lend-spec =
+    tie.close
+    (tie.spec
+    (λ c. search needs)
+    (λ c. omega (arith, within-part (c .before .before .before .args .f) (c .before .before .before .args .c .now) (c .before .f .given .0 .0) (c .before .f .given .0 .1 .0) (c .before .f .given .1) (c .before .before .before .pre)))
+    (λ c. search needs)
+    (λ c. search needs)
+    (λ c. omega (arith, within-part (c .before .before .before .args .f) (c .before .before .before .args .c .now) (c .before .f .given .0 .0) (c .before .f .given .0 .1 .0) (c .before .f .given .1) (c .before .before .before .pre)))
+    (λ c. search needs)
+    (λ c. search needs)
+    (λ c. search needs)
+    (λ c. search needs)
+    (λ c. lends-part (c .before .before .before .before .args .f) (c .before .before .before .before .args .c .now) (c .before .before .f .given .0 .0) (c .before .before .f .given .0 .1 .0) (c .before .before .f .given .1))
+    (λ c. search needs)
+    (λ c. search needs))

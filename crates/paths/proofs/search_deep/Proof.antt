@@ -1,0 +1,12 @@
+-- `paths::search_deep` meets its contract.
+-- Assumes nothing.
+use borrow.Author.Needs.{needs}
+use Rattle.paths.proofs.search_deep.Statement.{statement}
+use Rattle.paths.proofs.search_deep.Tie as tie
+use Rattle.form.proofs.Whole.{bytes-of}
+use Rattle.paths.proofs.Calling.{stand-deep, lend-within, lent}
+use Rattle.paths.specs.Places.{found}
+use Rattle.paths.specs.Calls.{searchDeepCall}
+
+pub search-deep-spec : {M : Type 1} → statement M
+search-deep-spec = tie.close (tie.spec (λ c κs. search needs) (λ c κs. lend-within (c .before .before .before .before .args .c .now) (searchDeepCall (c .before .before .before .before .args .c .now) (c .before .before .before .before .args .path .now)) (found (c .before .search-place .result)) (stand-deep (c .before .before .before .before .args .c .now) (c .before .before .before .before .args .path .now) (bytes-of (c .before .before .before .before .args .c .now) (c .before .before .before .shared-slice-known .given))) (c .before .search-place .ensures)) (λ c. lent (c .before .before .before .before .before .args .c .now) (searchDeepCall (c .before .before .before .before .before .args .c .now) (c .before .before .before .before .before .args .path .now)) (found (c .before .before .search-place .result)) _ _ (stand-deep (c .before .before .before .before .before .args .c .now) (c .before .before .before .before .before .args .path .now) (bytes-of (c .before .before .before .before .before .args .c .now) (c .before .before .before .before .shared-slice-known .given))) (c .before .before .search-place .ensures) (c .lend .ensures)))

@@ -1,0 +1,122 @@
+-- What the walks into a context ask and answer, over its bytes.
+-- Assumes nothing.
+use Prim.Native.Nat.{ℕ, _+_, _<_, _≤_, _^_}
+use mathlib.Core.Path.{_≡_}
+use mathlib.Core.Bool.{Bool, true, false}
+use mathlib.Core.Option.{Option, none, some}
+use mathlib.Core.List.{List, []}
+use lib.ListN.{length, take, drop}
+use lib.Dec.{eqb}
+use Rattle.form.specs.Limits.{nameWidth}
+use Rattle.form.specs.Trees.{Val, Entries}
+use Rattle.form.specs.Form.{encV}
+use Rattle.form.specs.Outcome.{Outcome, done, refused, pick, _>>=_}
+use Rattle.form.specs.Read.{Got, got, bad, readV}
+use Rattle.order.specs.Size.{size-val}
+use Rattle.retrieval.specs.Retrieve.{mapped}
+use Rattle.paths.specs.Paths.{value-of, entries-of, given, search, entry-place, place}
+use Rattle.paths.specs.declared.Place.{Place}
+use Rattle.paths.specs.declared.Place.the-variants as place-is
+use Rattle.paths.specs.declared.Found.{Found}
+use Rattle.paths.specs.declared.Found.the-variants as found-is
+
+-- ---- the value of which all n bytes were taken
+unfoldable pub taken : ℕ → Got Val → Option Val
+taken n (got v m) = pick (eqb m n) (some v) none
+taken n (bad f) = none
+
+unfoldable pub wholeAt : ℕ → List ℕ → Option Val
+wholeAt l s = taken (length s) (readV l s)
+
+-- its entries, where it is a context
+unfoldable pub contextAt : ℕ → List ℕ → Option Entries
+contextAt l s = given (wholeAt l s) entries-of
+
+-- ---- one name: its entry from its place to its end, or the place where it would stand
+abbrev pub placed : ℕ → Option Val → Place
+placed p (some v) = place-is.At p (p + nameWidth + size-val v)
+placed p none = place-is.None p
+
+unfoldable pub Finds : Option Entries → ℕ → Place → Type 0
+Finds (some es) n r = r ≡ placed (entry-place n es) (value-of n es)
+Finds none n r = Unit {0}
+
+-- ---- a part of a context's bytes
+-- a value and the place where it stands
+pub data Spot : Type 0 where
+  spot : ℕ → Val → Spot
+
+-- a place and so many bytes from it on
+pub data Piece : Type 0 where
+  piece : ℕ → ℕ → Piece
+
+abbrev pub extent : Spot → Piece
+extent (spot p v) = piece p (length (encV v))
+
+-- the answer of a call that finds a part: the part, or none, or the refusal
+abbrev pub found : Found → Outcome (Option Piece)
+found (found-is.Part p n) = done (some (piece p n))
+found found-is.None = done none
+found (found-is.Refused n) = refused n
+
+-- the same of a definition
+unfoldable pub extentOf : Outcome (Option Spot) → Outcome (Option Piece)
+extentOf o = do
+  s ← o
+  done (mapped extent s)
+
+-- the value at a path with its place
+abbrev pub spotIn : List ℕ → Entries → Option Spot
+spotIn p es = mapped (spot (place p es)) (search p es)
+
+unfoldable pub Searches : Option Entries → List ℕ → Found → Type 0
+Searches (some es) p r = found r ≡ done (mapped extent (spotIn p es))
+Searches none p r = Unit {0}
+
+-- the same k bytes further on
+abbrev pub shifted : ℕ → Outcome (Option Piece) → Outcome (Option Piece)
+shifted k (done (some (piece p n))) = done (some (piece (k + p) n))
+shifted k (done none) = done none
+shifted k (refused n) = refused n
+
+-- there is room for that
+abbrev pub Clear : ℕ → Outcome (Option Piece) → Type 0
+Clear k (done (some (piece p n))) = k + p < 2 ^ 64
+Clear k (done none) = Unit {0}
+Clear k (refused n) = Unit {0}
+
+-- whether a part was found
+abbrev pub isFound : Outcome (Option Piece) → Outcome Bool
+isFound (done (some q)) = done true
+isFound (done none) = done false
+isFound (refused n) = refused n
+
+-- ---- a part lent to the caller: the whole value's bytes, no bytes where there is none; beside it the refusal's number, or 0
+unfoldable pub lentBytes : Outcome (Option Spot) → List ℕ
+lentBytes (done (some (spot p v))) = encV v
+lentBytes (done none) = []
+lentBytes (refused n) = []
+
+abbrev pub lentCode : {X : Type 0} → Outcome X → ℕ
+lentCode (done x) = 0
+lentCode (refused n) = n
+
+-- no value has no bytes, and no refusal the number 0
+pub record Lent (o : Outcome (Option Spot)) (part : List ℕ) (code : ℕ) : Type 0 where
+  pub bytes : part ≡ lentBytes o
+  pub status : code ≡ lentCode o
+
+-- the same of a piece of c
+abbrev pub Within : Outcome (Option Piece) → List ℕ → Type 0
+Within (done (some (piece p n))) c = p + n ≤ length c
+Within (done none) c = Unit {0}
+Within (refused n) c = Unit {0}
+
+abbrev pub pieceBytes : Outcome (Option Piece) → List ℕ → List ℕ
+pieceBytes (done (some (piece p n))) c = take n (drop p c)
+pieceBytes (done none) c = []
+pieceBytes (refused n) c = []
+
+pub record Lends (o : Outcome (Option Piece)) (c part : List ℕ) (code : ℕ) : Type 0 where
+  pub bytes : part ≡ pieceBytes o c
+  pub status : code ≡ lentCode o

@@ -1,0 +1,315 @@
+-- What is proved of updates on trees: what stands at every path behind an update, and when apply refuses.
+-- Assumes nothing.
+use Prim.Native.Nat.{ℕ, _+_, _<_}
+use native.Mathlib.Omega.{arith}
+use mathlib.Core.Path.{_≡_, refl, sym, ap, _∙_}
+use mathlib.Core.Bool.{Bool, true, false, cond}
+use mathlib.Core.Option.{Option, none, some}
+use mathlib.Core.List.{List, [], _∷_, _++_}
+use lib.Dec.{eqb, ltb}
+use borrow.Author.Tests.{ne-eqb, lt-ltb, eqb-true, ltb-true}
+use Rattle.form.specs.Trees.{Val, v-context, Entries, no-entries, entry}
+use Rattle.form.specs.Form.{WfEntries}
+use Rattle.retrieval.specs.Retrieve.{mapped, nothing}
+use Rattle.retrieval.proofs.Theorems.{none-some, some-same, mapped-is}
+use Rattle.paths.specs.Paths.{value-of, entries-of, given, or-empty, context-at, search}
+use Rattle.updates.specs.Update.{insert, remove, create, on-the-way, apply, moved, moveEntry, setEntry, setNull, removeEntry}
+use Rattle.updates.proofs.Inserting.{absent, value-insert, value-insert-other, value-remove, value-remove-other, remove-absent}
+
+-- two paths that part at some name
+pub data Apart : List ℕ → List ℕ → Type 0 where
+  here : (n m : ℕ) (p q : List ℕ) → (n ≡ m → ⊥) → Apart (n ∷ p) (m ∷ q)
+  later : (n : ℕ) (p q : List ℕ) → Apart p q → Apart (n ∷ p) (n ∷ q)
+
+not-empty : {n : ℕ} {ns : List ℕ} → n ∷ ns ≡ [] → ⊥
+not-empty e = let z : _≡_ {A = ℕ} 0 1 = cc in omega arith
+
+-- ---- a search, one name further
+-- nothing is found where there are no entries
+pub search-none : (p : List ℕ) → search p no-entries ≡ none
+unfolding search value-of
+search-none [] = refl
+search-none (n ∷ []) = refl
+search-none (n ∷ m ∷ ns) = refl
+
+search-or-empty : (p : List ℕ) (o : Option Entries) → search p (or-empty o) ≡ given o (λ fs. search p fs)
+search-or-empty p none = search-none p
+search-or-empty p (some fs) = refl
+
+-- under a name just inserted, and under another
+search-under : (n m : ℕ) (ns : List ℕ) (x : Val) (es : Entries) → search (n ∷ m ∷ ns) (insert n x es) ≡ given (entries-of x) (λ fs. search (m ∷ ns) fs)
+unfolding search
+search-under n m ns x es = ap (λ (o : Option Val). given (given o entries-of) (λ fs. search (m ∷ ns) fs)) (value-insert n x es)
+
+search-beside : (n : ℕ) (p : List ℕ) (m : ℕ) (x : Val) (es : Entries) → (n ≡ m → ⊥) → search (n ∷ p) (insert m x es) ≡ search (n ∷ p) es
+unfolding search
+search-beside n [] m x es d = value-insert-other n m x es d
+search-beside n (k ∷ ks) m x es d = ap (λ (o : Option Val). given (given o entries-of) (λ fs. search (k ∷ ks) fs)) (value-insert-other n m x es d)
+
+-- ---- create
+pub created-found : (p : List ℕ) (x : Val) (es : Entries) → (p ≡ [] → ⊥) → search p (create p x es) ≡ some x
+unfolding search create
+created-found [] x es d = absurd (d refl)
+created-found (n ∷ []) x es d = value-insert n x es
+created-found (n ∷ m ∷ ns) x es d =
+    let fs = or-empty (context-at n es) in
+    search-under n m ns (v-context (create (m ∷ ns) x fs)) es ∙ created-found (m ∷ ns) x fs not-empty
+
+created-beside : (n m : ℕ) (q p : List ℕ) (x : Val) (es : Entries) → (n ≡ m → ⊥) → search (n ∷ q) (create (m ∷ p) x es) ≡ search (n ∷ q) es
+unfolding create
+created-beside n m q [] x es d = search-beside n q m x es d
+created-beside n m q (k ∷ ks) x es d = search-beside n q m (v-context (create (k ∷ ks) x (or-empty (context-at m es)))) es d
+
+created-deeper : (n : ℕ) (q p : List ℕ) (x : Val) (es : Entries) → Apart q p → ((fs : Entries) → search q (create p x fs) ≡ search q fs) → search (n ∷ q) (create (n ∷ p) x es) ≡ search (n ∷ q) es
+unfolding search create
+created-deeper n (k ∷ ks) (m ∷ ms) x es a ih =
+    let fs = or-empty (context-at n es) in
+    search-under n k ks (v-context (create (m ∷ ms) x fs)) es ∙ ih fs ∙ search-or-empty (k ∷ ks) (context-at n es)
+
+pub created-other : (q p : List ℕ) (x : Val) (es : Entries) → Apart q p → search q (create p x es) ≡ search q es
+created-other q p x es (here n m r s d) = created-beside n m r s x es d
+created-other q p x es (later n r s a) = created-deeper n r s x es a (λ fs. created-other r s x fs a)
+
+pub created-inside : (p r : List ℕ) (x : Val) (es : Entries) → (p ≡ [] → ⊥) → (r ≡ [] → ⊥) → search (p ++ r) (create p x es) ≡ given (entries-of x) (λ fs. search r fs)
+unfolding create
+created-inside [] r x es d f = absurd (d refl)
+created-inside (n ∷ []) [] x es d f = absurd (f refl)
+created-inside (n ∷ []) (k ∷ ks) x es d f = search-under n k ks x es
+created-inside (n ∷ m ∷ ns) r x es d f =
+    let fs = or-empty (context-at n es) in
+    search-under n m (ns ++ r) (v-context (create (m ∷ ns) x fs)) es ∙ created-inside (m ∷ ns) r x fs not-empty f
+
+pub created-way : (q r : List ℕ) (x : Val) (es : Entries) → (q ≡ [] → ⊥) → (r ≡ [] → ⊥) → search q (create (q ++ r) x es) ≡ some (v-context (create r x (or-empty (given (search q es) entries-of))))
+unfolding search create
+created-way [] r x es d f = absurd (d refl)
+created-way (n ∷ []) [] x es d f = absurd (f refl)
+created-way (n ∷ []) (k ∷ ks) x es d f = value-insert n (v-context (create (k ∷ ks) x (or-empty (context-at n es)))) es
+created-way (n ∷ m ∷ ns) r x es d f =
+    let fs = or-empty (context-at n es) in
+    search-under n m ns (v-context (create (m ∷ (ns ++ r)) x fs)) es ∙ created-way (m ∷ ns) r x fs not-empty f
+    ∙ ap (λ (o : Option Val). some (v-context (create r x (or-empty (given o entries-of))))) (search-or-empty (m ∷ ns) (context-at n es))
+
+-- ---- apply
+mapped-none : {X Y : Type 0} (f : X → Y) (o : Option X) → mapped f o ≡ none → o ≡ none
+mapped-none f none e = refl
+mapped-none f (some x) e = absurd (none-some (sym e))
+
+-- the rest of a path applied to the context on the way
+abbrev onward : ℕ → ℕ → List ℕ → Val → Entries → Option Entries → Option Entries
+onward n m ns x es o = given o (λ fs. mapped (λ gs. insert n (v-context gs) es) (apply (m ∷ ns) x fs))
+
+pub apply-create : (p : List ℕ) (x : Val) (es fs : Entries) → apply p x es ≡ some fs → fs ≡ create p x es
+unfolding apply create
+apply-create [] x es fs e = sym (some-same e)
+apply-create (n ∷ []) x es fs e = sym (some-same e)
+apply-create (n ∷ m ∷ ns) x es fs e = by (value-of n es) (λ gs hs z. apply-create (m ∷ ns) x gs hs z) e
+  where
+    on : (o : Option Entries) → ((gs hs : Entries) → apply (m ∷ ns) x gs ≡ some hs → hs ≡ create (m ∷ ns) x gs) → onward n m ns x es o ≡ some fs → fs ≡ insert n (v-context (create (m ∷ ns) x (or-empty o))) es
+    on none ih z = absurd (none-some z)
+    on (some gs) ih z =
+        let h = mapped-is (λ hs. insert n (v-context hs) es) (apply (m ∷ ns) x gs) fs z in
+        h .2 ∙ ap (λ hs. insert n (v-context hs) es) (ih gs (h .0) (h .1))
+
+    by : (o : Option Val) → ((gs hs : Entries) → apply (m ∷ ns) x gs ≡ some hs → hs ≡ create (m ∷ ns) x gs) → onward n m ns x es (on-the-way o) ≡ some fs → fs ≡ insert n (v-context (create (m ∷ ns) x (or-empty (given o entries-of)))) es
+    by none ih z = on (some no-entries) ih z
+    by (some v) ih z = on (entries-of v) ih z
+
+-- a value on the way is no context
+pub record Blocked (p : List ℕ) (es : Entries) : Type 0 where
+  pub before : List ℕ
+  pub after : List ℕ
+  pub parts : p ≡ before ++ after
+  pub goes-on : after ≡ [] → ⊥
+  pub v : Val
+  pub is-there : search before es ≡ some v
+  pub no-context : entries-of v ≡ none
+
+search-in : (n : ℕ) (p : List ℕ) (fs es : Entries) (v : Val) → context-at n es ≡ some fs → search p fs ≡ some v → search (n ∷ p) es ≡ some v
+unfolding search
+search-in n [] fs es v c e = absurd (none-some e)
+search-in n (m ∷ ns) fs es v c e = ap (λ o. given o (λ gs. search (m ∷ ns) gs)) c ∙ e
+
+blocked-in : (n : ℕ) (p : List ℕ) (fs es : Entries) → context-at n es ≡ some fs → Blocked p fs → Blocked (n ∷ p) es
+blocked-in n p fs es c B =
+    record {
+      before = n ∷ B .before;
+      after = B .after;
+      parts = ap (λ q. n ∷ q) (B .parts);
+      goes-on = B .goes-on;
+      v = B .v;
+      is-there = search-in n (B .before) fs es (B .v) c (B .is-there);
+      no-context = B .no-context;
+    }
+
+none-blocked : (p : List ℕ) → Blocked p no-entries → ⊥
+none-blocked p B = none-some (sym (search-none (B .before)) ∙ B .is-there)
+
+blocked-here : (n m : ℕ) (ns : List ℕ) (es : Entries) (v : Val) → value-of n es ≡ some v → entries-of v ≡ none → Blocked (n ∷ m ∷ ns) es
+unfolding search
+blocked-here n m ns es v e h = record { before = n ∷ []; after = m ∷ ns; parts = refl; goes-on = not-empty; v = v; is-there = e; no-context = h }
+
+pub apply-refuses : (p : List ℕ) (x : Val) (es : Entries) → apply p x es ≡ none → Blocked p es
+unfolding apply
+apply-refuses [] x es e = absurd (none-some (sym e))
+apply-refuses (n ∷ []) x es e = absurd (none-some (sym e))
+apply-refuses (n ∷ m ∷ ns) x es e = by (value-of n es) refl (λ fs z. apply-refuses (m ∷ ns) x fs z) e
+  where
+    rest : (fs : Entries) → onward n m ns x es (some fs) ≡ none → apply (m ∷ ns) x fs ≡ none
+    rest fs z = mapped-none (λ gs. insert n (v-context gs) es) (apply (m ∷ ns) x fs) z
+
+    on : (v : Val) → value-of n es ≡ some v → (o : Option Entries) → entries-of v ≡ o → ((fs : Entries) → apply (m ∷ ns) x fs ≡ none → Blocked (m ∷ ns) fs) → onward n m ns x es o ≡ none → Blocked (n ∷ m ∷ ns) es
+    on v q none r ih z = blocked-here n m ns es v q r
+    on v q (some fs) r ih z = blocked-in n (m ∷ ns) fs es (ap (λ (o : Option Val). given o entries-of) q ∙ r) (ih fs (rest fs z))
+
+    by : (o : Option Val) → value-of n es ≡ o → ((fs : Entries) → apply (m ∷ ns) x fs ≡ none → Blocked (m ∷ ns) fs) → onward n m ns x es (on-the-way o) ≡ none → Blocked (n ∷ m ∷ ns) es
+    by none q ih z = absurd (none-blocked (m ∷ ns) (ih no-entries (rest no-entries z)))
+    by (some v) q ih z = on v q (entries-of v) refl ih z
+
+refuses-at : (q r : List ℕ) (x : Val) (es : Entries) (v : Val) → (r ≡ [] → ⊥) → search q es ≡ some v → entries-of v ≡ none → apply (q ++ r) x es ≡ none
+unfolding search apply
+refuses-at [] r x es v d e h = absurd (none-some e)
+refuses-at (n ∷ []) [] x es v d e h = absurd (d refl)
+refuses-at (n ∷ []) (m ∷ ns) x es v d e h = ap (λ (o : Option Val). onward n m ns x es (on-the-way o)) e ∙ ap (λ (o : Option Entries). onward n m ns x es o) h
+refuses-at (n ∷ m ∷ ns) r x es v d e h = by (value-of n es) (λ fs z. refuses-at (m ∷ ns) r x fs v d z h) e
+  where
+    on : (o : Option Entries) → ((fs : Entries) → search (m ∷ ns) fs ≡ some v → apply (m ∷ (ns ++ r)) x fs ≡ none) → given o (λ fs. search (m ∷ ns) fs) ≡ some v → onward n m (ns ++ r) x es o ≡ none
+    on none ih z = refl
+    on (some fs) ih z = ap (mapped (λ gs. insert n (v-context gs) es)) (ih fs z)
+
+    by : (o : Option Val) → ((fs : Entries) → search (m ∷ ns) fs ≡ some v → apply (m ∷ (ns ++ r)) x fs ≡ none) → given (given o entries-of) (λ fs. search (m ∷ ns) fs) ≡ some v → onward n m (ns ++ r) x es (on-the-way o) ≡ none
+    by none ih z = absurd (none-some z)
+    by (some w) ih z = on (entries-of w) ih z
+
+pub refuses-apply : (p : List ℕ) (x : Val) (es : Entries) → Blocked p es → apply p x es ≡ none
+refuses-apply p x es B = ap (λ q. apply q x es) (B .parts) ∙ refuses-at (B .before) (B .after) x es (B .v) (B .goes-on) (B .is-there) (B .no-context)
+
+-- ---- one name
+pub set-create : (n : ℕ) (x : Val) (es : Entries) → setEntry n x es ≡ create (n ∷ []) x es
+unfolding create
+set-create n x es = refl
+
+pub null-create : (n : ℕ) (es : Entries) → setNull n es ≡ create (n ∷ []) (nothing 0) es
+unfolding create
+null-create n es = refl
+
+-- ---- move
+pub move-absent : (n parent : ℕ) (es : Entries) → value-of n es ≡ none → moveEntry n parent es ≡ es
+move-absent n parent es e = ap (moved n parent es) e
+
+insert-first : (n k : ℕ) (x : Val) (es : Entries) → WfEntries es k → n < k → insert n x es ≡ entry n x es
+unfolding WfEntries insert
+insert-first n k x no-entries w h = refl
+insert-first n k x (entry m v es) w h =
+    let d : n ≡ m → ⊥ = λ e. omega (arith, w .0) in
+    ap (λ q. cond q (entry n x es) (cond (ltb n m) (entry n x (entry m v es)) (entry m v (insert n x es)))) (ne-eqb n m d)
+    ∙ ap (λ q. cond q (entry n x (entry m v es)) (entry m v (insert n x es))) (lt-ltb n m (omega (arith, w .0)))
+
+-- what is inserted stands in place of what was removed
+insert-removed : (n k : ℕ) (x : Val) (es : Entries) → WfEntries es k → insert n x (remove n es) ≡ insert n x es
+unfolding WfEntries insert remove
+insert-removed n k x no-entries w = refl
+insert-removed n k x (entry m v es) w = by (insert-removed n (m + 1) x es (w .1 .1 .1)) (eqb n m) refl (ltb n m) refl
+  where
+    by : insert n x (remove n es) ≡ insert n x es → (q : Bool) → eqb n m ≡ q → (r : Bool) → ltb n m ≡ r
+        → insert n x (cond q es (entry m v (remove n es))) ≡ cond q (entry n x es) (cond r (entry n x (entry m v es)) (entry m v (insert n x es)))
+    by ih true e r f = let z = eqb-true n m e in insert-first n (m + 1) x es (w .1 .1 .1) (omega arith)
+    by ih false e true f =
+        let z = ltb-true n m f in
+        ap (λ q. cond q (entry n x (remove n es)) (cond (ltb n m) (entry n x (entry m v (remove n es))) (entry m v (insert n x (remove n es))))) e
+        ∙ ap (λ q. cond q (entry n x (entry m v (remove n es))) (entry m v (insert n x (remove n es)))) f
+        ∙ ap (λ fs. entry n x (entry m v fs)) (remove-absent n es (absent n (m + 1) es (w .1 .1 .1) (omega arith)))
+    by ih false e false f =
+        ap (λ q. cond q (entry n x (remove n es)) (cond (ltb n m) (entry n x (entry m v (remove n es))) (entry m v (insert n x (remove n es))))) e
+        ∙ ap (λ q. cond q (entry n x (entry m v (remove n es))) (entry m v (insert n x (remove n es)))) f
+        ∙ ap (entry m v) ih
+
+pub move-nests : (n k : ℕ) (x : Val) (es : Entries) → WfEntries es k → value-of n es ≡ some x → moveEntry n n es ≡ insert n (v-context (entry n x no-entries)) es
+unfolding create insert
+move-nests n k x es w e =
+    ap (moved n n es) e
+    ∙ ap (λ (o : Option Val). insert n (v-context (insert n x (or-empty (given o entries-of)))) (remove n es)) (value-remove n k es w)
+    ∙ insert-removed n k (v-context (entry n x no-entries)) es w
+
+pub move-found : (n parent : ℕ) (x : Val) (es : Entries) → value-of n es ≡ some x → search (parent ∷ n ∷ []) (moveEntry n parent es) ≡ some x
+move-found n parent x es e = ap (λ o. search (parent ∷ n ∷ []) (moved n parent es o)) e ∙ created-found (parent ∷ n ∷ []) x (remove n es) not-empty
+
+moved-other : (m n parent : ℕ) (x : Val) (es : Entries) → (m ≡ parent → ⊥) → value-of m (moved n parent es (some x)) ≡ value-of m (remove n es)
+unfolding create
+moved-other m n parent x es d = value-insert-other m parent (v-context (create (n ∷ []) x (or-empty (context-at parent (remove n es))))) (remove n es) d
+
+pub move-gone : (n parent k : ℕ) (es : Entries) → WfEntries es k → (n ≡ parent → ⊥) → value-of n (moveEntry n parent es) ≡ none
+move-gone n parent k es w d = by (value-of n es) refl
+  where
+    by : (o : Option Val) → value-of n es ≡ o → value-of n (moved n parent es o) ≡ none
+    by none e = e
+    by (some x) e = moved-other n n parent x es d ∙ value-remove n k es w
+
+pub move-other : (m n parent : ℕ) (es : Entries) → (m ≡ n → ⊥) → (m ≡ parent → ⊥) → value-of m (moveEntry n parent es) ≡ value-of m es
+move-other m n parent es d f = by (value-of n es)
+  where
+    by : (o : Option Val) → value-of m (moved n parent es o) ≡ value-of m es
+    by none = refl
+    by (some x) = moved-other m n parent x es f ∙ value-remove-other m n es d
+
+-- ---- remove
+pub removed-gone : (n k : ℕ) (es : Entries) → WfEntries es k → value-of n (removeEntry n es) ≡ none
+removed-gone n k es w = value-remove n k es w
+
+pub removed-other : (m n : ℕ) (es : Entries) → (m ≡ n → ⊥) → value-of m (removeEntry n es) ≡ value-of m es
+removed-other m n es d = value-remove-other m n es d
+
+-- ---- in one place
+pub record ContextUpdates : Type 0 where
+  -- create_entries: the value is found at the path
+  pub created-found : (p : List ℕ) (x : Val) (es : Entries) → (p ≡ [] → ⊥) → search p (create p x es) ≡ some x
+  -- every place that is not on the path is as before
+  pub created-other : (q p : List ℕ) (x : Val) (es : Entries) → Apart q p → search q (create p x es) ≡ search q es
+  -- below the path: what stands in the value
+  pub created-inside : (p r : List ℕ) (x : Val) (es : Entries) → (p ≡ [] → ⊥) → (r ≡ [] → ⊥) → search (p ++ r) (create p x es) ≡ given (entries-of x) (λ fs. search r fs)
+  -- on the way: a context; the old one's entries, or none where a non-context is replaced, with the rest of the path created in it
+  pub created-way : (q r : List ℕ) (x : Val) (es : Entries) → (q ≡ [] → ⊥) → (r ≡ [] → ⊥) → search q (create (q ++ r) x es) ≡ some (v-context (create r x (or-empty (given (search q es) entries-of))))
+  -- apply_entries: where it does not refuse, the same
+  pub apply-create : (p : List ℕ) (x : Val) (es fs : Entries) → apply p x es ≡ some fs → fs ≡ create p x es
+  -- 16 only where a value on the way is no context
+  pub apply-refuses : (p : List ℕ) (x : Val) (es : Entries) → apply p x es ≡ none → Blocked p es
+  -- and there always
+  pub refuses-apply : (p : List ℕ) (x : Val) (es : Entries) → Blocked p es → apply p x es ≡ none
+  -- set_entry inserts: a path of one name
+  pub set-create : (n : ℕ) (x : Val) (es : Entries) → setEntry n x es ≡ create (n ∷ []) x es
+  -- set_null: the same with Null of trace 0
+  pub null-create : (n : ℕ) (es : Entries) → setNull n es ≡ create (n ∷ []) (nothing 0) es
+  -- move_entry: an absent name copies
+  pub move-absent : (n parent : ℕ) (es : Entries) → value-of n es ≡ none → moveEntry n parent es ≡ es
+  -- equal names nest
+  pub move-nests : (n k : ℕ) (x : Val) (es : Entries) → WfEntries es k → value-of n es ≡ some x → moveEntry n n es ≡ insert n (v-context (entry n x no-entries)) es
+  -- otherwise the value is found at [parent, name]
+  pub move-found : (n parent : ℕ) (x : Val) (es : Entries) → value-of n es ≡ some x → search (parent ∷ n ∷ []) (moveEntry n parent es) ≡ some x
+  -- a name other than the parent is gone
+  pub move-gone : (n parent k : ℕ) (es : Entries) → WfEntries es k → (n ≡ parent → ⊥) → value-of n (moveEntry n parent es) ≡ none
+  -- every name but these two is as before
+  pub move-other : (m n parent : ℕ) (es : Entries) → (m ≡ n → ⊥) → (m ≡ parent → ⊥) → value-of m (moveEntry n parent es) ≡ value-of m es
+  -- remove_entry: the name is gone
+  pub removed-gone : (n k : ℕ) (es : Entries) → WfEntries es k → value-of n (removeEntry n es) ≡ none
+  -- every other name is as before
+  pub removed-other : (m n : ℕ) (es : Entries) → (m ≡ n → ⊥) → value-of m (removeEntry n es) ≡ value-of m es
+
+pub contextUpdates : ContextUpdates
+contextUpdates =
+    record {
+      created-found = created-found;
+      created-other = created-other;
+      created-inside = created-inside;
+      created-way = created-way;
+      apply-create = apply-create;
+      apply-refuses = apply-refuses;
+      refuses-apply = refuses-apply;
+      set-create = set-create;
+      null-create = null-create;
+      move-absent = move-absent;
+      move-nests = move-nests;
+      move-found = move-found;
+      move-gone = move-gone;
+      move-other = move-other;
+      removed-gone = removed-gone;
+      removed-other = removed-other;
+    }
