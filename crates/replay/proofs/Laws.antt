@@ -16,7 +16,7 @@ use Rattle.replay.specs.declared.Number.{Number}
 use Rattle.replay.specs.declared.Number.the-variants as number
 use Rattle.replay.specs.declared.Answer.the-variants as answer
 use Rattle.replay.specs.Lines.{Ends, Behind}
-use Rattle.replay.specs.Fields.{digitOf, numberFrom, numberOf, accepted, refused, expectedOf, byteOf, Spells, Decodes}
+use Rattle.replay.specs.Fields.{digitOf, numberFrom, numberOf, accepted, refused, expectedOf, byteOf, Spells, Decodes, nameAt, Names}
 
 -- ---- places
 
@@ -127,3 +127,11 @@ module _ (xs ys : List ℕ) (a : ℕ) (h : a ≤ length xs) (e : length ys ≡ l
   part-spells text n m l k all j q =
       ap (λ (zs : List ℕ). getD zs j 0) (drop-at (take a xs) (ys ++ drop (length xs - a) (drop a xs)) a (length-take-le a xs h)) ∙
       List·getD-append ys (drop (length xs - a) (drop a xs)) 0 j (omega (arith, part-room)) ∙ all j (omega arith)
+
+-- ---- names
+
+pub names-more : (s names : List ℕ) (k x : ℕ) → k < length names → x ≡ nameAt (k + k) s → Names s names k → Names s (set names k x) (k + 1)
+names-more s names k x h e all =
+    below-more (λ (j : ℕ). getD (set names k x) j 0 ≡ nameAt (j + j) s) k
+    (λ j l. getD-set-other names k j x 0 (λ e. omega arith) ∙ all j l)
+    (getD-set-same names k x 0 h ∙ e)

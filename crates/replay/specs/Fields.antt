@@ -10,6 +10,7 @@ use Rattle.replay.specs.declared.Number.the-variants as number
 use Rattle.replay.specs.declared.Answer.{Answer}
 use Rattle.replay.specs.declared.Answer.the-variants as answer
 use Rattle.replay.specs.declared.Taken.{Taken}
+use Rattle.replay.specs.declared.Path.{Path}
 
 abbrev pub pick : {A : Type 0} → Bool → A → A → A
 pick true a b = a
@@ -65,3 +66,17 @@ pub record Takes (line old : List ℕ) (done : Taken) (new : List ℕ) (r : Take
   pub kept : take (done .used) new ≡ take (done .used) old
   pub spelled :
       r .good ≡ true → Spells (take (r .end - (done .end + 1)) (drop (done .end + 1) line)) (drop (done .used) new) (r .used - done .used)
+
+-- the name that two bytes say, the low one first
+abbrev pub nameAt : ℕ → List ℕ → ℕ
+nameAt at s = getD s at 0 + getD s (at + 1) 0 * 256
+
+-- the first n of names are those that the bytes of s say
+abbrev pub Names : List ℕ → List ℕ → ℕ → Type 0
+Names s names n = (k : ℕ) → k < n → getD names k 0 ≡ nameAt (k + k) s
+
+-- what reading a path ensures: its names stand at the start, and all of s is read where it is one
+pub record Reads (s names : List ℕ) (r : Path) : Type 0 where
+  pub fits : r .size ≤ length names
+  pub whole : r .good ≡ true → r .size + r .size ≡ length s
+  pub spelled : Names s names (r .size)

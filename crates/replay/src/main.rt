@@ -2,13 +2,14 @@
 // the same as the stored ones.
 //
 // A list has a line `: K TITLE` for each group, K the number of a call, and below it a line `ANSWER ARG ..` for each case. ANSWER is
-// a level, 1 for yes, 0 for no, a length written, or `!` and the number of a refusal; ARG is upper-case hex, or `.` for no bytes. Calls
-// that build have lengths in decimal behind the arguments, and the bytes that are written. Each line has a line end.
+// a level, 1 for yes, 0 for no, a count, a length written, a part found as its place * 65536 + its length (0 for none), or `!` and the
+// number of a refusal; ARG is upper-case hex, or `.` for no bytes. A name has two bytes, the low one first, and a path two bytes a
+// name. Calls that build have lengths in decimal behind the arguments, and the bytes that are written. Each line has a line end.
 ghost use mathlib.Core.Path.{_≡_};
-ghost use Prim.Native.Nat.{_+_, _<_, _≤_, _^_};
+ghost use Prim.Native.Nat.{_+_, _*_, _<_, _≤_, _^_};
 ghost use lib.ListN.{length};
 ghost use Rattle.replay.specs.Lines.{Ends, Behind, Whole, Within};
-ghost use Rattle.replay.specs.Fields.{digitOf, numberOf, expectedOf, Decodes, Takes};
+ghost use Rattle.replay.specs.Fields.{digitOf, numberOf, expectedOf, Decodes, Takes, nameAt, Reads};
 ghost use Rattle.replay.specs.Tallies.{Judges, Both, sum, tallyOf};
 use form::Checked;
 use libc::STDIN_FILENO;
@@ -23,6 +24,9 @@ const SHOWN: usize = 10;
 const LINE: usize = 200;
 
 const TITLE: usize = 100;
+
+// The most names of a path that a line says.
+const NAMES: usize = 64;
 
 // What an output holds before a call.
 const MARK: u8 = 0xA5;
@@ -72,6 +76,12 @@ struct Counted {
     good: bool,
     end: usize,
     value: usize,
+}
+
+// A path that was read: whether the bytes are one, and how many names it has.
+struct Path {
+    good: bool,
+    size: usize,
 }
 
 // A group's call, where its title stands, and where its cases begin.
@@ -259,6 +269,47 @@ fn take_field(line: &[u8], done: Taken, room: &mut [u8]) -> Taken
     }
 }
 
+// The name that two bytes say.
+fn name_of(low: u8, high: u8) -> u16
+    ensures { λ r. ⌜ r ≡ low + high * 256 ⌝ }
+{
+    (low as u16) + (high as u16) * 256
+}
+
+// The name that stands at `at`.
+fn name_at(s: &[u8], at: usize) -> u16
+    requires { ⌜ at + 1 < length (now s) ⌝ }
+    ensures { λ r. ⌜ r ≡ nameAt at (now (s .entry)) ⌝ }
+{
+    name_of(s[at], s[at + 1])
+}
+
+// Puts the names that all of `s` says at the start of `names`; half a name, or more names than fit, are no path.
+fn read_path(s: &[u8], names: &mut [u16]) -> Path
+    ensures { λ r. ⌜ Reads (now (s .entry)) (now (names .exit)) r ⌝ }
+{
+    let none = Path {
+        good: false,
+        size: 0,
+    };
+    let n = s.len() / 2;
+    if n + n < s.len() {
+        return none;
+    }
+    if names.len() < n {
+        return none;
+    }
+    let mut k = 0;
+    while k < n {
+        names[k] = name_at(s, k + k);
+        k += 1;
+    }
+    Path {
+        good: true,
+        size: n,
+    }
+}
+
 // Nothing is taken yet, and the first field ends at `end`.
 fn begin(end: usize) -> Taken
     ensures { λ r. ⌜ (r .end ≡ end) × (r .used ≡ 0) ⌝ }
@@ -322,6 +373,40 @@ fn wrote(w: form::Written) -> Answer {
     }
 }
 
+// The answer of a call that finds a part: its place and its length in one number, 0 for none.
+fn part_of(f: paths::Found) -> Answer {
+    match f {
+        paths::Found::Part { place, size } => {
+            if place > 65535 {
+                return Answer::None;
+            }
+            if size > 65535 {
+                return Answer::None;
+            }
+            Answer::Accepted(place * 65536 + size)
+        }
+        paths::Found::None => Answer::Accepted(0),
+        paths::Found::Refused(n) => Answer::Refused(n as usize),
+    }
+}
+
+// The answer of a call that counts.
+fn count_of(c: paths::Count) -> Answer {
+    match c {
+        paths::Count::Entries(n) => Answer::Accepted(n),
+        paths::Count::Refused(n) => Answer::Refused(n as usize),
+    }
+}
+
+// There is an answer.
+fn is_known(a: Answer) -> bool {
+    match a {
+        Answer::Accepted(_) => true,
+        Answer::Refused(_) => true,
+        Answer::None => false,
+    }
+}
+
 // Runs a question on a value.
 fn ask(call: usize, v: &[u8]) -> Answer {
     match call {
@@ -359,6 +444,45 @@ fn ask_byte(call: usize, a: &[u8]) -> Answer {
     }
 }
 
+// Runs a question on a context.
+fn ask_context(call: usize, c: &[u8]) -> Answer {
+    match call {
+        31 => part_of(paths::first_place(c)),
+        35 => judged(paths::is_empty(c)),
+        36 => count_of(paths::len(c)),
+        _ => Answer::None,
+    }
+}
+
+// Runs a question on a context and a name, which is all of `a`.
+fn ask_name(call: usize, c: &[u8], a: &[u8]) -> Answer {
+    if a.len() != 2 {
+        return Answer::None;
+    }
+    let name = name_at(a, 0);
+    match call {
+        29 => part_of(paths::entry_place(c, name)),
+        32 => judged(paths::contains_entry(c, name)),
+        34 => judged(paths::is_context(c, name)),
+        _ => Answer::None,
+    }
+}
+
+// Runs a question on a context and a path, which is all of `a`.
+fn ask_path(call: usize, c: &[u8], a: &[u8]) -> Answer {
+    let mut names = [0u16; NAMES];
+    let path = read_path(a, &mut names);
+    let n = path.size;
+    if !path.good {
+        return Answer::None;
+    }
+    match call {
+        30 => part_of(paths::search_place(c, &names[0..n])),
+        33 => judged(paths::contains_deep(c, &names[0..n])),
+        _ => Answer::None,
+    }
+}
+
 // Runs a call of one argument.
 fn run(call: usize, a: &[u8]) -> Answer {
     match call {
@@ -369,16 +493,19 @@ fn run(call: usize, a: &[u8]) -> Answer {
         16..=20 => ask(call, a),
         21..=24 => ask_kind(call, a),
         25..=27 => ask_byte(call, a),
+        31 | 35 | 36 => ask_context(call, a),
         _ => Answer::None,
     }
 }
 
-// Runs a call that judges two arguments.
+// Runs a call that judges two arguments, or finds a part of the first one.
 fn run_two(call: usize, a: &[u8], b: &[u8]) -> Answer {
     match call {
         3 => judged(types::is_conformant(a, b)),
         4 => judged(types::instance_of(a, b)),
         10 => judged(values::is_conformant(a, b)),
+        29 | 32 | 34 => ask_name(call, a, b),
+        30 | 33 => ask_path(call, a, b),
         _ => Answer::None,
     }
 }
@@ -425,7 +552,7 @@ fn one(line: &[u8], call: usize, room: &mut [u8]) -> Verdict {
     }
 }
 
-// A case of a call that judges two arguments: `ANSWER ARG ARG`.
+// A case of a call that judges two arguments, or finds a part of the first one: `ANSWER ARG ARG`.
 fn two(line: &[u8], call: usize, room: &mut [u8]) -> Verdict {
     let first = field_end(line, 0);
     let want = expected(&line[..first]);
@@ -708,15 +835,177 @@ fn typing(line: &[u8], call: usize, room: &mut [u8]) -> Verdict {
     }
 }
 
+// Runs a call that updates a context at a path, which is all of `a`.
+fn update_path(call: usize, c: &[u8], a: &[u8], v: &[u8], out: &mut [u8]) -> Answer {
+    let mut names = [0u16; NAMES];
+    let path = read_path(a, &mut names);
+    let n = path.size;
+    if !path.good {
+        return Answer::None;
+    }
+    match call {
+        37 => wrote(context::create_entries(c, &names[0..n], v, out)),
+        38 => wrote(context::apply_entries(c, &names[0..n], v, out)),
+        _ => Answer::None,
+    }
+}
+
+// Runs a call that builds one context of two.
+fn join(call: usize, c: &[u8], other: &[u8], out: &mut [u8]) -> Answer {
+    match call {
+        39 => wrote(context::zip(c, other, out)),
+        40 => wrote(context::overwrite(c, other, out)),
+        _ => Answer::None,
+    }
+}
+
+// Moves an entry into the one whose name is all of `b`.
+fn move_to(c: &[u8], name: u16, b: &[u8], out: &mut [u8]) -> Answer {
+    if b.len() != 2 {
+        return Answer::None;
+    }
+    wrote(context::move_entry(c, name, name_at(b, 0), out))
+}
+
+// Runs a call that updates a context at a name, which is all of `a`.
+fn update_name(call: usize, c: &[u8], a: &[u8], b: &[u8], out: &mut [u8]) -> Answer {
+    if a.len() != 2 {
+        return Answer::None;
+    }
+    let name = name_at(a, 0);
+    match call {
+        41 => move_to(c, name, b, out),
+        42 => wrote(context::set_entry(c, name, b, out)),
+        43 => wrote(context::remove_entry(c, name, out)),
+        44 => wrote(context::set_null(c, name, out)),
+        _ => Answer::None,
+    }
+}
+
+// Runs a call that updates a context, of one argument more or two, with the output that is lent.
+fn update(call: usize, c: &[u8], a: &[u8], b: &[u8], out: &mut [u8]) -> Answer {
+    match call {
+        37 | 38 => update_path(call, c, a, b, out),
+        39 | 40 => join(call, c, a, out),
+        41..=44 => update_name(call, c, a, b, out),
+        _ => Answer::None,
+    }
+}
+
+// The same where the answer is, and the output too.
+fn updated(
+    call: usize,
+    want: Answer,
+    c: &[u8],
+    a: &[u8],
+    b: &[u8],
+    m: usize,
+    bytes: &[u8],
+    out: &mut [u8],
+) -> Verdict {
+    if out.len() < m {
+        return Verdict::Unreadable;
+    }
+    let got = update(call, c, a, b, &mut out[0..m]);
+    if out.len() < m {
+        return Verdict::Unreadable;
+    }
+    if !is_known(got) {
+        return Verdict::Unreadable;
+    }
+    if holds(&out[0..m], bytes) {
+        compare(want, got)
+    } else {
+        Verdict::Different
+    }
+}
+
+// Lends an output of `m` bytes to a call on the parts of `all` up to `w`, `x`, `y` and `z`.
+fn lend_update(
+    call: usize,
+    want: Answer,
+    all: &[u8],
+    w: usize,
+    x: usize,
+    y: usize,
+    z: usize,
+    m: usize,
+) -> Verdict
+    requires { ⌜ (w ≤ x) × ((x ≤ y) × ((y ≤ z) × (z ≤ length (now all)))) ⌝ }
+{
+    let mut out = [MARK; 65536];
+    updated(
+        call,
+        want,
+        &all[0..w],
+        &all[w..x],
+        &all[x..y],
+        m,
+        &all[y..z],
+        &mut out,
+    )
+}
+
+// A case of a call that updates a context, of one argument more: `ANSWER ARG ARG ROOM [OUT]`.
+fn update_one(line: &[u8], call: usize, room: &mut [u8]) -> Verdict {
+    let first = field_end(line, 0);
+    let want = expected(&line[..first]);
+    let c = take_field(line, begin(first), room);
+    let a = take_field(line, c, room);
+    let n = take_size(line, a);
+    let o = take_output(line, n.at, room);
+    if is_whole(line, o) {
+        lend_update(
+            call,
+            want,
+            room,
+            c.used,
+            a.used,
+            a.used,
+            o.used,
+            n.lent.output,
+        )
+    } else {
+        Verdict::Unreadable
+    }
+}
+
+// A case of a call that updates a context, of two arguments more: `ANSWER ARG ARG ARG ROOM [OUT]`.
+fn update_two(line: &[u8], call: usize, room: &mut [u8]) -> Verdict {
+    let first = field_end(line, 0);
+    let want = expected(&line[..first]);
+    let c = take_field(line, begin(first), room);
+    let a = take_field(line, c, room);
+    let b = take_field(line, a, room);
+    let n = take_size(line, b);
+    let o = take_output(line, n.at, room);
+    if is_whole(line, o) {
+        lend_update(
+            call,
+            want,
+            room,
+            c.used,
+            a.used,
+            b.used,
+            o.used,
+            n.lent.output,
+        )
+    } else {
+        Verdict::Unreadable
+    }
+}
+
 // A case, by its call.
 fn case(line: &[u8], call: usize, room: &mut [u8]) -> Verdict {
     match call {
-        1 | 2 | 8 | 9 | 16..=27 => one(line, call, room),
-        3 | 4 | 10 => two(line, call, room),
+        1 | 2 | 8 | 9 | 16..=27 | 31 | 35 | 36 => one(line, call, room),
+        3 | 4 | 10 | 29 | 30 | 32..=34 => two(line, call, room),
         5 | 6 => bound(line, call, room),
         7 | 28 => reduction(line, call, room),
         11 | 12 => typing(line, call, room),
         13..=15 => retrieved(line, call, room),
+        37 | 38 | 41 | 42 => update_two(line, call, room),
+        39 | 40 | 43 | 44 => update_one(line, call, room),
         _ => Verdict::Unreadable,
     }
 }

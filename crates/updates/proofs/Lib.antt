@@ -6,3 +6,4 @@ pub mod Merging
 pub mod Joining
 pub mod Theorems
 pub mod Formed
+pub mod Laws

@@ -1,3 +1,5 @@
+-- `context::apply_entries` meets its contract.
+-- Assumes nothing.
 use borrow.Author.Needs.{needs}
 use Rattle.context.proofs.apply_entries.Statement.{statement}
 use Rattle.context.proofs.apply_entries.Tie as tie
@@ -14,26 +16,6 @@ use Rattle.paths.proofs.Calling.{code-refused}
 use Rattle.context.specs.Calls.{givenOf}
 use Rattle.context.proofs.Calling.{Ready, ready, ready-context, ready-value, ready-small, apply-done, call-refused}
 
--- src/lib.rt:94:9
-refusal-requires : tie.Need-refusal-requires
-refusal-requires c κs = search needs
-
--- src/lib.rt:96:9
-returns : tie.Need-returns
-returns c = call-refused (givenOf (c .before .before .before .before .before .before .args .c .now) (length (c .before .before .before .before .before .before .args .path .now)) (c .before .before .before .before .before .before .args .v .now)) _ _ _ (code-refused _ _ (c .before .refusal .ensures) (c .if1 .taken))
-
--- src/lib.rt:98:5
-build-requires : tie.Need-build-requires
-build-requires c κs = (is-ok _ _ (ready-context (ready (c .before .before .before .before .before .before .before .args .c .now) (length (c .before .before .before .before .before .before .before .args .path .now)) (c .before .before .before .before .before .before .before .args .v .now) (c .before .before .refusal .result) (c .before .before .refusal .ensures) (c .before .if1 .left)) (bytes-of _ (c .before .before .before .before .before .before .shared-slice-known .given)) (bytes-of _ (c .before .before .before .before .shared-slice-known3 .given))), (is-ok _ _ (ready-value (ready (c .before .before .before .before .before .before .before .args .c .now) (length (c .before .before .before .before .before .before .before .args .path .now)) (c .before .before .before .before .before .before .before .args .v .now) (c .before .before .refusal .result) (c .before .before .refusal .ensures) (c .before .if1 .left)) (bytes-of _ (c .before .before .before .before .before .before .shared-slice-known .given)) (bytes-of _ (c .before .before .before .before .shared-slice-known3 .given))), ready-small (ready (c .before .before .before .before .before .before .before .args .c .now) (length (c .before .before .before .before .before .before .before .args .path .now)) (c .before .before .before .before .before .before .before .args .v .now) (c .before .before .refusal .result) (c .before .before .refusal .ensures) (c .before .if1 .left)) (bytes-of _ (c .before .before .before .before .before .before .shared-slice-known .given)) (bytes-of _ (c .before .before .before .before .shared-slice-known3 .given)) (c .before .before .before .before .before .before .before .args .path .now) refl))
-
--- src/lib.rt:91:1
-same-length : tie.Need-same-length
-same-length c = search needs
-
--- src/lib.rt:91:1
-returns-2 : tie.Need-returns-2
-returns-2 c = apply-done (c .before .before .before .before .before .before .before .before .before .before .args .c .now) (c .before .before .before .before .before .before .before .before .before .before .args .path .now) (c .before .before .before .before .before .before .before .before .before .before .args .v .now) _ _ _ (ready (c .before .before .before .before .before .before .before .before .before .before .args .c .now) (length (c .before .before .before .before .before .before .before .before .before .before .args .path .now)) (c .before .before .before .before .before .before .before .before .before .before .args .v .now) (c .before .before .before .before .before .refusal .result) (c .before .before .before .before .before .refusal .ensures) (c .before .before .before .before .if1 .left)) (c .before .before .build .ensures _ _ (ready-context (ready (c .before .before .before .before .before .before .before .before .before .before .args .c .now) (length (c .before .before .before .before .before .before .before .before .before .before .args .path .now)) (c .before .before .before .before .before .before .before .before .before .before .args .v .now) (c .before .before .before .before .before .refusal .result) (c .before .before .before .before .before .refusal .ensures) (c .before .before .before .before .if1 .left)) (bytes-of _ (c .before .before .before .before .before .before .before .before .before .shared-slice-known .given)) (bytes-of _ (c .before .before .before .before .before .before .before .shared-slice-known3 .given))) (ready-value (ready (c .before .before .before .before .before .before .before .before .before .before .args .c .now) (length (c .before .before .before .before .before .before .before .before .before .before .args .path .now)) (c .before .before .before .before .before .before .before .before .before .before .args .v .now) (c .before .before .before .before .before .refusal .result) (c .before .before .before .before .before .refusal .ensures) (c .before .before .before .before .if1 .left)) (bytes-of _ (c .before .before .before .before .before .before .before .before .before .shared-slice-known .given)) (bytes-of _ (c .before .before .before .before .before .before .before .shared-slice-known3 .given))))
-
 pub apply-entries-spec : {M : Type 1} → statement M
 apply-entries-spec =
-    tie.close (tie.spec refusal-requires returns build-requires same-length returns-2)
+    tie.close (tie.spec (λ c κs. search needs) (λ c. call-refused (givenOf (c .before .before .before .before .before .before .args .c .now) (length (c .before .before .before .before .before .before .args .path .now)) (c .before .before .before .before .before .before .args .v .now)) _ _ _ (code-refused _ _ (c .before .refusal .ensures) (c .if1 .taken))) (λ c κs. (is-ok _ _ (ready-context (ready (c .before .before .before .before .before .before .before .args .c .now) (length (c .before .before .before .before .before .before .before .args .path .now)) (c .before .before .before .before .before .before .before .args .v .now) (c .before .before .refusal .result) (c .before .before .refusal .ensures) (c .before .if1 .left)) (bytes-of _ (c .before .before .before .before .before .before .shared-slice-known .given)) (bytes-of _ (c .before .before .before .before .shared-slice-known3 .given))), (is-ok _ _ (ready-value (ready (c .before .before .before .before .before .before .before .args .c .now) (length (c .before .before .before .before .before .before .before .args .path .now)) (c .before .before .before .before .before .before .before .args .v .now) (c .before .before .refusal .result) (c .before .before .refusal .ensures) (c .before .if1 .left)) (bytes-of _ (c .before .before .before .before .before .before .shared-slice-known .given)) (bytes-of _ (c .before .before .before .before .shared-slice-known3 .given))), ready-small (ready (c .before .before .before .before .before .before .before .args .c .now) (length (c .before .before .before .before .before .before .before .args .path .now)) (c .before .before .before .before .before .before .before .args .v .now) (c .before .before .refusal .result) (c .before .before .refusal .ensures) (c .before .if1 .left)) (bytes-of _ (c .before .before .before .before .before .before .shared-slice-known .given)) (bytes-of _ (c .before .before .before .before .shared-slice-known3 .given)) (c .before .before .before .before .before .before .before .args .path .now) refl))) (λ c. search needs) (λ c. apply-done (c .before .before .before .before .before .before .before .before .before .before .args .c .now) (c .before .before .before .before .before .before .before .before .before .before .args .path .now) (c .before .before .before .before .before .before .before .before .before .before .args .v .now) _ _ _ (ready (c .before .before .before .before .before .before .before .before .before .before .args .c .now) (length (c .before .before .before .before .before .before .before .before .before .before .args .path .now)) (c .before .before .before .before .before .before .before .before .before .before .args .v .now) (c .before .before .before .before .before .refusal .result) (c .before .before .before .before .before .refusal .ensures) (c .before .before .before .before .if1 .left)) (c .before .before .build .ensures _ _ (ready-context (ready (c .before .before .before .before .before .before .before .before .before .before .args .c .now) (length (c .before .before .before .before .before .before .before .before .before .before .args .path .now)) (c .before .before .before .before .before .before .before .before .before .before .args .v .now) (c .before .before .before .before .before .refusal .result) (c .before .before .before .before .before .refusal .ensures) (c .before .before .before .before .if1 .left)) (bytes-of _ (c .before .before .before .before .before .before .before .before .before .shared-slice-known .given)) (bytes-of _ (c .before .before .before .before .before .before .before .shared-slice-known3 .given))) (ready-value (ready (c .before .before .before .before .before .before .before .before .before .before .args .c .now) (length (c .before .before .before .before .before .before .before .before .before .before .args .path .now)) (c .before .before .before .before .before .before .before .before .before .before .args .v .now) (c .before .before .before .before .before .refusal .result) (c .before .before .before .before .before .refusal .ensures) (c .before .before .before .before .if1 .left)) (bytes-of _ (c .before .before .before .before .before .before .before .before .before .shared-slice-known .given)) (bytes-of _ (c .before .before .before .before .before .before .before .shared-slice-known3 .given))))))

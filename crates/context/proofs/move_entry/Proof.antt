@@ -1,3 +1,5 @@
+-- `context::move_entry` meets its contract.
+-- Assumes nothing.
 use borrow.Author.Needs.{needs}
 use Rattle.context.proofs.move_entry.Statement.{statement}
 use Rattle.context.proofs.move_entry.Tie as tie

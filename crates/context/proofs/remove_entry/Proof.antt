@@ -1,3 +1,5 @@
+-- `context::remove_entry` meets its contract.
+-- Assumes nothing.
 use borrow.Author.Needs.{needs}
 use Rattle.context.proofs.remove_entry.Statement.{statement}
 use Rattle.context.proofs.remove_entry.Tie as tie
@@ -20,92 +22,24 @@ use Rattle.paths.proofs.Calling.{Opened, opened, opened-ok, is-refused}
 use Rattle.paths.proofs.Searching.{Hit, hit, hit-inside, hit-start, Miss, miss}
 use Rattle.context.proofs.Calling.{call-refused, hit-as, miss-as, some-entry, remove-copy, remove-done}
 
--- src/lib.rt:156:9
-refusal-requires : tie.Need-refusal-requires
-refusal-requires c κs = search needs
-
--- src/lib.rt:158:9
-returns : tie.Need-returns
-returns c = call-refused (contextOf (c .before .before .before .before .args .c .now) 0) _ _ _ (is-refused (c .before .before .before .before .args .c .now) 0 (c .before .refusal .result) (c .before .refusal .ensures) (c .if1 .taken))
-
--- src/lib.rt:160:26
-name-number-requires : tie.Need-name-number-requires
-name-number-requires c κs = search needs
-
--- src/lib.rt:160:11
-find-requires : tie.Need-find-requires
-find-requires c κs = opened-ok (opened (c .before .before .before .before .before .args .c .now) 0 (c .before .before .refusal .result) (c .before .before .refusal .ensures) (c .before .if1 .left))
-
--- src/lib.rt:161:53
-enum-told : tie.Need-enum-told
-enum-told c = search needs
-
--- src/lib.rt:161:34
-give-requires : tie.Need-give-requires
-give-requires c κs = search needs
-
--- src/lib.rt:162:21
-enum-known-from : tie.Need-enum-known-from
-enum-known-from c = search needs
-
--- src/lib.rt:164:47
-word-at-requires : tie.Need-word-at-requires
-word-at-requires c κs = omega (arith, (opened (c .before .before .before .before .before .before .before .before .before .args .c .now) 0 (c .before .before .before .before .before .before .refusal .result) (c .before .before .before .before .before .before .refusal .ensures) (c .before .before .before .before .before .if1 .left)) .ctx .three)
-
--- src/lib.rt:164:47
-sub-cut : tie.Need-sub-cut
-sub-cut c = omega (arith, c .word-at .ensures .0, (some-entry (hit _ _ _ _ _ _ (opened-ok (opened (c .before .before .before .before .before .before .before .before .before .before .args .c .now) 0 (c .before .before .before .before .before .before .before .refusal .result) (c .before .before .before .before .before .before .before .refusal .ensures) (c .before .before .before .before .before .before .if1 .left))) (c .before .before .before .before .find .ensures) (c .before .before .from .given .1)) (bytes-of _ (c .before .before .before .before .before .before .before .before .before .shared-slice-known .given))))
-
--- src/lib.rt:164:72
-slice-aggregate-cut : tie.Need-slice-aggregate-cut
-slice-aggregate-cut c = search needs
-
--- src/lib.rt:164:17
-cut-requires : tie.Need-cut-requires
-cut-requires c κs = (omega (arith, (hit _ _ _ _ _ _ (opened-ok (opened (c .before .before .before .before .before .before .before .before .before .before .before .args .c .now) 0 (c .before .before .before .before .before .before .before .before .refusal .result) (c .before .before .before .before .before .before .before .before .refusal .ensures) (c .before .before .before .before .before .before .before .if1 .left))) (c .before .before .before .before .before .find .ensures) (c .before .before .before .from .given .1)) .start), omega (arith, hit-start (hit _ _ _ _ _ _ (opened-ok (opened (c .before .before .before .before .before .before .before .before .before .before .before .args .c .now) 0 (c .before .before .before .before .before .before .before .before .refusal .result) (c .before .before .before .before .before .before .before .before .refusal .ensures) (c .before .before .before .before .before .before .before .if1 .left))) (c .before .before .before .before .before .find .ensures) (c .before .before .before .from .given .1)) (bytes-of _ (c .before .before .before .before .before .before .before .before .before .before .shared-slice-known .given))), hit-inside (hit _ _ _ _ _ _ (opened-ok (opened (c .before .before .before .before .before .before .before .before .before .before .before .args .c .now) 0 (c .before .before .before .before .before .before .before .before .refusal .result) (c .before .before .before .before .before .before .before .before .refusal .ensures) (c .before .before .before .before .before .before .before .if1 .left))) (c .before .before .before .before .before .find .ensures) (c .before .before .before .from .given .1)) (bytes-of _ (c .before .before .before .before .before .before .before .before .before .before .shared-slice-known .given)), omega (arith, c .before .word-at .ensures .1))
-
--- src/lib.rt:165:20
-slice-aggregate-finish : tie.Need-slice-aggregate-finish
-slice-aggregate-finish c = search needs
-
--- src/lib.rt:165:13
-finish-requires : tie.Need-finish-requires
-finish-requires c κs = search needs
-
--- src/lib.rt:153:1
-same-length : tie.Need-same-length
-same-length c = search needs
-
--- src/lib.rt:153:1
-returns-2 : tie.Need-returns-2
-returns-2 c = remove-copy (c .before .before .before .before .before .before .before .before .before .before .before .before .args .c .now) (c .before .before .before .before .before .before .before .before .before .before .before .before .args .out .now) (c .before .before .before .before .before .before .before .before .before .before .before .before .args .name) (opened (c .before .before .before .before .before .before .before .before .before .before .before .before .args .c .now) 0 (c .before .before .before .before .before .before .before .before .before .refusal .result) (c .before .before .before .before .before .before .before .before .before .refusal .ensures) (c .before .before .before .before .before .before .before .before .if1 .left)) (bytes-of _ (c .before .before .before .before .before .before .before .before .before .before .before .shared-slice-known .given)) _ (miss-as (c .before .before .before .before .before .before .before .name-number .ensures .0) (miss _ _ _ _ _ (opened-ok (opened (c .before .before .before .before .before .before .before .before .before .before .before .before .args .c .now) 0 (c .before .before .before .before .before .before .before .before .before .refusal .result) (c .before .before .before .before .before .before .before .before .before .refusal .ensures) (c .before .before .before .before .before .before .before .before .if1 .left))) (c .before .before .before .before .before .before .find .ensures) (c .before .before .before .before .enum-told .given .1))) _ _ (c .before .before .give .ensures)
-
--- src/lib.rt:153:1
-same-length-2 : tie.Need-same-length-2
-same-length-2 c = search needs
-
--- src/lib.rt:153:1
-returns-3 : tie.Need-returns-3
-returns-3 c = remove-done (c .before .before .before .before .before .before .before .before .before .before .before .before .before .before .before .before .before .before .args .c .now) (c .before .before .before .before .before .before .before .before .before .before .before .before .before .before .before .before .before .before .args .out .now) (c .before .before .before .before .before .before .before .before .before .before .before .before .before .before .before .before .before .before .args .name) (opened (c .before .before .before .before .before .before .before .before .before .before .before .before .before .before .before .before .before .before .args .c .now) 0 (c .before .before .before .before .before .before .before .before .before .before .before .before .before .before .before .refusal .result) (c .before .before .before .before .before .before .before .before .before .before .before .before .before .before .before .refusal .ensures) (c .before .before .before .before .before .before .before .before .before .before .before .before .before .before .if1 .left)) (bytes-of _ (c .before .before .before .before .before .before .before .before .before .before .before .before .before .before .before .before .before .shared-slice-known .given)) _ _ (hit-as (c .before .before .before .before .before .before .before .before .before .before .before .before .before .name-number .ensures .0) (hit _ _ _ _ _ _ (opened-ok (opened (c .before .before .before .before .before .before .before .before .before .before .before .before .before .before .before .before .before .before .args .c .now) 0 (c .before .before .before .before .before .before .before .before .before .before .before .before .before .before .before .refusal .result) (c .before .before .before .before .before .before .before .before .before .before .before .before .before .before .before .refusal .ensures) (c .before .before .before .before .before .before .before .before .before .before .before .before .before .before .if1 .left))) (c .before .before .before .before .before .before .before .before .before .before .before .before .find .ensures) (c .before .before .before .before .before .before .before .before .before .before .from .given .1))) _ (omega (arith, c .before .before .before .before .before .before .before .before .word-at .ensures .0, (some-entry (hit-as (c .before .before .before .before .before .before .before .before .before .before .before .before .before .name-number .ensures .0) (hit _ _ _ _ _ _ (opened-ok (opened (c .before .before .before .before .before .before .before .before .before .before .before .before .before .before .before .before .before .before .args .c .now) 0 (c .before .before .before .before .before .before .before .before .before .before .before .before .before .before .before .refusal .result) (c .before .before .before .before .before .before .before .before .before .before .before .before .before .before .before .refusal .ensures) (c .before .before .before .before .before .before .before .before .before .before .before .before .before .before .if1 .left))) (c .before .before .before .before .before .before .before .before .before .before .before .before .find .ensures) (c .before .before .before .before .before .before .before .before .before .before .from .given .1))) (bytes-of _ (c .before .before .before .before .before .before .before .before .before .before .before .before .before .before .before .before .before .shared-slice-known .given))))) _ _ _ (c .before .before .before .before .before .before .cut .ensures .0) (c .before .before .before .before .before .before .cut .ensures .1) refl _ _ (c .before .before .finish .ensures)
-
 pub remove-entry-spec : {M : Type 1} → statement M
 remove-entry-spec =
     tie.close
     (tie.spec
-    refusal-requires
-    returns
-    name-number-requires
-    find-requires
-    enum-told
-    give-requires
-    enum-known-from
-    word-at-requires
-    sub-cut
-    slice-aggregate-cut
-    cut-requires
-    slice-aggregate-finish
-    finish-requires
-    same-length
-    returns-2
-    same-length-2
-    returns-3)
+    (λ c κs. search needs)
+    (λ c. call-refused (contextOf (c .before .before .before .before .args .c .now) 0) _ _ _ (is-refused (c .before .before .before .before .args .c .now) 0 (c .before .refusal .result) (c .before .refusal .ensures) (c .if1 .taken)))
+    (λ c κs. search needs)
+    (λ c κs. opened-ok (opened (c .before .before .before .before .before .args .c .now) 0 (c .before .before .refusal .result) (c .before .before .refusal .ensures) (c .before .if1 .left)))
+    (λ c. search needs)
+    (λ c κs. search needs)
+    (λ c. search needs)
+    (λ c κs. omega (arith, (opened (c .before .before .before .before .before .before .before .before .before .args .c .now) 0 (c .before .before .before .before .before .before .refusal .result) (c .before .before .before .before .before .before .refusal .ensures) (c .before .before .before .before .before .if1 .left)) .ctx .three))
+    (λ c. omega (arith, c .word-at .ensures .0, (some-entry (hit _ _ _ _ _ _ (opened-ok (opened (c .before .before .before .before .before .before .before .before .before .before .args .c .now) 0 (c .before .before .before .before .before .before .before .refusal .result) (c .before .before .before .before .before .before .before .refusal .ensures) (c .before .before .before .before .before .before .if1 .left))) (c .before .before .before .before .find .ensures) (c .before .before .from .given .1)) (bytes-of _ (c .before .before .before .before .before .before .before .before .before .shared-slice-known .given)))))
+    (λ c. search needs)
+    (λ c κs. (omega (arith, (hit _ _ _ _ _ _ (opened-ok (opened (c .before .before .before .before .before .before .before .before .before .before .before .args .c .now) 0 (c .before .before .before .before .before .before .before .before .refusal .result) (c .before .before .before .before .before .before .before .before .refusal .ensures) (c .before .before .before .before .before .before .before .if1 .left))) (c .before .before .before .before .before .find .ensures) (c .before .before .before .from .given .1)) .start), omega (arith, hit-start (hit _ _ _ _ _ _ (opened-ok (opened (c .before .before .before .before .before .before .before .before .before .before .before .args .c .now) 0 (c .before .before .before .before .before .before .before .before .refusal .result) (c .before .before .before .before .before .before .before .before .refusal .ensures) (c .before .before .before .before .before .before .before .if1 .left))) (c .before .before .before .before .before .find .ensures) (c .before .before .before .from .given .1)) (bytes-of _ (c .before .before .before .before .before .before .before .before .before .before .shared-slice-known .given))), hit-inside (hit _ _ _ _ _ _ (opened-ok (opened (c .before .before .before .before .before .before .before .before .before .before .before .args .c .now) 0 (c .before .before .before .before .before .before .before .before .refusal .result) (c .before .before .before .before .before .before .before .before .refusal .ensures) (c .before .before .before .before .before .before .before .if1 .left))) (c .before .before .before .before .before .find .ensures) (c .before .before .before .from .given .1)) (bytes-of _ (c .before .before .before .before .before .before .before .before .before .before .shared-slice-known .given)), omega (arith, c .before .word-at .ensures .1)))
+    (λ c. search needs)
+    (λ c κs. search needs)
+    (λ c. search needs)
+    (λ c. remove-copy (c .before .before .before .before .before .before .before .before .before .before .before .before .args .c .now) (c .before .before .before .before .before .before .before .before .before .before .before .before .args .out .now) (c .before .before .before .before .before .before .before .before .before .before .before .before .args .name) (opened (c .before .before .before .before .before .before .before .before .before .before .before .before .args .c .now) 0 (c .before .before .before .before .before .before .before .before .before .refusal .result) (c .before .before .before .before .before .before .before .before .before .refusal .ensures) (c .before .before .before .before .before .before .before .before .if1 .left)) (bytes-of _ (c .before .before .before .before .before .before .before .before .before .before .before .shared-slice-known .given)) _ (miss-as (c .before .before .before .before .before .before .before .name-number .ensures .0) (miss _ _ _ _ _ (opened-ok (opened (c .before .before .before .before .before .before .before .before .before .before .before .before .args .c .now) 0 (c .before .before .before .before .before .before .before .before .before .refusal .result) (c .before .before .before .before .before .before .before .before .before .refusal .ensures) (c .before .before .before .before .before .before .before .before .if1 .left))) (c .before .before .before .before .before .before .find .ensures) (c .before .before .before .before .enum-told .given .1))) _ _ (c .before .before .give .ensures))
+    (λ c. search needs)
+    (λ c. remove-done (c .before .before .before .before .before .before .before .before .before .before .before .before .before .before .before .before .before .before .args .c .now) (c .before .before .before .before .before .before .before .before .before .before .before .before .before .before .before .before .before .before .args .out .now) (c .before .before .before .before .before .before .before .before .before .before .before .before .before .before .before .before .before .before .args .name) (opened (c .before .before .before .before .before .before .before .before .before .before .before .before .before .before .before .before .before .before .args .c .now) 0 (c .before .before .before .before .before .before .before .before .before .before .before .before .before .before .before .refusal .result) (c .before .before .before .before .before .before .before .before .before .before .before .before .before .before .before .refusal .ensures) (c .before .before .before .before .before .before .before .before .before .before .before .before .before .before .if1 .left)) (bytes-of _ (c .before .before .before .before .before .before .before .before .before .before .before .before .before .before .before .before .before .shared-slice-known .given)) _ _ (hit-as (c .before .before .before .before .before .before .before .before .before .before .before .before .before .name-number .ensures .0) (hit _ _ _ _ _ _ (opened-ok (opened (c .before .before .before .before .before .before .before .before .before .before .before .before .before .before .before .before .before .before .args .c .now) 0 (c .before .before .before .before .before .before .before .before .before .before .before .before .before .before .before .refusal .result) (c .before .before .before .before .before .before .before .before .before .before .before .before .before .before .before .refusal .ensures) (c .before .before .before .before .before .before .before .before .before .before .before .before .before .before .if1 .left))) (c .before .before .before .before .before .before .before .before .before .before .before .before .find .ensures) (c .before .before .before .before .before .before .before .before .before .before .from .given .1))) _ (omega (arith, c .before .before .before .before .before .before .before .before .word-at .ensures .0, (some-entry (hit-as (c .before .before .before .before .before .before .before .before .before .before .before .before .before .name-number .ensures .0) (hit _ _ _ _ _ _ (opened-ok (opened (c .before .before .before .before .before .before .before .before .before .before .before .before .before .before .before .before .before .before .args .c .now) 0 (c .before .before .before .before .before .before .before .before .before .before .before .before .before .before .before .refusal .result) (c .before .before .before .before .before .before .before .before .before .before .before .before .before .before .before .refusal .ensures) (c .before .before .before .before .before .before .before .before .before .before .before .before .before .before .if1 .left))) (c .before .before .before .before .before .before .before .before .before .before .before .before .find .ensures) (c .before .before .before .before .before .before .before .before .before .before .from .given .1))) (bytes-of _ (c .before .before .before .before .before .before .before .before .before .before .before .before .before .before .before .before .before .shared-slice-known .given))))) _ _ _ (c .before .before .before .before .before .before .cut .ensures .0) (c .before .before .before .before .before .before .cut .ensures .1) refl _ _ (c .before .before .finish .ensures)))

@@ -1,3 +1,5 @@
+-- `retrieval::put` meets its contract.
+-- Assumes nothing.
 use borrow.Author.Needs.{needs}
 use Rattle.retrieval.proofs.put.Statement.{statement}
 use Rattle.retrieval.proofs.put.Tie as tie

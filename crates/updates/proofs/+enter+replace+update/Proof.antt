@@ -1,3 +1,5 @@
+-- `updates::enter`, `updates::replace` and `updates::update`, which call each other, meet their contracts.
+-- Assumes nothing.
 use Prim.Native.Nat.{ℕ, _<_, _+_, _-_, _*_, _≤_}
 use borrow.Fn.Kinds.{In}
 use borrow.Fn.PlainCycle.{Measures, is, falls, and}

@@ -1,3 +1,5 @@
+-- `updates::begin` meets its contract.
+-- Assumes nothing.
 use borrow.Author.Needs.{needs}
 use Rattle.updates.proofs.begin.Statement.{statement}
 use Rattle.updates.proofs.begin.Tie as tie

@@ -1,3 +1,5 @@
+-- `updates::cut` meets its contract.
+-- Assumes nothing.
 use borrow.Author.Needs.{needs}
 use Rattle.updates.proofs.cut.Statement.{statement}
 use Rattle.updates.proofs.cut.Tie as tie

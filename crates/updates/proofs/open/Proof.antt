@@ -1,3 +1,5 @@
+-- `updates::open` meets its contract.
+-- Assumes nothing.
 use borrow.Author.Needs.{needs}
 use Rattle.updates.proofs.open.Statement.{statement}
 use Rattle.updates.proofs.open.Tie as tie

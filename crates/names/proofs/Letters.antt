@@ -1,0 +1,59 @@
+-- The rule of the constant table of the ten names: the k-th name stands among the letters from its start to the next one's.
+-- Assumes nothing.
+use Prim.Native.Nat.{ℕ, zero, suc, _+_, _-_, _<_, _≤_}
+use mathlib.Core.Path.{_≡_, refl, ap, ap₂, _∙_}
+use mathlib.Core.List.{List, [], _∷_}
+use native.Mathlib.Omega.{arith}
+use native.Mathlib.Numerals.{add-one}
+use lib.ListN.{length, take, drop, getD}
+use lib.Dec.{eqb, leb, eqb→eq, leb→le}
+use Rattle.form.specs.Trees.{decode}
+use Rattle.form.proofs.Table.{at}
+use Rattle.names.specs.Texts.{nameOf, lettersOf, letters, startOf}
+
+-- the starts, as the code has them
+abbrev pub starts : List ℕ
+starts = 0 ∷ 3 ∷ 10 ∷ 16 ∷ 22 ∷ 26 ∷ 30 ∷ 43 ∷ 65 ∷ 90 ∷ 94 ∷ []
+
+pub start-is : (k : ℕ) → k ≤ 10 → getD starts k 0 ≡ startOf k
+unfolding startOf
+start-is k h = eqb→eq (getD starts k 0) (startOf k) (at (λ i x. eqb x (startOf i)) starts tt k (omega arith))
+
+pub start-small : (k : ℕ) → k ≤ 10 → getD starts k 0 ≤ 94
+start-small k h = leb→le (getD starts k 0) 94 (at (λ i x. leb x 94) starts tt k (omega arith))
+
+pub start-next : (k : ℕ) → startOf (k + 1) ≡ startOf k + length (nameOf (decode k))
+unfolding startOf
+start-next k = ap startOf (add-one k)
+
+pub letters-long : length letters ≡ 94
+unfolding lettersOf
+letters-long = refl
+
+-- the k-th name
+pub name-there : (k : ℕ) → k < 10 → take (length (nameOf (decode k))) (drop (startOf k) letters) ≡ nameOf (decode k)
+unfolding startOf lettersOf
+name-there zero h = refl
+name-there (suc zero) h = refl
+name-there (suc (suc zero)) h = refl
+name-there (suc (suc (suc zero))) h = refl
+name-there (suc (suc (suc (suc zero)))) h = refl
+name-there (suc (suc (suc (suc (suc zero))))) h = refl
+name-there (suc (suc (suc (suc (suc (suc zero)))))) h = refl
+name-there (suc (suc (suc (suc (suc (suc (suc zero))))))) h = refl
+name-there (suc (suc (suc (suc (suc (suc (suc (suc zero)))))))) h = refl
+name-there (suc (suc (suc (suc (suc (suc (suc (suc (suc zero))))))))) h = refl
+name-there (suc (suc (suc (suc (suc (suc (suc (suc (suc (suc k)))))))))) h = absurd (omega arith)
+
+pub start-most : (k : ℕ) → k ≤ 10 → startOf k ≤ 94
+unfolding startOf
+start-most k h = omega (arith, start-is k h, start-small k h)
+
+-- as the code takes it from the letters
+pub name-cut : (k from to : ℕ) → k < 10 → from ≡ startOf k → to ≡ startOf (k + 1) → (to - from ≡ length (nameOf (decode k))) × (take (to - from) (drop from letters) ≡ nameOf (decode k))
+name-cut k from to h p q =
+    let n : to - from ≡ length (nameOf (decode k)) = omega (arith, start-next k) in
+    (n, ap₂ (λ (i j : ℕ). take i (drop j letters)) n p ∙ name-there k h)
+
+pub name-ends : (k from to : ℕ) → k < 10 → from ≡ startOf k → to ≡ startOf (k + 1) → (from ≤ to) × (to ≤ 94)
+name-ends k from to h p q = (omega (arith, start-next k), omega (arith, start-most (k + 1) (omega arith)))

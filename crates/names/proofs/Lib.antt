@@ -1,0 +1,14 @@
+pub mod Letters
+pub mod Displaying
+pub mod ShowPieces
+pub mod Locating
+pub mod Showing
+pub mod ShowNodes
+pub mod ShowFields
+pub mod ShowSigs
+pub mod Trimming
+pub mod Tabling
+pub mod Knowing
+pub mod Naming
+pub mod ShowCalling
+pub mod Theorems

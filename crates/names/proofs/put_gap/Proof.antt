@@ -1,0 +1,13 @@
+-- `names::put_gap` meets its contract.
+-- Assumes nothing.
+use borrow.Author.Needs.{needs}
+use Rattle.names.proofs.put_gap.Statement.{statement}
+use Rattle.names.proofs.put_gap.Tie as tie
+use Rattle.names.proofs.put_gap.Reads as reads
+use Rattle.names.proofs.put_gap.Lts as lts
+use Rattle.retrieval.proofs.put.Reads as put-reads
+use Rattle.names.proofs.ShowPieces.{gap-none, gap-some}
+use native.Mathlib.Omega.{arith}
+
+pub put-gap-spec : {M : Type 1} → statement M
+put-gap-spec = tie.close (tie.spec (λ c. gap-none _ _ _ (c .if1 .taken)) (λ c. search needs) (λ c κs. search needs) (λ c. search needs) (λ c. gap-some _ _ _ _ _ (c .before .before .before .before .before .if1 .left) (c .before .before .put .ensures .0) (c .before .before .put .ensures .1)))

@@ -1,0 +1,23 @@
+-- `names::trim` meets its contract.
+-- Assumes nothing.
+use borrow.Author.Needs.{needs}
+use Rattle.names.proofs.trim.Statement.{statement}
+use Rattle.names.proofs.trim.Tie as tie
+use Rattle.names.proofs.trim.Reads as reads
+use Rattle.names.proofs.trim.Lts as lts
+use Rattle.names.proofs.trim_end.Reads as trim-end-reads
+use Rattle.names.proofs.trim_start.Reads as trim-start-reads
+use Rattle.names.proofs.Trimming.{trimmed-length, trimmed}
+use native.Mathlib.Omega.{arith}
+
+pub trim-spec : {M : Type 1} → statement M
+trim-spec =
+    tie.close
+    (tie.spec
+    (λ c κs. search needs)
+    (λ c. search needs)
+    (λ c. search needs)
+    (λ c. search needs)
+    (λ c κs. search needs)
+    (λ c. trimmed-length _ _ _ (c .before .before .before .trim-start .ensures) (c .before .trim-end .ensures))
+    (λ c. trimmed _ _ _ (c .before .before .before .trim-start .ensures) (c .before .trim-end .ensures)))

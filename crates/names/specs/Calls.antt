@@ -1,0 +1,36 @@
+-- The definitions of the calls: refusals in document 01's order, then the answer.
+-- Assumes nothing.
+use Prim.Native.Nat.{ℕ}
+use mathlib.Core.Option.{Option, none, some}
+use mathlib.Core.List.{List}
+use Rattle.form.specs.Outcome.{Outcome, _>>=_, orRefuse, fits}
+use Rattle.form.specs.Read.{readType}
+use Rattle.retrieval.specs.Retrieve.{mapped}
+use Rattle.names.specs.Texts.{command, fromStr, text}
+use Rattle.names.specs.Names.{nameNew}
+use Rattle.names.specs.Tables.{readTable, readParts}
+use Rattle.names.specs.declared.Known.{Known}
+use Rattle.names.specs.declared.Known.the-variants as known-is
+
+-- Display of FeelType: self, then the table; 20: name number not in the table
+unfoldable pub displayCall : List ℕ → List ℕ → ℕ → Outcome (List ℕ)
+displayCall t table room = do
+  u ← readType t
+  texts ← orRefuse 19 (readTable table)
+  s ← orRefuse 20 (text texts u)
+  fits room s
+
+-- Name::new
+unfoldable pub nameNewCall : List ℕ → ℕ → Outcome (List ℕ)
+nameNewCall parts room = do
+  ps ← orRefuse 19 (readParts parts)
+  fits room (nameNew ps)
+
+-- FeelType::from_str: the command of the type; none is unknown
+abbrev pub fromStrCall : List ℕ → Option ℕ
+fromStrCall s = mapped command (fromStr s)
+
+-- the answer of that call
+abbrev pub known : Known → Option ℕ
+known (known-is.Type c) = some c
+known known-is.Unknown = none

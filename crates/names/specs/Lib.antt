@@ -1,0 +1,6 @@
+pub mod Texts
+pub mod Names
+pub mod Tables
+pub mod Calls
+pub mod Writing
+pub mod Examples
