@@ -2,7 +2,7 @@
  *
  * ANSWERS. Every function answers one uint64_t.
  *   high word 0   the answer stands in the low word: 0 no, 1 yes, a count, a level, a length written,
- *                 or place * 65536 + length of a part found
+ *                 the command of a type, or place * 65536 + length of a part found
  *   high word 1   refused: the number in the low word says why
  *   high word 2   none, or unknown
  *
@@ -34,7 +34,6 @@
  *   18  output too short for the answer
  *   19  texts: table or parts malformed, or with bytes left over
  *   20  texts: a name's number is not in the table
- * The numbers 19 and 20 belong to calls that are not in this version.
  */
 #ifndef FEEL_H
 #define FEEL_H
@@ -178,6 +177,28 @@ uint64_t feel_context_remove_entry(const uint8_t *c, size_t c_len, uint16_t name
 
 /* FeelContext::set_null: c with null of trace 0 under this name, at the front of out. Answers its length, or refusal 1 to 5; 12; 17; 18. */
 uint64_t feel_context_set_null(const uint8_t *c, size_t c_len, uint16_t name, uint8_t *out, size_t out_len);
+
+/* TEXTS. A table gives the names of a type their texts: a 16-bit count, then for each text a length byte and as many bytes 20 to 7E, neither
+ * the first nor the last of them 20; the texts ascend strictly by their bytes and are numbered from 0. The parts of a name are a count byte,
+ * then for each part a length byte and as many bytes 00 to 7F. Either has at most 16,384 bytes with nothing left over; what has not this form
+ * is refused 19. Blanks are the bytes 09 to 0D and 20. */
+
+/* Display of FeelType: the text of the type t with the names that the table gives, at the front of out. Answers its length, or t's refusal 6 to
+ * 10; 19; 20 where the table does not have the number of a name; 18. 20 is given before 18. */
+uint64_t feel_names_display(const uint8_t *t, size_t t_len, const uint8_t *table, size_t table_len, uint8_t *out, size_t out_len);
+
+/* FeelType::from_str: the type with the name s, which is compared byte for byte and not trimmed. Answers its command, 0x20 to 0x29, or unknown
+ * for every other string. Refuses nothing. */
+uint64_t feel_names_from_str(const uint8_t *s, size_t s_len);
+
+/* is_built_in_type_name: is s the name of one of the ten simple types? Answers 1 or 0. Refuses nothing. */
+uint64_t feel_names_is_built_in_type_name(const uint8_t *s, size_t s_len);
+
+/* Name::new: the name made of the parts, each without the blanks at its ends, at the front of out. Answers its length, or 19; 18. */
+uint64_t feel_names_name_new(const uint8_t *parts, size_t parts_len, uint8_t *out, size_t out_len);
+
+/* Name::from: s without the blanks at both its ends, at the front of out; s has any length and any bytes. Answers the length, or 18. */
+uint64_t feel_names_trim(const uint8_t *s, size_t s_len, uint8_t *out, size_t out_len);
 
 #ifdef __cplusplus
 }

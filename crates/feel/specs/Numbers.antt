@@ -31,6 +31,11 @@ parted (done (some (piece p n))) = p * 65536 + n
 parted (done none) = high 2
 parted (refused k) = high 1 + k
 
+-- of a call whose answer may be unknown
+abbrev pub named : Option ℕ → ℕ
+named (some c) = c
+named none = high 2
+
 -- place and length have their halves of the low word
 abbrev pub Halves : Outcome (Option Piece) → Type 0
 Halves (done (some (piece p n))) = (p < 65536) × (n < 65536)

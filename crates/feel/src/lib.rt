@@ -13,10 +13,15 @@ ghost use Rattle.bounds.specs.Calls.{commonSupertype, commonSubtype, reducedCal
 ghost use Rattle.paths.specs.Places.{found, extentOf};
 ghost use Rattle.paths.specs.Calls.{searchDeepCall, getEntryCall, getFirstCall, containsDeepCall, containsEntryCall, isContextCall, isEmptyCall, lenCall, count};
 ghost use Rattle.context.specs.Calls.{createEntriesCall, applyEntriesCall, zipCall, overwriteCall, moveEntryCall, setEntryCall, removeEntryCall, setNullCall};
-ghost use Rattle.feel.specs.Numbers.{numbered, judged, parted, Halves, Exported};
+ghost use Rattle.form.specs.Outcome.{done, fits};
+ghost use Rattle.names.specs.Texts.{isBuiltInTypeName};
+ghost use Rattle.names.specs.Names.{trim};
+ghost use Rattle.names.specs.Calls.{displayCall, nameNewCall, fromStrCall, known};
+ghost use Rattle.feel.specs.Numbers.{numbered, judged, parted, named, Halves, Exported};
 use form::Checked;
 use form::Verdict;
 use form::Written;
+use names::Known;
 use paths::Count;
 use paths::Found;
 
@@ -45,6 +50,13 @@ fn verdict_number(v: Verdict) -> u64
         Verdict::No => 0,
         Verdict::Refused(n) => REFUSED + n as u64,
     }
+}
+
+// The number of a question that refuses nothing.
+fn yes_number(b: bool) -> u64
+    ensures { λ r. ⌜ r ≡ judged (done b) ⌝ }
+{
+    if b { 1 } else { 0 }
 }
 
 // The number of a length that was written.
@@ -76,6 +88,16 @@ fn found_number(f: Found) -> u64
         Found::Part { place, size } => place as u64 * 65536 + size as u64,
         Found::None => NONE,
         Found::Refused(n) => REFUSED + n as u64,
+    }
+}
+
+// The number of a name that is known, or not.
+fn known_number(k: Known) -> u64
+    ensures { λ r. ⌜ r ≡ named (known k) ⌝ }
+{
+    match k {
+        Known::Type(c) => c as u64,
+        Known::Unknown => NONE,
     }
 }
 
@@ -449,4 +471,44 @@ pub extern "C" fn feel_context_set_null(c: &[u8], name: u16, out: &mut [u8]) -> 
     ensures { λ r. ⌜ Exported (setNullCall (now (c .entry)) name (length (now (out .entry)))) (now (out .entry)) (now (out .exit)) r ⌝ }
 {
     written_number(context::set_null(c, name, out))
+}
+
+// The text of the type t with the names that the table gives.
+#[no_mangle]
+pub extern "C" fn feel_names_display(t: &[u8], table: &[u8], out: &mut [u8]) -> u64
+    ensures { λ r. ⌜ Exported (displayCall (now (t .entry)) (now (table .entry)) (length (now (out .entry)))) (now (out .entry)) (now (out .exit)) r ⌝ }
+{
+    written_number(names::display(t, table, out))
+}
+
+// The command of the type with this name, or unknown.
+#[no_mangle]
+pub extern "C" fn feel_names_from_str(s: &[u8]) -> u64
+    ensures { λ r. ⌜ r ≡ named (fromStrCall (now (s .entry))) ⌝ }
+{
+    known_number(names::from_str(s))
+}
+
+// Is this the name of a simple type?
+#[no_mangle]
+pub extern "C" fn feel_names_is_built_in_type_name(s: &[u8]) -> u64
+    ensures { λ r. ⌜ r ≡ judged (done (isBuiltInTypeName (now (s .entry)))) ⌝ }
+{
+    yes_number(names::is_built_in_type_name(s))
+}
+
+// The name made of the parts.
+#[no_mangle]
+pub extern "C" fn feel_names_name_new(parts: &[u8], out: &mut [u8]) -> u64
+    ensures { λ r. ⌜ Exported (nameNewCall (now (parts .entry)) (length (now (out .entry)))) (now (out .entry)) (now (out .exit)) r ⌝ }
+{
+    written_number(names::name_new(parts, out))
+}
+
+// The bytes without the blanks at both ends.
+#[no_mangle]
+pub extern "C" fn feel_names_trim(s: &[u8], out: &mut [u8]) -> u64
+    ensures { λ r. ⌜ Exported (fits (length (now (out .entry))) (trim (now (s .entry)))) (now (out .entry)) (now (out .exit)) r ⌝ }
+{
+    written_number(retrieval::give(names::trim(s), out))
 }

@@ -3,8 +3,8 @@
 //! types: all short types, types near each other, and pairs at the limits. For the calls over
 //! values: all values with few nodes, values near each other, function definitions beside function
 //! types, data at the limits. For the calls over contexts: contexts inside each other, and paths.
-//! Nothing here reads or writes by the code of `feel-form`, so that a fault there does not shape the
-//! cases.
+//! For the calls over texts: tables, and the parts of names. Nothing here reads or writes by the code
+//! of `feel-form`, so that a fault there does not shape the cases.
 
 mod chains;
 mod contexts;
@@ -18,6 +18,7 @@ mod random;
 mod small;
 mod small_values;
 mod strings;
+mod texts;
 mod tree;
 mod value_tree;
 
@@ -36,6 +37,7 @@ pub use random::Random;
 pub use small::{small_contexts, small_types};
 pub use small_values::small_values;
 pub use strings::each_string;
+pub use texts::{dense_texts, long_texts, parts_of, random_texts, renamed, table_of};
 pub use tree::{ANY, NULL, Tree};
 pub use value_tree::{Parts, ValueTree, near_value, null};
 

@@ -75,6 +75,8 @@ pub enum Gives {
     Count,
     /// The place and the length of a part, or none; the checks are of theorems.
     Part,
+    /// The command of a type, or unknown; the checks are of theorems.
+    Command,
 }
 
 /// A call: its name, its cases, and the two sides to be compared.

@@ -9,9 +9,10 @@ use crate::library::{
     feel_context_get_entry, feel_context_get_first, feel_context_is_context, feel_context_is_empty,
     feel_context_len, feel_context_move_entry, feel_context_overwrite, feel_context_remove_entry,
     feel_context_search_deep, feel_context_set_entry, feel_context_set_null, feel_context_zip,
-    feel_interval_closed, feel_interval_opened, feel_interval_undefined, feel_type_common_subtype,
-    feel_type_common_supertype, feel_type_get_conformant_value, feel_type_get_value_checked,
-    feel_type_instance_of, feel_type_is_conformant, feel_type_is_null,
+    feel_interval_closed, feel_interval_opened, feel_interval_undefined, feel_names_display,
+    feel_names_from_str, feel_names_is_built_in_type_name, feel_names_name_new, feel_names_trim,
+    feel_type_common_subtype, feel_type_common_supertype, feel_type_get_conformant_value,
+    feel_type_get_value_checked, feel_type_instance_of, feel_type_is_conformant, feel_type_is_null,
     feel_type_is_simple_built_in_type, feel_type_reduced, feel_value_coerced,
     feel_value_is_conformant, feel_value_is_false, feel_value_is_invalid_coercion,
     feel_value_is_list, feel_value_is_null, feel_value_is_number, feel_value_is_range,
@@ -19,8 +20,8 @@ use crate::library::{
     feel_value_type_of,
 };
 use crate::{
-    coercion_cases, context_answers, context_cases, context_theorems, records, type_answers,
-    type_cases, value_answers, value_cases,
+    coercion_cases, context_answers, context_cases, context_theorems, names_answers, names_cases,
+    records, type_answers, type_cases, value_answers, value_cases,
 };
 use feel_cases::{Kind, Parts};
 use feel_form::{calls, read_type, read_value, write_type, write_value};
@@ -31,7 +32,7 @@ const OF_A_CONTEXT: &[u8] = &[1, 2, 3, 4, 5, 12];
 
 const OF_A_TYPE: &[u8] = &[6, 7, 8, 9, 10];
 
-pub const CALLS: [Call; 44] = [
+pub const CALLS: [Call; 49] = [
     Call {
         name: "check_value",
         gives: Gives::Level,
@@ -444,6 +445,53 @@ pub const CALLS: [Call; 44] = [
         },
         actual: |lent| name_and_output(lent, feel_context_set_null),
     },
+    Call {
+        name: "names_display",
+        gives: Gives::Length,
+        refusals: &[6, 7, 8, 9, 10, 18, 19, 20],
+        generate: |options, each| {
+            let call = names_answers::display;
+            names_cases::built(names_cases::type_and_table, call, options, each)
+        },
+        expected: |case| names_answers::built(case, names_answers::display),
+        actual: |lent| two_records_and_output(lent, feel_names_display),
+    },
+    Call {
+        name: "names_from_str",
+        gives: Gives::Command,
+        refusals: &[],
+        generate: |options, each| context_cases::asked(names_cases::type_names, options, each),
+        expected: names_answers::from_str,
+        actual: |lent| one_record(lent, feel_names_from_str),
+    },
+    Call {
+        name: "names_is_built_in_type_name",
+        gives: Gives::YesOrNo,
+        refusals: &[],
+        generate: |options, each| context_cases::asked(names_cases::type_names, options, each),
+        expected: names_answers::is_built_in_type_name,
+        actual: |lent| one_record(lent, feel_names_is_built_in_type_name),
+    },
+    Call {
+        name: "names_name_new",
+        gives: Gives::Length,
+        refusals: &[18, 19],
+        generate: |options, each| {
+            names_cases::built(names_cases::parts, names_answers::name_new, options, each)
+        },
+        expected: |case| names_answers::built(case, names_answers::name_new),
+        actual: |lent| one_type_and_output(lent, feel_names_name_new),
+    },
+    Call {
+        name: "names_trim",
+        gives: Gives::Length,
+        refusals: &[18],
+        generate: |options, each| {
+            names_cases::built(names_cases::strings, names_answers::trim, options, each)
+        },
+        expected: names_answers::trimmed,
+        actual: |lent| one_type_and_output(lent, feel_names_trim),
+    },
 ];
 
 /// A C function over one record.
@@ -456,7 +504,7 @@ type TwoRecords = unsafe extern "C" fn(*const u8, usize, *const u8, usize) -> u6
 type TwoTypesAndBuffers =
     unsafe extern "C" fn(*const u8, usize, *const u8, usize, *mut u8, usize, *mut u8, usize) -> u64;
 
-/// A C function over one type, with an output.
+/// A C function over one type or one string, with an output.
 type OneTypeAndOutput = unsafe extern "C" fn(*const u8, usize, *mut u8, usize) -> u64;
 
 /// A C function over one value, with scratch and an output.

@@ -25,10 +25,10 @@ pub enum How {
 }
 
 /// Receives the arguments one after the other.
-type EachArgs<'a> = dyn FnMut(&[&[u8]], How) + 'a;
+pub type EachArgs<'a> = dyn FnMut(&[&[u8]], How) + 'a;
 
 /// Makes arguments.
-type Generate = fn(&Options, &mut EachArgs);
+pub type Generate = fn(&Options, &mut EachArgs);
 
 /// Cases of a call without an output.
 pub fn asked(generate: Generate, options: &Options, each: &mut EachCase) {

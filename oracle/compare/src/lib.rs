@@ -10,6 +10,8 @@ mod context_cases;
 mod context_theorems;
 pub mod lent;
 pub mod library;
+mod names_answers;
+mod names_cases;
 mod records;
 pub mod run;
 mod theorems;

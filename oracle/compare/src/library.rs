@@ -7,9 +7,10 @@ pub use crate::twin::{
     feel_context_get_entry, feel_context_get_first, feel_context_is_context, feel_context_is_empty,
     feel_context_len, feel_context_move_entry, feel_context_overwrite, feel_context_remove_entry,
     feel_context_search_deep, feel_context_set_entry, feel_context_set_null, feel_context_zip,
-    feel_interval_closed, feel_interval_opened, feel_interval_undefined, feel_type_common_subtype,
-    feel_type_common_supertype, feel_type_get_conformant_value, feel_type_get_value_checked,
-    feel_type_instance_of, feel_type_is_conformant, feel_type_is_null,
+    feel_interval_closed, feel_interval_opened, feel_interval_undefined, feel_names_display,
+    feel_names_from_str, feel_names_is_built_in_type_name, feel_names_name_new, feel_names_trim,
+    feel_type_common_subtype, feel_type_common_supertype, feel_type_get_conformant_value,
+    feel_type_get_value_checked, feel_type_instance_of, feel_type_is_conformant, feel_type_is_null,
     feel_type_is_simple_built_in_type, feel_type_reduced, feel_value_coerced,
     feel_value_is_conformant, feel_value_is_false, feel_value_is_invalid_coercion,
     feel_value_is_list, feel_value_is_null, feel_value_is_number, feel_value_is_range,
@@ -192,4 +193,21 @@ unsafe extern "C" {
         out: *mut u8,
         out_len: usize,
     ) -> u64;
+    pub fn feel_names_display(
+        t: *const u8,
+        t_len: usize,
+        table: *const u8,
+        table_len: usize,
+        out: *mut u8,
+        out_len: usize,
+    ) -> u64;
+    pub fn feel_names_from_str(s: *const u8, s_len: usize) -> u64;
+    pub fn feel_names_is_built_in_type_name(s: *const u8, s_len: usize) -> u64;
+    pub fn feel_names_name_new(
+        parts: *const u8,
+        parts_len: usize,
+        out: *mut u8,
+        out_len: usize,
+    ) -> u64;
+    pub fn feel_names_trim(s: *const u8, s_len: usize, out: *mut u8, out_len: usize) -> u64;
 }

@@ -122,13 +122,19 @@ impl fmt::Display for Tally {
         }
         let checked = match self.gives {
             Gives::Level => "written back",
-            Gives::YesOrNo | Gives::Length | Gives::Count | Gives::Part => "checks of theorems",
+            Gives::YesOrNo | Gives::Length | Gives::Count | Gives::Part | Gives::Command => {
+                "checks of theorems"
+            }
         };
         if self.checks > 0 {
             write!(f, ", {} {checked}", self.checks)?;
         }
         if self.none > 0 {
-            write!(f, ", {} none", self.none)?;
+            let none = match self.gives {
+                Gives::Command => "unknown",
+                _ => "none",
+            };
+            write!(f, ", {} {none}", self.none)?;
         }
         for (number, count) in &self.refused {
             write!(f, ", refusal {number}: {count}")?;

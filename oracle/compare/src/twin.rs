@@ -4,6 +4,7 @@
 mod bounds;
 mod conformance;
 mod contexts;
+mod names;
 mod parts;
 mod read;
 mod retrieval;
@@ -173,6 +174,14 @@ fn update(c: &[u8], updated: impl FnOnce() -> Vec<u8>, out: &mut [u8]) -> Judged
     read_value(c)?;
     want_context(c)?;
     deliver_value(&updated(), out)
+}
+
+/// The text of a type over a table.
+fn show(t: &[u8], table: &[u8], out: &mut [u8]) -> Judged {
+    read_type(t)?;
+    let texts = names::table(table).ok_or(19u64)?;
+    let text = names::shown(t, &texts).ok_or(20u64)?;
+    deliver(&text, out)
 }
 
 /// # Safety
@@ -659,4 +668,63 @@ pub unsafe extern "C" fn feel_context_set_null(
     let c = unsafe { from_raw_parts(c, c_len) };
     let out = unsafe { from_raw_parts_mut(out, out_len) };
     answer(put_at_path(c, &[name], &[0x00, 0], true, out))
+}
+
+/// # Safety
+/// `t` and `table` point to as many readable bytes as their lengths say, `out` to as many writable
+/// ones; `out` overlaps with neither.
+pub unsafe extern "C" fn feel_names_display(
+    t: *const u8,
+    t_len: usize,
+    table: *const u8,
+    table_len: usize,
+    out: *mut u8,
+    out_len: usize,
+) -> u64 {
+    let t = unsafe { from_raw_parts(t, t_len) };
+    let table = unsafe { from_raw_parts(table, table_len) };
+    let out = unsafe { from_raw_parts_mut(out, out_len) };
+    answer(show(t, table, out))
+}
+
+/// # Safety
+/// `s` points to `s_len` readable bytes.
+pub unsafe extern "C" fn feel_names_from_str(s: *const u8, s_len: usize) -> u64 {
+    let command = names::command(unsafe { from_raw_parts(s, s_len) });
+    command.map_or(2 << 32, u64::from)
+}
+
+/// # Safety
+/// `s` points to `s_len` readable bytes.
+pub unsafe extern "C" fn feel_names_is_built_in_type_name(s: *const u8, s_len: usize) -> u64 {
+    let command = names::command(unsafe { from_raw_parts(s, s_len) });
+    u64::from(command.is_some())
+}
+
+/// # Safety
+/// `parts` points to `parts_len` readable bytes, `out` to `out_len` writable ones, and they do not
+/// overlap.
+pub unsafe extern "C" fn feel_names_name_new(
+    parts: *const u8,
+    parts_len: usize,
+    out: *mut u8,
+    out_len: usize,
+) -> u64 {
+    let parts = unsafe { from_raw_parts(parts, parts_len) };
+    let out = unsafe { from_raw_parts_mut(out, out_len) };
+    let name = names::joined(parts).ok_or(19u64);
+    answer(name.and_then(|name| deliver(&name, out)))
+}
+
+/// # Safety
+/// `s` points to `s_len` readable bytes, `out` to `out_len` writable ones, and they do not overlap.
+pub unsafe extern "C" fn feel_names_trim(
+    s: *const u8,
+    s_len: usize,
+    out: *mut u8,
+    out_len: usize,
+) -> u64 {
+    let s = unsafe { from_raw_parts(s, s_len) };
+    let out = unsafe { from_raw_parts_mut(out, out_len) };
+    answer(deliver(names::trimmed(s), out))
 }

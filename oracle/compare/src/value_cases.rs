@@ -366,7 +366,7 @@ pub fn refused_values() -> Vec<Vec<u8>> {
 }
 
 /// Types for each of the refusals 6 to 10.
-fn refused_types() -> Vec<Vec<u8>> {
+pub fn refused_types() -> Vec<Vec<u8>> {
     vec![
         vec![],
         long_records(Kind::Type, MAX_LENGTH + 1).swap_remove(0),

@@ -19,6 +19,7 @@ fn every_call_agrees_on_few_cases() {
         assert_eq!(tally.smallest, None, "{tally}");
         assert!(tally.accepted > 0, "{tally}");
         assert!(tally.refused.values().all(|&count| count > 0), "{tally}");
-        assert_eq!(tally.none > 0, call.gives == Gives::Part, "{tally}");
+        let may_be_none = matches!(call.gives, Gives::Part | Gives::Command);
+        assert_eq!(tally.none > 0, may_be_none, "{tally}");
     }
 }

@@ -207,7 +207,7 @@ pub(crate) fn written_value(answer: &Value, room: usize) -> Result<Vec<u8>, u8> 
     fitting(bytes, room)
 }
 
-fn fitting(bytes: Vec<u8>, room: usize) -> Result<Vec<u8>, u8> {
+pub(crate) fn fitting(bytes: Vec<u8>, room: usize) -> Result<Vec<u8>, u8> {
     if room < bytes.len() {
         Err(18)
     } else {

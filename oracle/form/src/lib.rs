@@ -1,7 +1,7 @@
 //! Document 01's byte form over the published Rust's own `FeelType` and `Value`: the readers with
 //! their refusals, the level of a tree, and the writers; its reduced form, common supertype and
-//! subtype, and least type; and the answers of its calls over types, over values and over contexts.
-//! Written from the document alone.
+//! subtype, and least type; and the answers of its calls over types, over values, over contexts and
+//! over texts. Written from the document alone.
 
 mod bifs;
 mod bounds;
@@ -9,6 +9,7 @@ pub mod calls;
 pub mod contexts;
 mod inferred;
 mod level;
+pub mod names;
 mod read;
 mod texts;
 mod write;

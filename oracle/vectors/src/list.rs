@@ -1,7 +1,7 @@
 //! The list of cases, in groups, and its text.
 
 use feel_form::contexts::{self, Part};
-use feel_form::{calls, read_type, read_value};
+use feel_form::{calls, names, read_type, read_value};
 use std::fmt::{self, Write};
 
 /// A call, by its number in the list.
@@ -51,6 +51,11 @@ pub enum Call {
     SetEntry,
     RemoveEntry,
     SetNull,
+    Display,
+    FromStr,
+    IsBuiltInTypeName,
+    NameNew,
+    Trim,
 }
 
 impl Call {
@@ -100,6 +105,11 @@ impl Call {
             Call::SetEntry => "context_set_entry",
             Call::RemoveEntry => "context_remove_entry",
             Call::SetNull => "context_set_null",
+            Call::Display => "names_display",
+            Call::FromStr => "names_from_str",
+            Call::IsBuiltInTypeName => "names_is_built_in_type_name",
+            Call::NameNew => "names_name_new",
+            Call::Trim => "names_trim",
         }
     }
 
@@ -177,6 +187,13 @@ impl Call {
             (Call::SetNull, [c, n], [room]) => {
                 bytes_or_refusal(contexts::set_null(c, name(n), *room))
             }
+            (Call::Display, [t, table], [room]) => {
+                bytes_or_refusal(names::display(t, table, *room))
+            }
+            (Call::FromStr, [s], []) => Answer::Number(names::from_str(s).map_or(0, usize::from)),
+            (Call::IsBuiltInTypeName, [s], []) => number(Ok(names::is_built_in_type_name(s))),
+            (Call::NameNew, [parts], [room]) => bytes_or_refusal(names::name_new(parts, *room)),
+            (Call::Trim, [s], [room]) => bytes_or_refusal(names::trim(s, *room)),
             _ => panic!("no case of {self:?}: {case:?}"),
         }
     }
@@ -186,7 +203,7 @@ impl Call {
 #[derive(Debug, Clone, PartialEq, Eq)]
 pub enum Answer {
     /// A level, a count, or 0 no and 1 yes; of a part its place times 65,536 and its length, or 0 for
-    /// none.
+    /// none; the command of a type, or 0 for unknown.
     Number(usize),
     /// The bytes written; the answer is their length.
     Bytes(Vec<u8>),

@@ -8,16 +8,18 @@
 use compare::library::{
     COMPARED, feel_check_type, feel_check_value, feel_context_create_entries,
     feel_context_move_entry, feel_context_search_deep, feel_context_set_entry, feel_context_zip,
-    feel_type_get_conformant_value, feel_type_get_value_checked, feel_type_is_conformant,
-    feel_value_coerced, feel_value_is_conformant, feel_value_least_type, feel_value_type_of,
+    feel_names_display, feel_names_name_new, feel_type_get_conformant_value,
+    feel_type_get_value_checked, feel_type_is_conformant, feel_value_coerced,
+    feel_value_is_conformant, feel_value_least_type, feel_value_type_of,
 };
 use dsntk_feel::context::FeelContext;
 use dsntk_feel::values::Value;
 use dsntk_feel::{FeelType, Name};
 use feel_cases::{
-    ANY, Kind, Move, Parts, Random, Tree, ValueTree, context_chain, near, random_draft,
+    ANY, Kind, Move, Parts, Random, Tree, ValueTree, context_chain, near, parts_of, random_draft,
+    renamed, table_of,
 };
-use feel_form::{calls, contexts, least_type, name, read_type, read_value};
+use feel_form::{calls, contexts, least_type, name, names, read_type, read_value};
 use std::hint::black_box;
 use std::time::{Duration, Instant};
 
@@ -82,6 +84,11 @@ fn main() {
     for of_contexts in [creation, search, zip, setting, moving] {
         for size in SIZES {
             of_contexts(size);
+        }
+    }
+    for of_texts in [showing, naming] {
+        for size in SIZES {
+            of_texts(size);
         }
     }
 }
@@ -376,6 +383,127 @@ fn moving(size: (usize, usize)) {
             copy
         },
     );
+}
+
+/// The room for a text: a type of 16,384 bytes over the table has less.
+const TEXT: usize = 1_000_000;
+
+/// The text of types of these lengths over a table of 100 names.
+fn showing((least, most): (usize, usize)) {
+    let texts: Vec<String> = (0..100).map(|number| format!("name {number:02}")).collect();
+    let names: Vec<Name> = texts.iter().map(|text| Name::from(&text[..])).collect();
+    let table = table_of(&texts).bytes;
+    let mut random = Random::new(7);
+    let mut types = vec![];
+    let mut firsts = 0;
+    while firsts < 200_000 {
+        // A context of random types, as many as make up the length.
+        let mut entries = vec![];
+        let mut length = 3;
+        while length < least && entries.len() < names.len() {
+            let child = Tree::random(6, 1 + random.below(most / 30), &mut random);
+            let child = renamed(&child, names.len(), &mut random);
+            length += 2 + child.bytes().len();
+            entries.push((entries.len() as u16, child));
+        }
+        let tree = Tree::Context(entries);
+        let t = tree.bytes();
+        if (least..=most).contains(&t.len()) {
+            firsts += t.len();
+            types.push((t, named(&tree, &names)));
+        }
+    }
+    // Both are read.
+    let bytes = firsts + types.len() * table.len();
+    let repeats = ROUND.div_ceil(bytes);
+    let mut out = vec![0; TEXT];
+    for (t, tree) in &types {
+        let length = built(t, &table, feel_names_display, &mut out);
+        let text = tree.to_string();
+        assert_eq!(out.get(..length as usize), Some(text.as_bytes()), "no text");
+    }
+    let mut best = [Duration::MAX; 3];
+    for _ in 0..ROUNDS {
+        let round = [
+            timed(repeats, &types, |(t, _)| {
+                built(t, &table, feel_names_display, &mut out)
+            }),
+            timed(repeats, &types, |(t, _)| names::display(t, &table, TEXT)),
+            timed(repeats, &types, |(_, tree)| tree.to_string()),
+        ];
+        best = least_of(best, round);
+    }
+    row("names_display", firsts / types.len(), bytes * repeats, best);
+}
+
+/// The type with these names.
+fn named(tree: &Tree, names: &[Name]) -> FeelType {
+    match tree {
+        Tree::Simple(command) => read_type(&[*command]).expect("a simple type").0,
+        Tree::One(0x2A, inner) => FeelType::list(&named(inner, names)),
+        Tree::One(_, inner) => FeelType::range(&named(inner, names)),
+        Tree::Context(entries) => {
+            let entry = |(name, child): &(u16, Tree)| {
+                (names[usize::from(*name)].clone(), named(child, names))
+            };
+            FeelType::Context(entries.iter().map(entry).collect())
+        }
+        Tree::Function(parameters, result) => {
+            let parameters = parameters.iter().map(|child| named(child, names));
+            FeelType::function(&parameters.collect::<Vec<_>>(), &named(result, names))
+        }
+    }
+}
+
+/// The name of parts that have these lengths together, words and marks.
+fn naming((least, most): (usize, usize)) {
+    let mut random = Random::new(7);
+    let mut rows: Vec<(Vec<u8>, Vec<String>)> = vec![];
+    let mut bytes = 0;
+    while bytes < 200_000 {
+        // At most 255 parts, so that those of a long name are long.
+        let longest = 10.max(most / 100);
+        let mut parts = vec![];
+        let mut length = 1;
+        while length < least {
+            let part = match random.below(4) {
+                0 => random.pick(&["+", " - ", ".", ""]).to_string(),
+                _ => format!(" {}", "word".repeat(1 + random.below(longest / 4))),
+            };
+            length += 1 + part.len();
+            parts.push(part);
+        }
+        if length <= most && parts.len() <= 255 {
+            bytes += length;
+            rows.push((parts_of(&parts).bytes, parts));
+        }
+    }
+    let repeats = ROUND.div_ceil(bytes);
+    let mut out = vec![0; 16_384];
+    let name_new = |parts: &[u8], out: &mut [u8]| {
+        // SAFETY: each pointer and length are those of one slice, which lives through the call.
+        unsafe { feel_names_name_new(parts.as_ptr(), parts.len(), out.as_mut_ptr(), out.len()) }
+    };
+    let alone = |parts: &[String]| {
+        let parts: Vec<&str> = parts.iter().map(String::as_str).collect();
+        Name::new(&parts)
+    };
+    for (row, parts) in &rows {
+        let length = name_new(row, &mut out);
+        let name = alone(parts);
+        let bytes = name.as_str().as_bytes();
+        assert_eq!(out.get(..length as usize), Some(bytes), "no name");
+    }
+    let mut best = [Duration::MAX; 3];
+    for _ in 0..ROUNDS {
+        let round = [
+            timed(repeats, &rows, |(row, _)| name_new(row, &mut out)),
+            timed(repeats, &rows, |(row, _)| names::name_new(row, 16_384)),
+            timed(repeats, &rows, |(_, parts)| alone(parts)),
+        ];
+        best = least_of(best, round);
+    }
+    row("names_name_new", bytes / rows.len(), bytes * repeats, best);
 }
 
 /// Contexts of these lengths, with room for what is added, and a way into each.
