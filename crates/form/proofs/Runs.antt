@@ -6,8 +6,8 @@ use mathlib.Core.Bool.{Bool, true, false}
 use mathlib.Core.List.{List, [], _∷_}
 use native.Mathlib.Omega.{arith}
 use native.Mathlib.Nat.{add-zero}
-use lib.ListN.{length, take, drop, length-drop}
-use lib.Seq.{take-all, drop-drop}
+use lib.ListN.{length, getD, take, drop, length-drop}
+use lib.Seq.{take-all, drop-drop, getD-drop}
 use lib.Dec.{leb}
 use borrow.Author.Tests.{le-leb, lt-leb}
 use Rattle.form.specs.Limits.{nameWidth}
@@ -31,6 +31,10 @@ pub end-fault : {n l : ℕ} {f : Fault} → walk.End n l ≡ walk.Fault f → �
 end-fault e = let z : _≡_ {A = ℕ} 0 1 = cc in omega arith
 
 -- ---- a callee's answer on a part from a, as an answer on what is left from a
+-- the first byte behind `at`
+pub first-at : (s : List ℕ) (at : ℕ) → getD (drop at s) 0 0 ≡ getD s at 0
+first-at s at = getD-drop at s 0 0 ∙ ap (λ (n : ℕ). getD s n 0) (omega arith)
+
 pub part-of : (f : List ℕ → Walk) (s : List ℕ) (a : ℕ) {w x : Walk} → w ≡ x → w ≡ f (take (length s - a) (drop a s)) → f (drop a s) ≡ x
 part-of f s a e h = sym (rw rest at h) ∙ e
 

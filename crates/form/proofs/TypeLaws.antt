@@ -10,7 +10,7 @@ use Rattle.form.specs.Trees.{Ty, leaf, built, list, range, context, func
 use Rattle.form.specs.Form.{numAt, level, levelBuilt, levelFields, levelTys}
 use Rattle.form.specs.Layout.{TypeKind, tSimple, tList, tRange, tContext, tFunction, Kind, ofValue, ofType, noCommand, kindOf, operands, operandsT, slot, widthOf}
 use Rattle.form.specs.Read.{Got, got, bad, readFields, readTys, counted, readFunction, stepType, stepT, readT}
-use Rattle.form.specs.Walks.{walkOf, walkBy, pairWalk, up}
+use Rattle.form.specs.Walks.{walkOf, walkBy, pairWalk, up, Short}
 use Rattle.form.specs.declared.Fault.the-variants.{Shape, Names, Level}
 use Rattle.form.specs.declared.Walk.the-variants as walk
 use Rattle.form.proofs.Commands.{ViewT, isSimpleT, isListT, isRangeT, isContextT, isFunctionT, View, isValue, isType, isGap, isBeyond, view, there, value-below}
@@ -137,3 +137,7 @@ module _ (l : ℕ) (s : List ℕ) (h : 0 < length s) (p : 0 < l) where
     pub t-function : (m : ℕ) → m ≡ suc (getD s 1 0) → kindOf (getD s 0 0) ≡ ofType tFunction → walkOf level (readT l s) ≡ up 2 (walkBy levelTys 0 0 (readTys (readT (l - 1)) m (drop 2 s)))
     unfolding stepType operandsT
     t-function m me e = t-kind tFunction e ∙ rw (me, ← getD-drop 1 s 0 0, ← drop-drop 1 1 s) (function-is (readT (l - 1)) (drop 1 s) (simp length-drop (off tFunction e)))
+
+-- the short way past a simple type
+pub short-simple : (l : ℕ) (s : List ℕ) (at : ℕ) → 0 < l → at < length s → kindOf (getD (drop at s) 0 0) ≡ ofType tSimple → Short (walkOf level (readT l (drop at s))) 1 (length s - at)
+short-simple l s at p h e q = (t-simple l (drop at s) (simp length-drop (omega arith)) p e, omega arith)

@@ -15,7 +15,7 @@ use Rattle.form.specs.Layout.{ValueKind, kNull, kBoolean, kNumber, kStri
 use Rattle.form.specs.Limits.{nameWidth}
 use Rattle.form.specs.Outcome.{pick}
 use Rattle.form.specs.Read.{Got, got, bad, front, andThen, orElse, operand, readRun, readVals, readEntries, readParams, readFlag, readKey, counted, readRange, signature, readDefinition, readT, stepValue, stepV, readV}
-use Rattle.form.specs.Walks.{walkOf, walkBy, pairWalk, up, flagWalk}
+use Rattle.form.specs.Walks.{walkOf, walkBy, pairWalk, up, Short, flagWalk}
 use Rattle.form.specs.declared.Fault.the-variants.{Shape, Names, Level}
 use Rattle.form.specs.declared.Walk.the-variants as walk
 use Rattle.form.proofs.Commands.{ViewV, isNull, isBoolean, isNumber, isString, isTemporal, isRange, isList, isContext, isDefinition, isBuiltIn, isFeelType, isIrrelevant, View, isValue, isType, isGap, isBeyond, view, there, width-is}
@@ -267,3 +267,27 @@ module _ (l : ℕ) (s : List ℕ) (h : 0 < length s) (p : 0 < l) where
     pub v-definition : (c : ℕ) → c ≡ getD s 1 0 → kindOf (getD s 0 0) ≡ ofValue kDefinition → walkOf levelV (readV l s) ≡ up 4 (pairWalk level levelParams (drop 4 s) (readParams (readT (l - 1)) c 0) (readT (l - 1) (drop 4 s)))
     unfolding stepValue operandsV
     v-definition c ce e = v-kind kDefinition e ∙ rw ce (definition-is (readT (l - 1)) s (off kDefinition e))
+
+-- ---- the short way past a leaf with a key or a text
+module _ (l : ℕ) (s : List ℕ) (at n : ℕ) (p : 0 < l) (h : at < length s) where
+  behind : 0 < length (drop at s)
+  behind = simp length-drop (omega arith)
+
+  short-key : (k : ValueKind) (w : ℕ) → kindOf (getD (drop at s) 0 0) ≡ ofValue k → operandsV k ≡ w → ((o : widthOf (getD (drop at s) 0 0) ≤ length (drop at s) - 1) → w ≡ widthOf (getD (drop at s) 0 0) → walkOf levelV (readV l (drop at s)) ≡ walk.End (w + 1) 1) → (0 < n → (n ≡ w + 1) × (w + 1 ≤ length s - at)) → Short (walkOf levelV (readV l (drop at s))) n (length s - at)
+  unfolding operands
+  short-key k w e o g f q =
+      let v : widthOf (getD (drop at s) 0 0) ≡ w = width-is (getD (drop at s) 0 0) (ofValue k) e ∙ o in
+      let d : length (drop at s) ≡ length s - at = length-drop at s in
+      rw (f q .0) (g (omega (arith, v, d, f q .1)) (sym v), f q .1)
+
+  pub short-number : kindOf (getD (drop at s) 0 0) ≡ ofValue kNumber → (0 < n → (n ≡ 9) × (9 ≤ length s - at)) → Short (walkOf levelV (readV l (drop at s))) n (length s - at)
+  unfolding operandsV
+  short-number e = short-key kNumber 8 e refl (λ o w. v-number l (drop at s) behind p o 8 w e)
+
+  pub short-string : kindOf (getD (drop at s) 0 0) ≡ ofValue kString → (0 < n → (n ≡ nameWidth + 1) × (nameWidth + 1 ≤ length s - at)) → Short (walkOf levelV (readV l (drop at s))) n (length s - at)
+  unfolding operandsV
+  short-string e = short-key kString nameWidth e refl (λ o w. v-string l (drop at s) behind p o nameWidth w e)
+
+  pub short-temporal : kindOf (getD (drop at s) 0 0) ≡ ofValue kTemporal → (0 < n → (n ≡ 9) × (9 ≤ length s - at)) → Short (walkOf levelV (readV l (drop at s))) n (length s - at)
+  unfolding operandsV
+  short-temporal e = short-key kTemporal 8 e refl (λ o w. v-temporal l (drop at s) behind p o 8 w e)

@@ -1,6 +1,7 @@
 -- What the walks of the code answer: the reader's answer without the tree.
 -- Assumes nothing.
 use Prim.Native.Nat.{ℕ, _+_, _<_, _≤_, _^_, max}
+use mathlib.Core.Path.{_≡_}
 use mathlib.Core.List.{List}
 use lib.ListN.{drop}
 use lib.Dec.{leb, eqb}
@@ -39,6 +40,10 @@ Room (walk.Fault f) k = Unit {0}
 abbrev pub Inside : Walk → ℕ → Type 0
 Inside (walk.End size lv) n = (size ≤ n) × (lv ≤ size)
 Inside (walk.Fault f) n = Unit {0}
+
+-- a short way past n bytes, taken where n is not 0: the walk is one of a leaf of n bytes, and there is room for them
+abbrev pub Short : Walk → ℕ → ℕ → Type 0
+Short w n room = 0 < n → (w ≡ walk.End n 1) × (n ≤ room)
 
 -- a leaf with one operand byte, at most m
 abbrev pub flagWalk : ℕ → ℕ → Walk

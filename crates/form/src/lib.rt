@@ -1,12 +1,12 @@
 // The byte form of document 01: one walk over a value or a type says where it ends and its level, or the first fault.
 ghost use mathlib.Core.Path.{_≡_};
-ghost use Prim.Native.Nat.{ℕ, _+_, _*_, _<_, _≤_, max};
+ghost use Prim.Native.Nat.{ℕ, _+_, _*_, _-_, _<_, _≤_, max};
 ghost use lib.ListN.{length, drop};
 ghost use Rattle.form.specs.Limits.{nameWidth, nameEnd};
 ghost use Rattle.form.specs.Form.{numAt, level, levelFields, levelTys, levelParams, levelV, levelVals, levelEntries, Bytes};
 ghost use Rattle.form.specs.Layout.{widthOf};
 ghost use Rattle.form.specs.Read.{readT, readFields, readTys, readParams, readV, readVals, readEntries, numberOf, checkType, checkValue};
-ghost use Rattle.form.specs.Walks.{walkOf, walkBy, pairWalk, up, Room, Inside, flagWalk, settled};
+ghost use Rattle.form.specs.Walks.{walkOf, walkBy, pairWalk, up, Room, Inside, Short, flagWalk, settled};
 ghost use Rattle.form.specs.Answers.{checked};
 
 // The limits of document 01; specs/Limits.antt has the same numbers.
@@ -150,6 +150,13 @@ pub fn larger(a: usize, b: usize) -> usize
     if a < b { b } else { a }
 }
 
+// n where there is room for n bytes, 0 where there is not.
+fn fitting(n: usize, room: usize) -> usize
+    ensures { λ r. ⌜ (0 < r → (r ≡ n) × (n ≤ room)) ⌝ }
+{
+    if room < n { 0 } else { n }
+}
+
 // A parent over what was walked: k bytes in front, one level on top.
 fn lift(w: Walk, k: usize) -> Walk
     requires { ⌜ Room w k ⌝ }
@@ -176,6 +183,23 @@ fn flag(x: u8, most: u8) -> Walk
 }
 
 // ---- types
+
+// The size of the type at `at` where it is a simple one, 0 where it is not: a short way past most types.
+pub fn simple_at(s: &[u8], at: usize, left: usize) -> usize
+    requires { ⌜ at ≤ length (now s) ⌝ }
+    ensures { λ r. ⌜ Short (walkOf level (readT left (drop at (now (s .entry))))) r (length (now (s .entry)) - at) ⌝ }
+{
+    if left == 0 {
+        return 0;
+    }
+    if s.len() == at {
+        return 0;
+    }
+    match s[at] {
+        0x20..=0x29 => 1,
+        _ => 0,
+    }
+}
 
 pub fn walk_type(s: &[u8], left: usize) -> Walk
     ensures { λ r. ⌜ r ≡ walkOf level (readT left (now (s .entry))) ⌝ }
@@ -219,6 +243,14 @@ fn walk_fields(s: &[u8], count: usize, left: usize) -> Walk
             return Walk::Fault(Fault::Names);
         }
         let from = at + NAME_WIDTH;
+        let n = simple_at(s, from, left);
+        if n != 0 {
+            at = from + n;
+            deep = larger(deep, 1);
+            least = name + 1;
+            i += 1;
+            continue;
+        }
         match walk_type(&s[from..], left) {
             Walk::End { size, level } => {
                 at = from + size;
@@ -244,6 +276,13 @@ fn walk_types(s: &[u8], count: usize, left: usize) -> Walk
     let mut deep: usize = 0;
     let mut i: usize = 0;
     while i < count {
+        let n = simple_at(s, at, left);
+        if n != 0 {
+            at = at + n;
+            deep = larger(deep, 1);
+            i += 1;
+            continue;
+        }
         match walk_type(&s[at..], left) {
             Walk::End { size, level } => {
                 at = at + size;
@@ -260,6 +299,26 @@ fn walk_types(s: &[u8], count: usize, left: usize) -> Walk
 }
 
 // ---- values
+
+// The size of the value at `at` where it is a number, a string or a temporal, 0 where it is not: a short way past most values.
+pub fn key_at(s: &[u8], at: usize, left: usize) -> usize
+    requires { ⌜ at ≤ length (now s) ⌝ }
+    ensures { λ r. ⌜ Short (walkOf levelV (readV left (drop at (now (s .entry))))) r (length (now (s .entry)) - at) ⌝ }
+{
+    if left == 0 {
+        return 0;
+    }
+    if s.len() == at {
+        return 0;
+    }
+    let room = s.len() - at;
+    match s[at] {
+        0x02 => fitting(9, room),
+        0x03 => fitting(NAME_WIDTH + 1, room),
+        0x04..=0x08 => fitting(9, room),
+        _ => 0,
+    }
+}
 
 // `count` names and types of a definition, in any order, behind `start` bytes of level `top`.
 fn walk_parameters(s: &[u8], start: usize, top: usize, count: usize, left: usize) -> Walk
@@ -361,6 +420,13 @@ fn walk_items(s: &[u8], count: usize, left: usize) -> Walk
     let mut deep: usize = 0;
     let mut i: usize = 0;
     while i < count {
+        let n = key_at(s, at, left);
+        if n != 0 {
+            at = at + n;
+            deep = larger(deep, 1);
+            i += 1;
+            continue;
+        }
         match walk_value(&s[at..], left) {
             Walk::End { size, level } => {
                 at = at + size;
@@ -394,6 +460,14 @@ fn walk_entries(s: &[u8], count: usize, left: usize) -> Walk
             return Walk::Fault(Fault::Names);
         }
         let from = at + NAME_WIDTH;
+        let n = key_at(s, from, left);
+        if n != 0 {
+            at = from + n;
+            deep = larger(deep, 1);
+            least = name + 1;
+            i += 1;
+            continue;
+        }
         match walk_value(&s[from..], left) {
             Walk::End { size, level } => {
                 at = from + size;

@@ -12,9 +12,9 @@ use borrow.Author.Count.{below-more}
 use borrow.Author.Tests.{le-leb, lt-leb, eq-eqb, ne-eqb}
 use lib.ListN.{length, getD, take, drop, set, length-drop, List·getD-append}
 use lib.Seq.{drop-cons, drop-length, drop-at, take-all, length-take-le, getD-set-same, getD-set-other}
-use Rattle.replay.specs.declared.Number.{Number}
-use Rattle.replay.specs.declared.Number.the-variants as number
-use Rattle.replay.specs.declared.Answer.the-variants as answer
+use Rattle.replay.specs.declared.fields.Number.{Number}
+use Rattle.replay.specs.declared.fields.Number.the-variants as number
+use Rattle.replay.specs.declared.calls.Answer.the-variants as answer
 use Rattle.replay.specs.Lines.{Ends, Behind}
 use Rattle.replay.specs.Fields.{digitOf, numberFrom, numberOf, accepted, refused, expectedOf, byteOf, Spells, Decodes, nameAt, Names}
 

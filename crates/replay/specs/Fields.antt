@@ -5,12 +5,12 @@ use mathlib.Core.Bool.{Bool, true, false}
 use mathlib.Core.List.{List, [], _∷_}
 use lib.ListN.{length, getD, take, drop}
 use lib.Dec.{leb, eqb}
-use Rattle.replay.specs.declared.Number.{Number}
-use Rattle.replay.specs.declared.Number.the-variants as number
-use Rattle.replay.specs.declared.Answer.{Answer}
-use Rattle.replay.specs.declared.Answer.the-variants as answer
-use Rattle.replay.specs.declared.Taken.{Taken}
-use Rattle.replay.specs.declared.Path.{Path}
+use Rattle.replay.specs.declared.fields.Number.{Number}
+use Rattle.replay.specs.declared.fields.Number.the-variants as number
+use Rattle.replay.specs.declared.calls.Answer.{Answer}
+use Rattle.replay.specs.declared.calls.Answer.the-variants as answer
+use Rattle.replay.specs.declared.fields.Taken.{Taken}
+use Rattle.replay.specs.declared.fields.Path.{Path}
 
 abbrev pub pick : {A : Type 0} → Bool → A → A → A
 pick true a b = a

@@ -1,10 +1,10 @@
 -- Verdicts and their counts. Assumes nothing.
 use Prim.Native.Nat.{ℕ, _+_}
 use mathlib.Core.Path.{_≡_}
-use Rattle.replay.specs.declared.Answer.{Answer}
-use Rattle.replay.specs.declared.Answer.the-variants as answer
-use Rattle.replay.specs.declared.Verdict.{Verdict}
-use Rattle.replay.specs.declared.Verdict.the-variants as verdict
+use Rattle.replay.specs.declared.calls.Answer.{Answer}
+use Rattle.replay.specs.declared.calls.Answer.the-variants as answer
+use Rattle.replay.specs.declared.calls.Verdict.{Verdict}
+use Rattle.replay.specs.declared.calls.Verdict.the-variants as verdict
 use Rattle.replay.specs.declared.Tally.{Tally}
 
 -- it is an answer

@@ -33,6 +33,10 @@ pub const NAME_END: usize = 65536;
 pub fn skip(s: &[u8], left: usize) -> usize
     ensures { λ r. ⌜ r ≡ sizeAt (typeAt left (now (s .entry))) ⌝ }
 {
+    let n = form::simple_at(s, 0, left);
+    if n != 0 {
+        return n;
+    }
     match form::walk_type(s, left) {
         Walk::End { size, level: _ } => size,
         Walk::Fault(_) => 0,

@@ -16,6 +16,10 @@ use types::Conform;
 pub fn skip(s: &[u8], left: usize) -> usize
     ensures { λ r. ⌜ r ≡ sizeAtV (valueAt left (now (s .entry))) ⌝ }
 {
+    let n = form::key_at(s, 0, left);
+    if n != 0 {
+        return n;
+    }
     match form::walk_value(s, left) {
         Walk::End { size, level: _ } => size,
         Walk::Fault(_) => 0,

@@ -11,6 +11,7 @@ mod inferred;
 mod level;
 pub mod names;
 mod read;
+mod refusals;
 mod texts;
 mod write;
 
@@ -19,6 +20,7 @@ pub use bounds::{common_subtype, common_supertype, reduced};
 pub use inferred::{least_type, lists_inside, type_of, type_of_parts};
 pub use level::{type_level, value_level};
 pub use read::{read_type, read_value};
+pub use refusals::words;
 pub use texts::{name, text};
 pub use write::{write_type, write_value};
 

@@ -301,7 +301,7 @@ fn put_group(out: &mut String, group: &Group) -> fmt::Result {
 }
 
 /// Upper-case digits without blanks, `.` for no bytes.
-fn hex(bytes: &[u8]) -> String {
+pub fn hex(bytes: &[u8]) -> String {
     if bytes.is_empty() {
         return ".".to_string();
     }

@@ -1,5 +1,7 @@
-//! Writes the list of cases with the Rust's answers, which the program `replay` runs.
+//! Writes the list of cases with the Rust's answers, which the program `replay` runs; or the same
+//! cases as questions to the program `verdicts`, or the Rust's answers in its words.
 
+mod asked;
 mod bounds;
 mod conformance;
 mod contexts;
@@ -16,6 +18,7 @@ mod values;
 
 use list::Group;
 use std::io::{self, Write};
+use std::{env, process};
 
 fn groups() -> Vec<Group> {
     values::groups()
@@ -34,7 +37,17 @@ fn groups() -> Vec<Group> {
 }
 
 fn main() -> io::Result<()> {
-    io::stdout().write_all(list::text(&groups()).as_bytes())
+    let words: Vec<String> = env::args().skip(1).collect();
+    let text = match words.iter().map(String::as_str).collect::<Vec<_>>()[..] {
+        [] => list::text(&groups()),
+        ["questions"] => asked::questions(&groups()),
+        ["answers"] => asked::answers(&groups()),
+        _ => {
+            eprintln!("usage: vectors [questions | answers]");
+            process::exit(2);
+        }
+    };
+    io::stdout().write_all(text.as_bytes())
 }
 
 #[cfg(test)]

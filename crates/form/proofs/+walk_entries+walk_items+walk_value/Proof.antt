@@ -13,6 +13,7 @@ use Rattle.form.proofs.walk_value.Reads as walk-value
 use Rattle.form.proofs.walk_value.Kinds as walk-value-kinds
 use Rattle.form.proofs.+walk_entries+walk_items+walk_value.Lts-walk_value as walk-value-lts
 use Rattle.form.proofs.flag.Reads as flag-reads
+use Rattle.form.proofs.key_at.Reads as key-at-reads
 use Rattle.form.proofs.larger.Reads as larger-reads
 use Rattle.form.proofs.lift.Reads as lift-reads
 use Rattle.form.proofs.name_at.Reads as name-at-reads
@@ -90,19 +91,19 @@ abbrev walk-items-μ-loop : walk-items-lts.MeasureT-loop
 walk-items-μ-loop s count left at₀ deep₀ i₀ at deep i = count - i
 
 abbrev walk-entries-claims : ℕ → walk-entries-lts.Claims
-walk-entries-claims t = (name-at-reads.Asked, name-at-reads.Learnt, walk-value-below t, walk-value.Post, larger-reads.Asked, larger-reads.Learnt)
+walk-entries-claims t = (name-at-reads.Asked, name-at-reads.Learnt, key-at-reads.Asked, key-at-reads.Learnt, larger-reads.Asked, larger-reads.Learnt, walk-value-below t, walk-value.Post)
 
 abbrev walk-items-claims : ℕ → walk-items-lts.Claims
-walk-items-claims t = (walk-value-below t, walk-value.Post, larger-reads.Asked, larger-reads.Learnt)
+walk-items-claims t = (key-at-reads.Asked, key-at-reads.Learnt, larger-reads.Asked, larger-reads.Learnt, walk-value-below t, walk-value.Post)
 
 abbrev walk-value-claims : ℕ → walk-value-lts.Claims
 walk-value-claims t = (width-reads.Asked, width-reads.Learnt, flag-reads.Asked, flag-reads.Learnt, walk-items-below t, walk-items.Post, lift-reads.Asked, lift-reads.Learnt, word-at-reads.Asked, word-at-reads.Learnt, walk-entries-below t, walk-entries.Post, wide-reads.Asked, wide-reads.Learnt, walk-definition-reads.Asked, walk-definition-reads.Learnt, walk-type-reads.Asked, walk-type-reads.Learnt)
 
-walk-entries-ended : (t : ℕ) (c : walk-entries-lts.After-size (walk-entries-claims t) (walk-entries-at t) walk-entries.Post walk-entries-Inv-loop walk-entries-μ-loop) → (c .size .given .0 .0 ≤ length (c .before .before .before .before .before .before .before .before .before .before .args .s .now) - (c .before .before .before .before .before .before .before .before .loop .at + nameWidth)) × (c .size .given .0 .1 .0 ≤ c .size .given .0 .0)
-walk-entries-ended t c = inside-of (c .before .before .walk-value .result) (c .before .before .before .before .before .before .before .before .before .before .args .s .now) (c .before .before .before .before .before .before .before .before .loop .at + nameWidth) (c .size .given .0 .0) (c .size .given .0 .1 .0) (c .size .given .1) (c .before .before .walk-value .ensures .1)
+walk-entries-ended : (t : ℕ) (c : walk-entries-lts.After-size (walk-entries-claims t) (walk-entries-at t) walk-entries.Post walk-entries-Inv-loop walk-entries-μ-loop) → (c .size .given .0 .0 ≤ length (c .before .before .before .before .before .before .before .before .before .before .before .before .args .s .now) - (c .before .before .before .before .before .before .before .before .before .before .loop .at + nameWidth)) × (c .size .given .0 .1 .0 ≤ c .size .given .0 .0)
+walk-entries-ended t c = inside-of (c .before .before .walk-value .result) (c .before .before .before .before .before .before .before .before .before .before .before .before .args .s .now) (c .before .before .before .before .before .before .before .before .before .before .loop .at + nameWidth) (c .size .given .0 .0) (c .size .given .0 .1 .0) (c .size .given .1) (c .before .before .walk-value .ensures .1)
 
-walk-items-ended : (t : ℕ) (c : walk-items-lts.After-size (walk-items-claims t) (walk-items-at t) walk-items.Post walk-items-Inv-loop walk-items-μ-loop) → (c .size .given .0 .0 ≤ length (c .before .before .before .before .before .before .before .args .s .now) - (c .before .before .before .before .before .loop .at)) × (c .size .given .0 .1 .0 ≤ c .size .given .0 .0)
-walk-items-ended t c = inside-of (c .before .before .walk-value .result) (c .before .before .before .before .before .before .before .args .s .now) (c .before .before .before .before .before .loop .at) (c .size .given .0 .0) (c .size .given .0 .1 .0) (c .size .given .1) (c .before .before .walk-value .ensures .1)
+walk-items-ended : (t : ℕ) (c : walk-items-lts.After-size (walk-items-claims t) (walk-items-at t) walk-items.Post walk-items-Inv-loop walk-items-μ-loop) → (c .size .given .0 .0 ≤ length (c .before .before .before .before .before .before .before .before .before .args .s .now) - (c .before .before .before .before .before .before .before .loop .at)) × (c .size .given .0 .1 .0 ≤ c .size .given .0 .0)
+walk-items-ended t c = inside-of (c .before .before .walk-value .result) (c .before .before .before .before .before .before .before .before .before .args .s .now) (c .before .before .before .before .before .before .before .loop .at) (c .size .given .0 .0) (c .size .given .0 .1 .0) (c .size .given .1) (c .before .before .walk-value .ensures .1)
 
 walk-value-open : (t : ℕ) (c : walk-value-lts.Else3 (walk-value-claims t) (walk-value-at t) walk-value.Post) → (0 < length (c .before .before .before .before .before .before .args .s .now)) × ((0 < c .before .before .before .before .before .before .args .left) × (widthOf (getD (c .before .before .before .before .before .before .args .s .now) 0 0) ≤ length (c .before .before .before .before .before .before .args .s .now) - 1))
 walk-value-open t c = (omega arith, (omega arith, omega arith))
@@ -164,19 +165,26 @@ pub +walk-entries+walk-items+walk-value-spec : {M : Type 1} → statement M
     (λ c κs. omega (arith, c .before .before .loop .inv))
     (λ c. (run-fault (c .before .before .before .before .loop .inv) Names (c .before .before .before .loop-test .taken) (named-names levelV levelEntries no-entries entry ascending entries-law (readV (c .before .before .before .before .before .before .args .left)) (c .before .before .before .before .before .before .args .s .now) (c .before .before .before .before .loop .at) (c .before .before .before .before .loop .deep) (c .before .before .before .before .loop .least) (c .before .name-at .result) (c .before .name-at .ensures .0) (c .before .before .if1 .left) (c .if2 .taken)), tt))
     (λ c. search needs)
+    (λ c κs. omega (arith, c .before .before .before .before .loop .inv))
+    (λ c. let q = c .before .key-at .ensures (omega arith) in omega (arith, q .1, c .before .before .before .before .before .before .loop .inv))
+    (λ c κs. search needs)
+    (λ c. omega (arith, c .before .before .before .before .name-at .ensures))
+    (λ c. search needs)
+    (λ c. search needs)
+    (λ c. let at = c .before .before .before .before .before .before .before .loop .inv .inside in let two = c .before .before .before .before .before .if1 .left in let q = c .before .before .key-at .ensures (omega arith) in run-turn (c .before .before .before .before .before .before .before .loop .inv) (λ (n : ℕ). readNamed no-entries entry ascending (readV (c .before .before .before .before .before .before .before .before .before .args .left)) n (c .before .before .before .before .name-at .result + 1)) (c .before .before .before .before .before .before .before .loop .at + nameWidth) (c .larger .result) (c .before .before .key-at .result) 1 (c .before .before .before .before .before .before .loop-test .taken) (c .larger .ensures) (q .1, omega arith) (omega arith) (omega arith) (named-turn levelV levelEntries no-entries entry ascending entries-law (readV (c .before .before .before .before .before .before .before .before .before .args .left)) (c .before .before .before .before .before .before .before .before .before .args .s .now) (c .before .before .before .before .before .before .before .loop .at) (c .before .before .before .before .before .before .before .loop .deep) (c .before .before .before .before .before .before .before .loop .least) (c .before .before .before .before .name-at .result) (c .before .before .before .before .name-at .ensures .0) (c .before .before .before .before .before .if1 .left) (c .before .before .key-at .result) 1 (c .before .before .before .if2 .left) (q .0)))
     (λ c. search needs)
     (λ c. search needs)
     (λ c. search needs)
     (λ c κs. search needs)
     (λ c. search needs)
-    (λ c. let i = walk-entries-ended t (c .before) in omega (arith, c .before .before .before .before .before .before .before .before .before .loop .inv))
+    (λ c. let i = walk-entries-ended t (c .before) in omega (arith, c .before .before .before .before .before .before .before .before .before .before .before .loop .inv))
     (λ c κs. search needs)
     (λ c. search needs)
-    (λ c. (run-fault (c .before .before .before .before .before .before .before .before .before .loop .inv) (c .before .f .given .0 .0) (c .before .before .before .before .before .before .before .before .loop-test .taken) (named-fault levelV levelEntries no-entries entry ascending entries-law (readV (c .before .before .before .before .before .before .before .before .before .before .before .args .left)) (c .before .before .before .before .before .before .before .before .before .before .before .args .s .now) (c .before .before .before .before .before .before .before .before .before .loop .at) (c .before .before .before .before .before .before .before .before .before .loop .deep) (c .before .before .before .before .before .before .before .before .before .loop .least) (c .before .before .before .before .before .before .name-at .result) (c .before .before .before .before .before .before .name-at .ensures .0) (c .before .before .before .before .before .before .before .if1 .left) (c .before .f .given .0 .0) (c .before .before .before .before .before .if2 .left) (part-of (λ (r : List ℕ). walkOf levelV (readV (c .before .before .before .before .before .before .before .before .before .before .before .args .left) r)) (c .before .before .before .before .before .before .before .before .before .before .before .args .s .now) (c .before .before .before .before .before .before .before .before .before .loop .at + nameWidth) {x = walk.Fault (c .before .f .given .0 .0)} (c .before .f .given .1) (c .before .before .before .walk-value .ensures .0))), tt))
-    (λ c. omega (arith, c .before .before .before .before .before .before .before .name-at .ensures))
+    (λ c. (run-fault (c .before .before .before .before .before .before .before .before .before .before .before .loop .inv) (c .before .f .given .0 .0) (c .before .before .before .before .before .before .before .before .before .before .loop-test .taken) (named-fault levelV levelEntries no-entries entry ascending entries-law (readV (c .before .before .before .before .before .before .before .before .before .before .before .before .before .args .left)) (c .before .before .before .before .before .before .before .before .before .before .before .before .before .args .s .now) (c .before .before .before .before .before .before .before .before .before .before .before .loop .at) (c .before .before .before .before .before .before .before .before .before .before .before .loop .deep) (c .before .before .before .before .before .before .before .before .before .before .before .loop .least) (c .before .before .before .before .before .before .before .before .name-at .result) (c .before .before .before .before .before .before .before .before .name-at .ensures .0) (c .before .before .before .before .before .before .before .before .before .if1 .left) (c .before .f .given .0 .0) (c .before .before .before .before .before .before .before .if2 .left) (part-of (λ (r : List ℕ). walkOf levelV (readV (c .before .before .before .before .before .before .before .before .before .before .before .before .before .args .left) r)) (c .before .before .before .before .before .before .before .before .before .before .before .before .before .args .s .now) (c .before .before .before .before .before .before .before .before .before .before .before .loop .at + nameWidth) {x = walk.Fault (c .before .f .given .0 .0)} (c .before .f .given .1) (c .before .before .before .walk-value .ensures .0))), tt))
+    (λ c. omega (arith, c .before .before .before .before .before .before .before .before .before .name-at .ensures))
     (λ c. search needs)
     (λ c. search needs)
-    (λ c. let at = c .before .before .before .before .before .before .before .before .before .before .loop .inv .inside in let two = c .before .before .before .before .before .before .before .before .if1 .left in run-turn (c .before .before .before .before .before .before .before .before .before .before .loop .inv) (λ (n : ℕ). readNamed no-entries entry ascending (readV (c .before .before .before .before .before .before .before .before .before .before .before .before .args .left)) n (c .before .before .before .before .before .before .before .name-at .result + 1)) (c .before .before .before .before .before .before .before .before .before .before .loop .at + nameWidth) (c .larger .result) (c .before .before .size .given .0 .0) (c .before .before .size .given .0 .1 .0) (c .before .before .before .before .before .before .before .before .before .loop-test .taken) (c .larger .ensures) (walk-entries-ended t (c .before .before)) (omega arith) (omega arith) (named-turn levelV levelEntries no-entries entry ascending entries-law (readV (c .before .before .before .before .before .before .before .before .before .before .before .before .args .left)) (c .before .before .before .before .before .before .before .before .before .before .before .before .args .s .now) (c .before .before .before .before .before .before .before .before .before .before .loop .at) (c .before .before .before .before .before .before .before .before .before .before .loop .deep) (c .before .before .before .before .before .before .before .before .before .before .loop .least) (c .before .before .before .before .before .before .before .name-at .result) (c .before .before .before .before .before .before .before .name-at .ensures .0) (c .before .before .before .before .before .before .before .before .if1 .left) (c .before .before .size .given .0 .0) (c .before .before .size .given .0 .1 .0) (c .before .before .before .before .before .before .if2 .left) (part-of (λ (r : List ℕ). walkOf levelV (readV (c .before .before .before .before .before .before .before .before .before .before .before .before .args .left) r)) (c .before .before .before .before .before .before .before .before .before .before .before .before .args .s .now) (c .before .before .before .before .before .before .before .before .before .before .loop .at + nameWidth) {x = walk.End (c .before .before .size .given .0 .0) (c .before .before .size .given .0 .1 .0)} (c .before .before .size .given .1) (c .before .before .before .before .walk-value .ensures .0))))
+    (λ c. let at = c .before .before .before .before .before .before .before .before .before .before .before .before .loop .inv .inside in let two = c .before .before .before .before .before .before .before .before .before .before .if1 .left in run-turn (c .before .before .before .before .before .before .before .before .before .before .before .before .loop .inv) (λ (n : ℕ). readNamed no-entries entry ascending (readV (c .before .before .before .before .before .before .before .before .before .before .before .before .before .before .args .left)) n (c .before .before .before .before .before .before .before .before .before .name-at .result + 1)) (c .before .before .before .before .before .before .before .before .before .before .before .before .loop .at + nameWidth) (c .larger2 .result) (c .before .before .size .given .0 .0) (c .before .before .size .given .0 .1 .0) (c .before .before .before .before .before .before .before .before .before .before .before .loop-test .taken) (c .larger2 .ensures) (walk-entries-ended t (c .before .before)) (omega arith) (omega arith) (named-turn levelV levelEntries no-entries entry ascending entries-law (readV (c .before .before .before .before .before .before .before .before .before .before .before .before .before .before .args .left)) (c .before .before .before .before .before .before .before .before .before .before .before .before .before .before .args .s .now) (c .before .before .before .before .before .before .before .before .before .before .before .before .loop .at) (c .before .before .before .before .before .before .before .before .before .before .before .before .loop .deep) (c .before .before .before .before .before .before .before .before .before .before .before .before .loop .least) (c .before .before .before .before .before .before .before .before .before .name-at .result) (c .before .before .before .before .before .before .before .before .before .name-at .ensures .0) (c .before .before .before .before .before .before .before .before .before .before .if1 .left) (c .before .before .size .given .0 .0) (c .before .before .size .given .0 .1 .0) (c .before .before .before .before .before .before .before .before .if2 .left) (part-of (λ (r : List ℕ). walkOf levelV (readV (c .before .before .before .before .before .before .before .before .before .before .before .before .before .before .args .left) r)) (c .before .before .before .before .before .before .before .before .before .before .before .before .before .before .args .s .now) (c .before .before .before .before .before .before .before .before .before .before .before .before .loop .at + nameWidth) {x = walk.End (c .before .before .size .given .0 .0) (c .before .before .size .given .0 .1 .0)} (c .before .before .size .given .1) (c .before .before .before .before .walk-value .ensures .0))))
     (λ c. (run-done (c .before .loop .inv) no-entries entries-flat (named-none levelV levelEntries no-entries entry ascending entries-law (readV (c .before .before .before .args .left)) (c .before .loop .least)) (c .loop-test .left), (c .before .loop .inv .inside, c .before .loop .inv .shallow))))
     (λ t. walk-items-lts.spec (walk-items-claims t)
     (walk-items-at t)
@@ -184,6 +192,12 @@ pub +walk-entries+walk-items+walk-value-spec : {M : Type 1} → statement M
     walk-items-Inv-loop
     walk-items-μ-loop
     (λ c. run-start levelVals (readRun no-items item (readV (c .before .args .left))) (c .before .args .s .now) (c .before .args .count) 0 0 (omega arith) (omega arith))
+    (λ c κs. omega (arith, c .before .loop .inv))
+    (λ c. let q = c .before .key-at .ensures (omega arith) in omega (arith, q .1, c .before .before .before .loop .inv))
+    (λ c κs. search needs)
+    (λ c. search needs)
+    (λ c. search needs)
+    (λ c. let at = c .before .before .before .before .loop .inv .inside in let q = c .before .before .key-at .ensures (omega arith) in run-turn (c .before .before .before .before .loop .inv) (readRun no-items item (readV (c .before .before .before .before .before .before .args .left))) (c .before .before .before .before .loop .at) (c .larger .result) (c .before .before .key-at .result) 1 (c .before .before .before .loop-test .taken) (c .larger .ensures) (q .1, omega arith) (omega arith) (omega arith) (item-turn levelV levelVals no-items item vals-law (readV (c .before .before .before .before .before .before .args .left)) (c .before .before .before .before .before .before .args .s .now) (c .before .before .before .before .loop .at) (c .before .before .before .before .loop .deep) (c .before .before .key-at .result) 1 (q .0)))
     (λ c. search needs)
     (λ c. search needs)
     (λ c. search needs)
@@ -192,10 +206,10 @@ pub +walk-entries+walk-items+walk-value-spec : {M : Type 1} → statement M
     (λ c. let i = walk-items-ended t (c .before) in omega arith)
     (λ c κs. search needs)
     (λ c. search needs)
-    (λ c. (run-fault (c .before .before .before .before .before .before .loop .inv) (c .before .f .given .0 .0) (c .before .before .before .before .before .loop-test .taken) (item-fault levelV levelVals no-items item vals-law (readV (c .before .before .before .before .before .before .before .before .args .left)) (c .before .before .before .before .before .before .before .before .args .s .now) (c .before .before .before .before .before .before .loop .at) (c .before .before .before .before .before .before .loop .deep) (c .before .f .given .0 .0) (part-of (λ (r : List ℕ). walkOf levelV (readV (c .before .before .before .before .before .before .before .before .args .left) r)) (c .before .before .before .before .before .before .before .before .args .s .now) (c .before .before .before .before .before .before .loop .at) {x = walk.Fault (c .before .f .given .0 .0)} (c .before .f .given .1) (c .before .before .before .walk-value .ensures .0))), tt))
+    (λ c. (run-fault (c .before .before .before .before .before .before .before .before .loop .inv) (c .before .f .given .0 .0) (c .before .before .before .before .before .before .before .loop-test .taken) (item-fault levelV levelVals no-items item vals-law (readV (c .before .before .before .before .before .before .before .before .before .before .args .left)) (c .before .before .before .before .before .before .before .before .before .before .args .s .now) (c .before .before .before .before .before .before .before .before .loop .at) (c .before .before .before .before .before .before .before .before .loop .deep) (c .before .f .given .0 .0) (part-of (λ (r : List ℕ). walkOf levelV (readV (c .before .before .before .before .before .before .before .before .before .before .args .left) r)) (c .before .before .before .before .before .before .before .before .before .before .args .s .now) (c .before .before .before .before .before .before .before .before .loop .at) {x = walk.Fault (c .before .f .given .0 .0)} (c .before .f .given .1) (c .before .before .before .walk-value .ensures .0))), tt))
     (λ c. search needs)
     (λ c. search needs)
-    (λ c. run-turn (c .before .before .before .before .before .before .before .loop .inv) (readRun no-items item (readV (c .before .before .before .before .before .before .before .before .before .args .left))) (c .before .before .before .before .before .before .before .loop .at) (c .larger .result) (c .before .before .size .given .0 .0) (c .before .before .size .given .0 .1 .0) (c .before .before .before .before .before .before .loop-test .taken) (c .larger .ensures) (walk-items-ended t (c .before .before)) (omega arith) (omega arith) (item-turn levelV levelVals no-items item vals-law (readV (c .before .before .before .before .before .before .before .before .before .args .left)) (c .before .before .before .before .before .before .before .before .before .args .s .now) (c .before .before .before .before .before .before .before .loop .at) (c .before .before .before .before .before .before .before .loop .deep) (c .before .before .size .given .0 .0) (c .before .before .size .given .0 .1 .0) (part-of (λ (r : List ℕ). walkOf levelV (readV (c .before .before .before .before .before .before .before .before .before .args .left) r)) (c .before .before .before .before .before .before .before .before .before .args .s .now) (c .before .before .before .before .before .before .before .loop .at) {x = walk.End (c .before .before .size .given .0 .0) (c .before .before .size .given .0 .1 .0)} (c .before .before .size .given .1) (c .before .before .before .before .walk-value .ensures .0))))
+    (λ c. run-turn (c .before .before .before .before .before .before .before .before .before .loop .inv) (readRun no-items item (readV (c .before .before .before .before .before .before .before .before .before .before .before .args .left))) (c .before .before .before .before .before .before .before .before .before .loop .at) (c .larger2 .result) (c .before .before .size .given .0 .0) (c .before .before .size .given .0 .1 .0) (c .before .before .before .before .before .before .before .before .loop-test .taken) (c .larger2 .ensures) (walk-items-ended t (c .before .before)) (omega arith) (omega arith) (item-turn levelV levelVals no-items item vals-law (readV (c .before .before .before .before .before .before .before .before .before .before .before .args .left)) (c .before .before .before .before .before .before .before .before .before .before .before .args .s .now) (c .before .before .before .before .before .before .before .before .before .loop .at) (c .before .before .before .before .before .before .before .before .before .loop .deep) (c .before .before .size .given .0 .0) (c .before .before .size .given .0 .1 .0) (part-of (λ (r : List ℕ). walkOf levelV (readV (c .before .before .before .before .before .before .before .before .before .before .before .args .left) r)) (c .before .before .before .before .before .before .before .before .before .before .before .args .s .now) (c .before .before .before .before .before .before .before .before .before .loop .at) {x = walk.End (c .before .before .size .given .0 .0) (c .before .before .size .given .0 .1 .0)} (c .before .before .size .given .1) (c .before .before .before .before .walk-value .ensures .0))))
     (λ c. (run-done (c .before .loop .inv) no-items vals-flat (run-none levelV levelVals no-items item vals-law (readV (c .before .before .before .args .left))) (c .loop-test .left), (c .before .loop .inv .inside, c .before .loop .inv .shallow))))
     λ t. walk-value-lts.spec (walk-value-claims t)
     (walk-value-at t)

@@ -12,6 +12,7 @@ use Rattle.form.proofs.+walk_fields+walk_type+walk_types.Lts-walk_type 
 use Rattle.form.proofs.walk_types.Reads as walk-types
 use Rattle.form.proofs.walk_types.Kinds as walk-types-kinds
 use Rattle.form.proofs.+walk_fields+walk_type+walk_types.Lts-walk_types as walk-types-lts
+use Rattle.form.proofs.simple_at.Reads as simple-at-reads
 use Rattle.form.proofs.larger.Reads as larger-reads
 use Rattle.form.proofs.lift.Reads as lift-reads
 use Rattle.form.proofs.name_at.Reads as name-at-reads
@@ -82,16 +83,16 @@ abbrev walk-types-μ-loop : walk-types-lts.MeasureT-loop
 walk-types-μ-loop s count left at₀ deep₀ i₀ at deep i = count - i
 
 abbrev walk-fields-claims : ℕ → walk-fields-lts.Claims
-walk-fields-claims t = (name-at-reads.Asked, name-at-reads.Learnt, walk-type-below t, walk-type.Post, larger-reads.Asked, larger-reads.Learnt)
+walk-fields-claims t = (name-at-reads.Asked, name-at-reads.Learnt, simple-at-reads.Asked, simple-at-reads.Learnt, larger-reads.Asked, larger-reads.Learnt, walk-type-below t, walk-type.Post)
 
 abbrev walk-type-claims : ℕ → walk-type-lts.Claims
 walk-type-claims t = (width-reads.Asked, width-reads.Learnt, word-at-reads.Asked, word-at-reads.Learnt, walk-fields-below t, walk-fields.Post, lift-reads.Asked, lift-reads.Learnt, wide-reads.Asked, wide-reads.Learnt, walk-types-below t, walk-types.Post, walk-type-below t, walk-type.Post)
 
 abbrev walk-types-claims : ℕ → walk-types-lts.Claims
-walk-types-claims t = (walk-type-below t, walk-type.Post, larger-reads.Asked, larger-reads.Learnt)
+walk-types-claims t = (simple-at-reads.Asked, simple-at-reads.Learnt, larger-reads.Asked, larger-reads.Learnt, walk-type-below t, walk-type.Post)
 
-walk-fields-ended : (t : ℕ) (c : walk-fields-lts.After-size (walk-fields-claims t) (walk-fields-at t) walk-fields.Post walk-fields-Inv-loop walk-fields-μ-loop) → (c .size .given .0 .0 ≤ length (c .before .before .before .before .before .before .before .before .before .before .args .s .now) - (c .before .before .before .before .before .before .before .before .loop .at + nameWidth)) × (c .size .given .0 .1 .0 ≤ c .size .given .0 .0)
-walk-fields-ended t c = inside-of (c .before .before .walk-type .result) (c .before .before .before .before .before .before .before .before .before .before .args .s .now) (c .before .before .before .before .before .before .before .before .loop .at + nameWidth) (c .size .given .0 .0) (c .size .given .0 .1 .0) (c .size .given .1) (c .before .before .walk-type .ensures .1)
+walk-fields-ended : (t : ℕ) (c : walk-fields-lts.After-size (walk-fields-claims t) (walk-fields-at t) walk-fields.Post walk-fields-Inv-loop walk-fields-μ-loop) → (c .size .given .0 .0 ≤ length (c .before .before .before .before .before .before .before .before .before .before .before .before .args .s .now) - (c .before .before .before .before .before .before .before .before .before .before .loop .at + nameWidth)) × (c .size .given .0 .1 .0 ≤ c .size .given .0 .0)
+walk-fields-ended t c = inside-of (c .before .before .walk-type .result) (c .before .before .before .before .before .before .before .before .before .before .before .before .args .s .now) (c .before .before .before .before .before .before .before .before .before .before .loop .at + nameWidth) (c .size .given .0 .0) (c .size .given .0 .1 .0) (c .size .given .1) (c .before .before .walk-type .ensures .1)
 
 walk-type-open : (t : ℕ) (c : walk-type-lts.Else3 (walk-type-claims t) (walk-type-at t) walk-type.Post) → (0 < length (c .before .before .before .before .before .before .args .s .now)) × ((0 < c .before .before .before .before .before .before .args .left) × (widthOf (getD (c .before .before .before .before .before .before .args .s .now) 0 0) ≤ length (c .before .before .before .before .before .before .args .s .now) - 1))
 walk-type-open t c = (omega arith, (omega arith, omega arith))
@@ -104,8 +105,8 @@ walk-type-function : (t : ℕ) (c : walk-type-lts.At-match-keys2 (walk-type-clai
 unfolding kindOf operands operandsT
 walk-type-function t c = arm (getD (c .before .before .before .before .before .before .before .args .s .now) 0 0) 0x2D (length (c .before .before .before .before .before .before .before .args .s .now) - 1) (ofType tFunction) (c .match .keys2) refl (walk-type-open t (c .before) .1 .1)
 
-walk-types-ended : (t : ℕ) (c : walk-types-lts.After-size (walk-types-claims t) (walk-types-at t) walk-types.Post walk-types-Inv-loop walk-types-μ-loop) → (c .size .given .0 .0 ≤ length (c .before .before .before .before .before .before .before .args .s .now) - (c .before .before .before .before .before .loop .at)) × (c .size .given .0 .1 .0 ≤ c .size .given .0 .0)
-walk-types-ended t c = inside-of (c .before .before .walk-type .result) (c .before .before .before .before .before .before .before .args .s .now) (c .before .before .before .before .before .loop .at) (c .size .given .0 .0) (c .size .given .0 .1 .0) (c .size .given .1) (c .before .before .walk-type .ensures .1)
+walk-types-ended : (t : ℕ) (c : walk-types-lts.After-size (walk-types-claims t) (walk-types-at t) walk-types.Post walk-types-Inv-loop walk-types-μ-loop) → (c .size .given .0 .0 ≤ length (c .before .before .before .before .before .before .before .before .before .args .s .now) - (c .before .before .before .before .before .before .before .loop .at)) × (c .size .given .0 .1 .0 ≤ c .size .given .0 .0)
+walk-types-ended t c = inside-of (c .before .before .walk-type .result) (c .before .before .before .before .before .before .before .before .before .args .s .now) (c .before .before .before .before .before .before .before .loop .at) (c .size .given .0 .0) (c .size .given .0 .1 .0) (c .size .given .1) (c .before .before .walk-type .ensures .1)
 
 pub +walk-fields+walk-type+walk-types-spec : {M : Type 1} → statement M
 +walk-fields+walk-type+walk-types-spec =
@@ -120,19 +121,26 @@ pub +walk-fields+walk-type+walk-types-spec : {M : Type 1} → statement M
     (λ c κs. omega (arith, c .before .before .loop .inv))
     (λ c. (run-fault (c .before .before .before .before .loop .inv) Names (c .before .before .before .loop-test .taken) (named-names level levelFields no-fields field ascending fields-law (readT (c .before .before .before .before .before .before .args .left)) (c .before .before .before .before .before .before .args .s .now) (c .before .before .before .before .loop .at) (c .before .before .before .before .loop .deep) (c .before .before .before .before .loop .least) (c .before .name-at .result) (c .before .name-at .ensures .0) (c .before .before .if1 .left) (c .if2 .taken)), tt))
     (λ c. search needs)
+    (λ c κs. omega (arith, c .before .before .before .before .loop .inv))
+    (λ c. let q = c .before .simple-at .ensures (omega arith) in omega (arith, q .1, c .before .before .before .before .before .before .loop .inv))
+    (λ c κs. search needs)
+    (λ c. omega (arith, c .before .before .before .before .name-at .ensures))
+    (λ c. search needs)
+    (λ c. search needs)
+    (λ c. let at = c .before .before .before .before .before .before .before .loop .inv .inside in let two = c .before .before .before .before .before .if1 .left in let q = c .before .before .simple-at .ensures (omega arith) in run-turn (c .before .before .before .before .before .before .before .loop .inv) (λ (n : ℕ). readNamed no-fields field ascending (readT (c .before .before .before .before .before .before .before .before .before .args .left)) n (c .before .before .before .before .name-at .result + 1)) (c .before .before .before .before .before .before .before .loop .at + nameWidth) (c .larger .result) (c .before .before .simple-at .result) 1 (c .before .before .before .before .before .before .loop-test .taken) (c .larger .ensures) (q .1, omega arith) (omega arith) (omega arith) (named-turn level levelFields no-fields field ascending fields-law (readT (c .before .before .before .before .before .before .before .before .before .args .left)) (c .before .before .before .before .before .before .before .before .before .args .s .now) (c .before .before .before .before .before .before .before .loop .at) (c .before .before .before .before .before .before .before .loop .deep) (c .before .before .before .before .before .before .before .loop .least) (c .before .before .before .before .name-at .result) (c .before .before .before .before .name-at .ensures .0) (c .before .before .before .before .before .if1 .left) (c .before .before .simple-at .result) 1 (c .before .before .before .if2 .left) (q .0)))
     (λ c. search needs)
     (λ c. search needs)
     (λ c. search needs)
     (λ c κs. search needs)
     (λ c. search needs)
-    (λ c. let i = walk-fields-ended t (c .before) in omega (arith, c .before .before .before .before .before .before .before .before .before .loop .inv))
+    (λ c. let i = walk-fields-ended t (c .before) in omega (arith, c .before .before .before .before .before .before .before .before .before .before .before .loop .inv))
     (λ c κs. search needs)
     (λ c. search needs)
-    (λ c. (run-fault (c .before .before .before .before .before .before .before .before .before .loop .inv) (c .before .f .given .0 .0) (c .before .before .before .before .before .before .before .before .loop-test .taken) (named-fault level levelFields no-fields field ascending fields-law (readT (c .before .before .before .before .before .before .before .before .before .before .before .args .left)) (c .before .before .before .before .before .before .before .before .before .before .before .args .s .now) (c .before .before .before .before .before .before .before .before .before .loop .at) (c .before .before .before .before .before .before .before .before .before .loop .deep) (c .before .before .before .before .before .before .before .before .before .loop .least) (c .before .before .before .before .before .before .name-at .result) (c .before .before .before .before .before .before .name-at .ensures .0) (c .before .before .before .before .before .before .before .if1 .left) (c .before .f .given .0 .0) (c .before .before .before .before .before .if2 .left) (part-of (λ (r : List ℕ). walkOf level (readT (c .before .before .before .before .before .before .before .before .before .before .before .args .left) r)) (c .before .before .before .before .before .before .before .before .before .before .before .args .s .now) (c .before .before .before .before .before .before .before .before .before .loop .at + nameWidth) {x = walk.Fault (c .before .f .given .0 .0)} (c .before .f .given .1) (c .before .before .before .walk-type .ensures .0))), tt))
-    (λ c. omega (arith, c .before .before .before .before .before .before .before .name-at .ensures))
+    (λ c. (run-fault (c .before .before .before .before .before .before .before .before .before .before .before .loop .inv) (c .before .f .given .0 .0) (c .before .before .before .before .before .before .before .before .before .before .loop-test .taken) (named-fault level levelFields no-fields field ascending fields-law (readT (c .before .before .before .before .before .before .before .before .before .before .before .before .before .args .left)) (c .before .before .before .before .before .before .before .before .before .before .before .before .before .args .s .now) (c .before .before .before .before .before .before .before .before .before .before .before .loop .at) (c .before .before .before .before .before .before .before .before .before .before .before .loop .deep) (c .before .before .before .before .before .before .before .before .before .before .before .loop .least) (c .before .before .before .before .before .before .before .before .name-at .result) (c .before .before .before .before .before .before .before .before .name-at .ensures .0) (c .before .before .before .before .before .before .before .before .before .if1 .left) (c .before .f .given .0 .0) (c .before .before .before .before .before .before .before .if2 .left) (part-of (λ (r : List ℕ). walkOf level (readT (c .before .before .before .before .before .before .before .before .before .before .before .before .before .args .left) r)) (c .before .before .before .before .before .before .before .before .before .before .before .before .before .args .s .now) (c .before .before .before .before .before .before .before .before .before .before .before .loop .at + nameWidth) {x = walk.Fault (c .before .f .given .0 .0)} (c .before .f .given .1) (c .before .before .before .walk-type .ensures .0))), tt))
+    (λ c. omega (arith, c .before .before .before .before .before .before .before .before .before .name-at .ensures))
     (λ c. search needs)
     (λ c. search needs)
-    (λ c. let at = c .before .before .before .before .before .before .before .before .before .before .loop .inv .inside in let two = c .before .before .before .before .before .before .before .before .if1 .left in run-turn (c .before .before .before .before .before .before .before .before .before .before .loop .inv) (λ (n : ℕ). readNamed no-fields field ascending (readT (c .before .before .before .before .before .before .before .before .before .before .before .before .args .left)) n (c .before .before .before .before .before .before .before .name-at .result + 1)) (c .before .before .before .before .before .before .before .before .before .before .loop .at + nameWidth) (c .larger .result) (c .before .before .size .given .0 .0) (c .before .before .size .given .0 .1 .0) (c .before .before .before .before .before .before .before .before .before .loop-test .taken) (c .larger .ensures) (walk-fields-ended t (c .before .before)) (omega arith) (omega arith) (named-turn level levelFields no-fields field ascending fields-law (readT (c .before .before .before .before .before .before .before .before .before .before .before .before .args .left)) (c .before .before .before .before .before .before .before .before .before .before .before .before .args .s .now) (c .before .before .before .before .before .before .before .before .before .before .loop .at) (c .before .before .before .before .before .before .before .before .before .before .loop .deep) (c .before .before .before .before .before .before .before .before .before .before .loop .least) (c .before .before .before .before .before .before .before .name-at .result) (c .before .before .before .before .before .before .before .name-at .ensures .0) (c .before .before .before .before .before .before .before .before .if1 .left) (c .before .before .size .given .0 .0) (c .before .before .size .given .0 .1 .0) (c .before .before .before .before .before .before .if2 .left) (part-of (λ (r : List ℕ). walkOf level (readT (c .before .before .before .before .before .before .before .before .before .before .before .before .args .left) r)) (c .before .before .before .before .before .before .before .before .before .before .before .before .args .s .now) (c .before .before .before .before .before .before .before .before .before .before .loop .at + nameWidth) {x = walk.End (c .before .before .size .given .0 .0) (c .before .before .size .given .0 .1 .0)} (c .before .before .size .given .1) (c .before .before .before .before .walk-type .ensures .0))))
+    (λ c. let at = c .before .before .before .before .before .before .before .before .before .before .before .before .loop .inv .inside in let two = c .before .before .before .before .before .before .before .before .before .before .if1 .left in run-turn (c .before .before .before .before .before .before .before .before .before .before .before .before .loop .inv) (λ (n : ℕ). readNamed no-fields field ascending (readT (c .before .before .before .before .before .before .before .before .before .before .before .before .before .before .args .left)) n (c .before .before .before .before .before .before .before .before .before .name-at .result + 1)) (c .before .before .before .before .before .before .before .before .before .before .before .before .loop .at + nameWidth) (c .larger2 .result) (c .before .before .size .given .0 .0) (c .before .before .size .given .0 .1 .0) (c .before .before .before .before .before .before .before .before .before .before .before .loop-test .taken) (c .larger2 .ensures) (walk-fields-ended t (c .before .before)) (omega arith) (omega arith) (named-turn level levelFields no-fields field ascending fields-law (readT (c .before .before .before .before .before .before .before .before .before .before .before .before .before .before .args .left)) (c .before .before .before .before .before .before .before .before .before .before .before .before .before .before .args .s .now) (c .before .before .before .before .before .before .before .before .before .before .before .before .loop .at) (c .before .before .before .before .before .before .before .before .before .before .before .before .loop .deep) (c .before .before .before .before .before .before .before .before .before .before .before .before .loop .least) (c .before .before .before .before .before .before .before .before .before .name-at .result) (c .before .before .before .before .before .before .before .before .before .name-at .ensures .0) (c .before .before .before .before .before .before .before .before .before .before .if1 .left) (c .before .before .size .given .0 .0) (c .before .before .size .given .0 .1 .0) (c .before .before .before .before .before .before .before .before .if2 .left) (part-of (λ (r : List ℕ). walkOf level (readT (c .before .before .before .before .before .before .before .before .before .before .before .before .before .before .args .left) r)) (c .before .before .before .before .before .before .before .before .before .before .before .before .before .before .args .s .now) (c .before .before .before .before .before .before .before .before .before .before .before .before .loop .at + nameWidth) {x = walk.End (c .before .before .size .given .0 .0) (c .before .before .size .given .0 .1 .0)} (c .before .before .size .given .1) (c .before .before .before .before .walk-type .ensures .0))))
     (λ c. (run-done (c .before .loop .inv) no-fields fields-flat (named-none level levelFields no-fields field ascending fields-law (readT (c .before .before .before .args .left)) (c .before .loop .least)) (c .loop-test .left), (c .before .loop .inv .inside, c .before .loop .inv .shallow))))
     (λ t. walk-type-lts.spec (walk-type-claims t)
     (walk-type-at t)
@@ -178,6 +186,12 @@ pub +walk-fields+walk-type+walk-types-spec : {M : Type 1} → statement M
     walk-types-Inv-loop
     walk-types-μ-loop
     (λ c. run-start levelTys (readRun no-params param (readT (c .before .args .left))) (c .before .args .s .now) (c .before .args .count) 0 0 (omega arith) (omega arith))
+    (λ c κs. omega (arith, c .before .loop .inv))
+    (λ c. let q = c .before .simple-at .ensures (omega arith) in omega (arith, q .1, c .before .before .before .loop .inv))
+    (λ c κs. search needs)
+    (λ c. search needs)
+    (λ c. search needs)
+    (λ c. let at = c .before .before .before .before .loop .inv .inside in let q = c .before .before .simple-at .ensures (omega arith) in run-turn (c .before .before .before .before .loop .inv) (readRun no-params param (readT (c .before .before .before .before .before .before .args .left))) (c .before .before .before .before .loop .at) (c .larger .result) (c .before .before .simple-at .result) 1 (c .before .before .before .loop-test .taken) (c .larger .ensures) (q .1, omega arith) (omega arith) (omega arith) (item-turn level levelTys no-params param tys-law (readT (c .before .before .before .before .before .before .args .left)) (c .before .before .before .before .before .before .args .s .now) (c .before .before .before .before .loop .at) (c .before .before .before .before .loop .deep) (c .before .before .simple-at .result) 1 (q .0)))
     (λ c. search needs)
     (λ c. search needs)
     (λ c. search needs)
@@ -186,8 +200,8 @@ pub +walk-fields+walk-type+walk-types-spec : {M : Type 1} → statement M
     (λ c. let i = walk-types-ended t (c .before) in omega arith)
     (λ c κs. search needs)
     (λ c. search needs)
-    (λ c. (run-fault (c .before .before .before .before .before .before .loop .inv) (c .before .f .given .0 .0) (c .before .before .before .before .before .loop-test .taken) (item-fault level levelTys no-params param tys-law (readT (c .before .before .before .before .before .before .before .before .args .left)) (c .before .before .before .before .before .before .before .before .args .s .now) (c .before .before .before .before .before .before .loop .at) (c .before .before .before .before .before .before .loop .deep) (c .before .f .given .0 .0) (part-of (λ (r : List ℕ). walkOf level (readT (c .before .before .before .before .before .before .before .before .args .left) r)) (c .before .before .before .before .before .before .before .before .args .s .now) (c .before .before .before .before .before .before .loop .at) {x = walk.Fault (c .before .f .given .0 .0)} (c .before .f .given .1) (c .before .before .before .walk-type .ensures .0))), tt))
+    (λ c. (run-fault (c .before .before .before .before .before .before .before .before .loop .inv) (c .before .f .given .0 .0) (c .before .before .before .before .before .before .before .loop-test .taken) (item-fault level levelTys no-params param tys-law (readT (c .before .before .before .before .before .before .before .before .before .before .args .left)) (c .before .before .before .before .before .before .before .before .before .before .args .s .now) (c .before .before .before .before .before .before .before .before .loop .at) (c .before .before .before .before .before .before .before .before .loop .deep) (c .before .f .given .0 .0) (part-of (λ (r : List ℕ). walkOf level (readT (c .before .before .before .before .before .before .before .before .before .before .args .left) r)) (c .before .before .before .before .before .before .before .before .before .before .args .s .now) (c .before .before .before .before .before .before .before .before .loop .at) {x = walk.Fault (c .before .f .given .0 .0)} (c .before .f .given .1) (c .before .before .before .walk-type .ensures .0))), tt))
     (λ c. search needs)
     (λ c. search needs)
-    (λ c. run-turn (c .before .before .before .before .before .before .before .loop .inv) (readRun no-params param (readT (c .before .before .before .before .before .before .before .before .before .args .left))) (c .before .before .before .before .before .before .before .loop .at) (c .larger .result) (c .before .before .size .given .0 .0) (c .before .before .size .given .0 .1 .0) (c .before .before .before .before .before .before .loop-test .taken) (c .larger .ensures) (walk-types-ended t (c .before .before)) (omega arith) (omega arith) (item-turn level levelTys no-params param tys-law (readT (c .before .before .before .before .before .before .before .before .before .args .left)) (c .before .before .before .before .before .before .before .before .before .args .s .now) (c .before .before .before .before .before .before .before .loop .at) (c .before .before .before .before .before .before .before .loop .deep) (c .before .before .size .given .0 .0) (c .before .before .size .given .0 .1 .0) (part-of (λ (r : List ℕ). walkOf level (readT (c .before .before .before .before .before .before .before .before .before .args .left) r)) (c .before .before .before .before .before .before .before .before .before .args .s .now) (c .before .before .before .before .before .before .before .loop .at) {x = walk.End (c .before .before .size .given .0 .0) (c .before .before .size .given .0 .1 .0)} (c .before .before .size .given .1) (c .before .before .before .before .walk-type .ensures .0))))
+    (λ c. run-turn (c .before .before .before .before .before .before .before .before .before .loop .inv) (readRun no-params param (readT (c .before .before .before .before .before .before .before .before .before .before .before .args .left))) (c .before .before .before .before .before .before .before .before .before .loop .at) (c .larger2 .result) (c .before .before .size .given .0 .0) (c .before .before .size .given .0 .1 .0) (c .before .before .before .before .before .before .before .before .loop-test .taken) (c .larger2 .ensures) (walk-types-ended t (c .before .before)) (omega arith) (omega arith) (item-turn level levelTys no-params param tys-law (readT (c .before .before .before .before .before .before .before .before .before .before .before .args .left)) (c .before .before .before .before .before .before .before .before .before .before .before .args .s .now) (c .before .before .before .before .before .before .before .before .before .loop .at) (c .before .before .before .before .before .before .before .before .before .loop .deep) (c .before .before .size .given .0 .0) (c .before .before .size .given .0 .1 .0) (part-of (λ (r : List ℕ). walkOf level (readT (c .before .before .before .before .before .before .before .before .before .before .before .args .left) r)) (c .before .before .before .before .before .before .before .before .before .before .before .args .s .now) (c .before .before .before .before .before .before .before .before .before .loop .at) {x = walk.End (c .before .before .size .given .0 .0) (c .before .before .size .given .0 .1 .0)} (c .before .before .size .given .1) (c .before .before .before .before .walk-type .ensures .0))))
     (λ c. (run-done (c .before .loop .inv) no-params tys-flat (run-none level levelTys no-params param tys-law (readT (c .before .before .before .args .left))) (c .loop-test .left), (c .before .loop .inv .inside, c .before .loop .inv .shallow)))
