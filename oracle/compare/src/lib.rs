@@ -10,9 +10,12 @@ mod context_cases;
 mod context_theorems;
 pub mod lent;
 pub mod library;
+mod mapping;
 mod names_answers;
 mod names_cases;
 mod records;
+mod robust_args;
+pub mod robust_cases;
 pub mod run;
 mod theorems;
 #[cfg(feature = "self-check")]

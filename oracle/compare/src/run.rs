@@ -1,8 +1,8 @@
 //! Runs the cases of a call through both sides, counts them, and keeps the smallest difference.
 
 use crate::answer::Answer;
-use crate::call::{Call, Case, Gives, Options};
-use crate::lent::Lent;
+use crate::call::{Call, Case, EachCase, Gives, Options};
+use crate::lent::{Lent, Standing};
 use std::collections::BTreeMap;
 use std::fmt;
 
@@ -42,6 +42,13 @@ pub struct Tally {
 
 /// Runs all cases of a call.
 pub fn run(call: &Call, options: &Options) -> Tally {
+    run_cases(call, Standing::Guarded, |each| {
+        (call.generate)(options, each)
+    })
+}
+
+/// Runs these cases of a call, with the buffers at such a place.
+pub fn run_cases(call: &Call, standing: Standing, generate: impl FnOnce(&mut EachCase)) -> Tally {
     let mut tally = Tally {
         name: call.name,
         gives: call.gives,
@@ -54,8 +61,8 @@ pub fn run(call: &Call, options: &Options) -> Tally {
         differences: 0,
         smallest: None,
     };
-    let mut lent = Lent::default();
-    (call.generate)(options, &mut |case| tally.compare(call, case, &mut lent));
+    let mut lent = Lent::new(standing);
+    generate(&mut |case| tally.compare(call, case, &mut lent));
     tally
 }
 
@@ -176,7 +183,7 @@ fn hex(bytes: &[u8]) -> String {
 #[cfg(test)]
 mod tests {
     use super::*;
-    use crate::call::{Checks, EachCase, Expected};
+    use crate::call::{Checks, Expected};
     use feel_cases::each_string;
 
     const OPTIONS: Options = Options {
