@@ -38,6 +38,8 @@ pub struct Tally {
     pub refused: BTreeMap<u32, u64>,
     pub differences: u64,
     pub smallest: Option<Difference>,
+    /// A digest of the library's answers and of what it wrote, in the order of the cases.
+    pub digest: u64,
 }
 
 /// Runs all cases of a call.
@@ -49,35 +51,77 @@ pub fn run(call: &Call, options: &Options) -> Tally {
 
 /// Runs these cases of a call, with the buffers at such a place.
 pub fn run_cases(call: &Call, standing: Standing, generate: impl FnOnce(&mut EachCase)) -> Tally {
-    let mut tally = Tally {
-        name: call.name,
-        gives: call.gives,
-        cases: 0,
-        accepted: 0,
-        ones: 0,
-        none: 0,
-        checks: 0,
-        refused: call.refusals.iter().map(|&n| (u32::from(n), 0)).collect(),
-        differences: 0,
-        smallest: None,
-    };
+    let mut tally = Tally::new(call);
     let mut lent = Lent::new(standing);
     generate(&mut |case| tally.compare(call, case, &mut lent));
     tally
 }
 
+/// Runs these cases of a call without asking the Rust: the digest is all that says something of the
+/// answers.
+pub fn run_alone(call: &Call, standing: Standing, generate: impl FnOnce(&mut EachCase)) -> Tally {
+    let mut tally = Tally::new(call);
+    let mut lent = Lent::new(standing);
+    generate(&mut |case| {
+        lent.fill(case);
+        let actual = (call.actual)(&mut lent);
+        tally.count(actual);
+        tally.digest(actual, &lent);
+    });
+    tally
+}
+
 impl Tally {
+    fn new(call: &Call) -> Tally {
+        Tally {
+            name: call.name,
+            gives: call.gives,
+            cases: 0,
+            accepted: 0,
+            ones: 0,
+            none: 0,
+            checks: 0,
+            refused: call.refusals.iter().map(|&n| (u32::from(n), 0)).collect(),
+            differences: 0,
+            smallest: None,
+            digest: 0,
+        }
+    }
+
+    /// Counts an answer.
+    fn count(&mut self, answer: Answer) {
+        self.cases += 1;
+        match answer.high() {
+            0 => self.accepted += 1,
+            1 => *self.refused.entry(answer.low()).or_default() += 1,
+            _ => self.none += 1,
+        }
+        self.ones += u64::from(answer == Answer::given(1));
+    }
+
+    /// Takes an answer, and the bytes that it says were written, into the digest.
+    fn digest(&mut self, answer: Answer, lent: &Lent) {
+        self.stir(answer.0);
+        if self.gives == Gives::Length && answer.high() == 0 {
+            let written = lent.output.contents().iter().take(answer.low() as usize);
+            for byte in written {
+                self.stir(u64::from(*byte));
+            }
+        }
+    }
+
+    fn stir(&mut self, word: u64) {
+        self.digest = (self.digest ^ word)
+            .wrapping_mul(0x0000_0100_0000_01B3)
+            .rotate_left(23);
+    }
+
     fn compare(&mut self, call: &Call, case: Case, lent: &mut Lent) {
         let expected = (call.expected)(case);
         lent.fill(case);
         let actual = (call.actual)(lent);
-        self.cases += 1;
-        match expected.answer.high() {
-            0 => self.accepted += 1,
-            1 => *self.refused.entry(expected.answer.low()).or_default() += 1,
-            _ => self.none += 1,
-        }
-        self.ones += u64::from(expected.answer == Answer::given(1));
+        self.digest(actual, lent);
+        self.count(expected.answer);
         self.checks += expected.checks.held;
         let what = if actual != expected.answer {
             Some("the answers differ")

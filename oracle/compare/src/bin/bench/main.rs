@@ -1,0 +1,70 @@
+//! The speed of every exported function beside the Rust, for records of three sizes and for the
+//! records of the sample week. The Rust has two parts: reading the arguments, answering and writing
+//! its answer, and its answer alone on trees that were built before. An update of a context alone is
+//! that of a copy of the tree, since the call leaves the context as it is. All run on the same
+//! accepted records in turn; the best of several rounds counts, so only the ratios in one run say
+//! something.
+
+mod contexts;
+mod data;
+mod measure;
+mod ours;
+mod stock;
+mod table;
+mod texts;
+mod types;
+mod updates;
+mod values;
+mod week;
+
+use compare::calls::CALLS;
+use compare::library::COMPARED;
+use std::process::ExitCode;
+use stock::{SIZES, Stock};
+use table::Table;
+
+const USAGE: &str = "usage: bench [--only NAME,..]";
+
+fn main() -> ExitCode {
+    let Some(only) = arguments(std::env::args().skip(1)) else {
+        eprintln!("{USAGE}");
+        let names: Vec<&str> = CALLS.iter().map(|call| call.name).collect();
+        eprintln!("calls: {}", names.join(", "));
+        return ExitCode::from(2);
+    };
+    println!("measured: {COMPARED}");
+    println!("bytes: the arguments together, on average");
+    println!("from bytes: the time of the Rust that reads, answers and writes, divided by ours");
+    println!("ready: the time of the Rust's answer on trees built before, divided by ours");
+    println!("growth: our ns a byte divided by those of the next smaller size");
+    let stocks = SIZES.map(Stock::new);
+    let mut table = Table::new(only);
+    table.section("random records");
+    for calls in [
+        types::run,
+        values::run,
+        contexts::run,
+        updates::run,
+        texts::run,
+    ] {
+        calls(&stocks, &mut table);
+    }
+    table.missing(CALLS.iter().map(|call| call.name));
+    table.section("records of the sample week");
+    week::run(&mut table);
+    table.end();
+    ExitCode::SUCCESS
+}
+
+/// The names of the calls to be measured; all calls when there is none.
+fn arguments(mut args: impl Iterator<Item = String>) -> Option<Vec<String>> {
+    let mut only = vec![];
+    while let Some(arg) = args.next() {
+        if arg != "--only" {
+            return None;
+        }
+        only.extend(args.next()?.split(',').map(str::to_string));
+    }
+    let known = |name: &String| CALLS.iter().any(|call| call.name == name);
+    only.iter().all(known).then_some(only)
+}

@@ -1,0 +1,206 @@
+//! The printed table, and what stands below it.
+
+use crate::measure::Measured;
+use crate::stock::Stock;
+use std::cmp::Ordering;
+
+/// The growth that is linear, with room for what the machine does.
+const LINEAR: f64 = 1.5;
+
+/// One line of the table.
+struct Row {
+    call: &'static str,
+    /// Which place in the record, for calls that have several rows of a size.
+    place: &'static str,
+    size: &'static str,
+    measured: Measured,
+    growth: Option<f64>,
+}
+
+impl Row {
+    /// Our nanoseconds a byte.
+    fn a_byte(&self) -> f64 {
+        self.measured.ours / self.measured.bytes
+    }
+
+    /// The time of the Rust from the bytes, divided by ours.
+    fn ratio(&self) -> f64 {
+        self.measured.rust / self.measured.ours
+    }
+
+    fn label(&self) -> String {
+        match self.place {
+            "" => self.call.to_string(),
+            place => format!("{}, {place}", self.call),
+        }
+    }
+
+    fn print(&self) {
+        let Measured {
+            bytes, ours, ready, ..
+        } = self.measured;
+        let line = format!(
+            "{:<34} {:<8} {:>6.0} {:>10} {:>10} {:>11} {:>8} {:>7}",
+            self.label(),
+            self.size,
+            bytes,
+            figures(ours),
+            figures(self.a_byte()),
+            figures(self.ratio()),
+            ready.map_or(String::new(), |ready| figures(ready / ours)),
+            self.growth.map_or(String::new(), figures),
+        );
+        println!("{}", line.trim_end());
+    }
+}
+
+/// The rows so far.
+pub struct Table {
+    /// The names of the calls; all calls when there is none.
+    only: Vec<String>,
+    rows: Vec<Row>,
+}
+
+impl Table {
+    pub fn new(only: Vec<String>) -> Table {
+        Table { only, rows: vec![] }
+    }
+
+    /// Prints a title and the heads of the columns.
+    pub fn section(&mut self, title: &str) {
+        println!();
+        println!(
+            "{title:<34} {:<8} {:>6} {:>10} {:>10} {:>11} {:>8} {:>7}",
+            "size", "bytes", "ns a call", "ns a byte", "from bytes", "ready", "growth"
+        );
+    }
+
+    /// A call for each size.
+    pub fn each(
+        &mut self,
+        call: &'static str,
+        stocks: &[Stock],
+        measure: impl FnMut(&Stock) -> Measured,
+    ) {
+        self.each_at(call, "", stocks, measure);
+    }
+
+    /// A call at this place in the record, for each size.
+    pub fn each_at(
+        &mut self,
+        call: &'static str,
+        place: &'static str,
+        stocks: &[Stock],
+        mut measure: impl FnMut(&Stock) -> Measured,
+    ) {
+        let mut smaller: Option<f64> = None;
+        for stock in stocks {
+            let measure = || measure(stock);
+            smaller = self.add(call, place, stock.size.name, smaller, measure);
+        }
+    }
+
+    /// A call with one row; `size` says on which records, if there are several kinds.
+    pub fn one(
+        &mut self,
+        call: &'static str,
+        size: &'static str,
+        measure: impl FnOnce() -> Measured,
+    ) {
+        self.add(call, "", size, None, measure);
+    }
+
+    /// Measures and prints a row, where the call is wanted, and gives its nanoseconds a byte.
+    fn add(
+        &mut self,
+        call: &'static str,
+        place: &'static str,
+        size: &'static str,
+        smaller: Option<f64>,
+        measure: impl FnOnce() -> Measured,
+    ) -> Option<f64> {
+        if !self.wants(call) {
+            return None;
+        }
+        let mut row = Row {
+            call,
+            place,
+            size,
+            measured: measure(),
+            growth: None,
+        };
+        row.growth = smaller.map(|smaller| row.a_byte() / smaller);
+        row.print();
+        let a_byte = row.a_byte();
+        self.rows.push(row);
+        Some(a_byte)
+    }
+
+    fn wants(&self, call: &str) -> bool {
+        self.only.is_empty() || self.only.iter().any(|name| name == call)
+    }
+
+    /// Panics where a wanted call has no row.
+    pub fn missing(&self, calls: impl Iterator<Item = &'static str>) {
+        for call in calls.filter(|call| self.wants(call)) {
+            let is_there = self.rows.iter().any(|row| row.call == call);
+            assert!(is_there, "{call} is not measured");
+        }
+    }
+
+    /// Prints the rows that are slow, those that grow, and the ends of the ratios.
+    pub fn end(&self) {
+        let slow = |row: &Row| Some(row.ratio()).filter(|ratio| *ratio < 1.0);
+        self.list("under 1 times the Rust from bytes", slow);
+        let grown = |row: &Row| row.growth.filter(|growth| *growth > LINEAR);
+        self.list("growth over 1.5", grown);
+        let by_ratio = |a: &&Row, b: &&Row| -> Ordering { a.ratio().total_cmp(&b.ratio()) };
+        println!();
+        for (which, row) in [
+            ("smallest", self.rows.iter().min_by(by_ratio)),
+            ("largest", self.rows.iter().max_by(by_ratio)),
+        ] {
+            if let Some(row) = row {
+                println!(
+                    "{which} ratio from bytes: {} ({})",
+                    figures(row.ratio()),
+                    sized(row)
+                );
+            }
+        }
+    }
+
+    fn list(&self, title: &str, figure: impl Fn(&Row) -> Option<f64>) {
+        println!();
+        println!("{title}:");
+        let mut none = true;
+        for row in &self.rows {
+            if let Some(number) = figure(row) {
+                println!("  {:<44} {:>6}", sized(row), figures(number));
+                none = false;
+            }
+        }
+        if none {
+            println!("  none");
+        }
+    }
+}
+
+/// A row's label with its size.
+fn sized(row: &Row) -> String {
+    match row.size {
+        "" => row.label(),
+        size => format!("{}, {size}", row.label()),
+    }
+}
+
+/// A number with about three figures.
+fn figures(number: f64) -> String {
+    match number {
+        0.0..0.001 => "<0.001".to_string(),
+        0.0..1.0 => format!("{number:.3}"),
+        0.0..10.0 => format!("{number:.2}"),
+        0.0..100.0 => format!("{number:.1}"),
+        _ => format!("{number:.0}"),
+    }
+}

@@ -1,0 +1,129 @@
+//! The calls on the records of the sample week: the accepted requests, and the types of the
+//! missions.
+
+use crate::contexts::search;
+use crate::measure::{contest, nothing};
+use crate::ours::one;
+use crate::stock::{Pair, Record, Spot, feel_type, value};
+use crate::table::Table;
+use crate::types::{Types, conformance, supertypes};
+use crate::updates::{creation, setting};
+use crate::values::{self, TypeAndValue, ValueAndType};
+use compare::library::feel_check_value;
+use dsntk_feel::values::Value;
+use feel_form::{calls, read_value};
+use std::fs;
+
+const FOLDER: &str = concat!(env!("CARGO_MANIFEST_DIR"), "/../../examples/week");
+
+/// The numbers of names in the table of the week.
+const OPERATOR: u16 = 16;
+const SPACECRAFT: u16 = 25;
+const SPACECRAFT_ID: u16 = 26;
+const WINDOW: u16 = 31;
+
+/// The text of an operator.
+const AN_OPERATOR: [u8; 3] = [0x03, 62, 0];
+
+/// A range of two points in time.
+const A_WINDOW: [u8; 21] = [
+    0x09, 1, 2, 0x06, 0, 1, 0xF5, 0x6A, 0, 0, 0, 0, 0x06, 0, 2, 0xF5, 0x6A, 0, 0, 0, 0,
+];
+
+pub fn run(table: &mut Table) {
+    let mut requests = lines("requests.txt");
+    requests.retain(|request| read_value(request).is_ok());
+    let missions = lines("missions.txt");
+    let values: Vec<Record<Value>> = requests.iter().cloned().map(value).collect();
+    table.one("check_value", "week", || {
+        let ours = |v: &Record<_>| one(feel_check_value, &v.bytes);
+        let rust = |v: &Record<_>| read_value(&v.bytes).map(|(_, level)| level);
+        contest(&values, ours, rust, nothing())
+    });
+    table.one("value_is_conformant", "week", || {
+        values::conformance(&judged(&requests, &missions))
+    });
+    table.one("value_least_type", "week", || values::least_types(&values));
+    table.one("value_type_of", "week", || values::types_of(&values));
+    table.one("type_get_value_checked", "week", || {
+        values::checked_retrieval(&retrieved(&requests, &missions))
+    });
+    table.one("value_coerced", "week", || {
+        values::coercion(&judged(&requests, &missions))
+    });
+    table.one("type_is_conformant", "week", || {
+        conformance(&types(&missions))
+    });
+    table.one("type_common_supertype", "week", || {
+        supertypes(&types(&missions))
+    });
+    let at = |path: &'static [u16]| requests.iter().map(|c| Spot::new(c, path));
+    table.one("context_search_deep", "week", || {
+        search(&at(&[SPACECRAFT, SPACECRAFT_ID]).collect::<Vec<Spot>>())
+    });
+    table.one("context_create_entries", "week", || {
+        let spots = at(&[SPACECRAFT, OPERATOR]);
+        let spots: Vec<Spot> = spots.map(|spot| spot.putting(&AN_OPERATOR)).collect();
+        creation(&spots)
+    });
+    table.one("context_set_entry", "week", || {
+        let spots = at(&[WINDOW]);
+        let spots: Vec<Spot> = spots.map(|spot| spot.putting(&A_WINDOW)).collect();
+        setting(&spots)
+    });
+}
+
+/// The records of a file: in each line the last word, in hexadecimal.
+fn lines(file: &str) -> Vec<Vec<u8>> {
+    let path = format!("{FOLDER}/{file}");
+    let text = fs::read_to_string(&path).unwrap_or_else(|error| panic!("{path}: {error}"));
+    let words = text.lines().filter_map(|line| line.split(' ').next_back());
+    words.map(bytes).collect()
+}
+
+fn bytes(digits: &str) -> Vec<u8> {
+    let byte = |place| u8::from_str_radix(&digits[place..place + 2], 16).expect("hexadecimal");
+    (0..digits.len()).step_by(2).map(byte).collect()
+}
+
+/// Each request with a mission, the missions in turn.
+fn judged(requests: &[Vec<u8>], missions: &[Vec<u8>]) -> Vec<ValueAndType> {
+    let pair = |(v, t): (&Vec<u8>, &Vec<u8>)| Pair {
+        a: value(v.clone()),
+        b: feel_type(t.clone()),
+    };
+    requests
+        .iter()
+        .zip(missions.iter().cycle())
+        .map(pair)
+        .collect()
+}
+
+/// Each request with the first mission that retrieves it, from another one on in turn; those that
+/// none retrieves are left out.
+fn retrieved(requests: &[Vec<u8>], missions: &[Vec<u8>]) -> Vec<TypeAndValue> {
+    let mut pairs = vec![];
+    for (place, v) in requests.iter().enumerate() {
+        let mut turn = missions.iter().cycle().skip(place).take(missions.len());
+        let retrieves = |t: &&Vec<u8>| calls::get_value_checked(t, v, v.len()).is_ok();
+        pairs.extend(turn.find(retrieves).map(|t| Pair {
+            a: feel_type(t.clone()),
+            b: value(v.clone()),
+        }));
+    }
+    pairs
+}
+
+/// Each mission with each.
+fn types(missions: &[Vec<u8>]) -> Vec<Types> {
+    let mut pairs = vec![];
+    for a in missions {
+        for b in missions {
+            pairs.push(Pair {
+                a: feel_type(a.clone()),
+                b: feel_type(b.clone()),
+            });
+        }
+    }
+    pairs
+}
