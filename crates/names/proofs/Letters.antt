@@ -2,6 +2,7 @@
 -- Assumes nothing.
 use Prim.Native.Nat.{ℕ, zero, suc, _+_, _-_, _<_, _≤_}
 use mathlib.Core.Path.{_≡_, refl, ap, ap₂, _∙_}
+use mathlib.Core.Bool.{Bool, true, false, _&&_}
 use mathlib.Core.List.{List, [], _∷_}
 use native.Mathlib.Omega.{arith}
 use native.Mathlib.Numerals.{add-one}
@@ -9,7 +10,7 @@ use lib.ListN.{length, take, drop, getD}
 use lib.Dec.{eqb, leb, eqb→eq, leb→le}
 use Rattle.form.specs.Trees.{decode}
 use Rattle.form.proofs.Table.{at}
-use Rattle.names.specs.Texts.{nameOf, lettersOf, letters, startOf}
+use Rattle.names.specs.Texts.{nameOf, sameText, lettersOf, letters, startOf}
 
 -- the starts, as the code has them
 abbrev pub starts : List ℕ
@@ -57,3 +58,15 @@ name-cut k from to h p q =
 
 pub name-ends : (k from to : ℕ) → k < 10 → from ≡ startOf k → to ≡ startOf (k + 1) → (from ≤ to) × (to ≤ 94)
 name-ends k from to h p q = (omega (arith, start-next k), omega (arith, start-most (k + 1) (omega arith)))
+
+-- texts of other lengths are not the same
+pub other-length : (s t : List ℕ) → (length s ≡ length t → ⊥) → false ≡ sameText s t
+unfolding sameText
+other-length [] [] n = absurd (n refl)
+other-length [] (b ∷ t) n = refl
+other-length (a ∷ s) [] n = refl
+other-length (a ∷ s) (b ∷ t) n = step (eqb a b) (other-length s t (λ e. n (ap suc e)))
+  where
+    step : (x : Bool) {y : Bool} → false ≡ y → false ≡ x && y
+    step true e = e
+    step false e = refl

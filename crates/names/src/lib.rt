@@ -72,6 +72,9 @@ fn has_name(s: &[u8], k: usize) -> bool
 {
     let from = name_start(k);
     let to = name_start(k + 1);
+    if s.len() != to - from {
+        return false;
+    }
     check::same(s, &LETTERS[from..to])
 }
 

@@ -9,6 +9,7 @@ use native.Mathlib.Omega.{arith}
 use lib.ListN.{length, getD, take, drop}
 use borrow.Author.Tests.{ne-eqb}
 use Rattle.form.specs.Trees.{Simple, any, Ty, leaf, built, list, range, context, function, Tys, no-params, param, Temporal, on-date, at-time, at-dateTime, for-daysAndTime, for-yearsAndMonths, code, code-temporal, decode, decode-temporal, Params, parameter, Leaf, l-null, l-boolean, l-number, l-string, l-temporal, Val, v-leaf, v-range, v-list, v-context, v-function, v-built-in, v-type, v-irrelevant, Vals, no-items, item, Entries}
+use Rattle.form.specs.Limits.{nameWidth}
 use Rattle.form.specs.Form.{numAt, countTys}
 use Rattle.form.specs.Layout.{ofValue, kTemporal, operands, operandsV, kindOf, widthOf}
 use Rattle.form.proofs.Commands.{kind-temporal, width-is}
@@ -263,6 +264,19 @@ module _ (l : ℕ) (v t : List ℕ) (p : Ok (valueAt l v)) (q : Ok (typeAt l t))
       go x u e f (s-other y c h) = absurd (omega arith)
 
   -- the width of a simple value is small
+  -- the short way: a number, a string, a temporal
+  pub key-number : getD v 0 0 ≡ 0x02 → getD t 0 0 ≡ 0x22 → Yes 9 1 ≡ whole
+  unfolding widthOf kindOf operands operandsV
+  key-number e d = simple-yes 8 (λ z. absurd (omega (arith, e, z))) (omega (arith, e)) (omega (arith, e, d)) (sym (ap widthOf e))
+
+  pub key-string : getD v 0 0 ≡ 0x03 → getD t 0 0 ≡ 0x23 → Yes (nameWidth + 1) 1 ≡ whole
+  unfolding widthOf kindOf operands operandsV
+  key-string e d = simple-yes nameWidth (λ z. absurd (omega (arith, e, z))) (omega (arith, e)) (omega (arith, e, d)) (sym (ap widthOf e))
+
+  pub key-temporal : 0x04 ≤ getD v 0 0 → getD v 0 0 ≤ 0x08 → getD t 0 0 ≡ getD v 0 0 + 0x20 → Yes 9 1 ≡ whole
+  unfolding operands operandsV
+  key-temporal a b d = simple-yes 8 (λ z. absurd (omega (arith, a, z))) (omega (arith, b)) d (sym (width-is (getD v 0 0) (ofValue kTemporal) (kind-temporal (getD v 0 0) a (omega (arith, b)))))
+
   pub simple-fits : (n : ℕ) → (getD v 0 0 ≡ 0 → ⊥) → getD v 0 0 < 9 → n ≡ widthOf (getD v 0 0) → n + 1 ≤ length v
   unfolding size-val
   simple-fits n y0 y8 k = trees go

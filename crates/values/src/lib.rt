@@ -1,5 +1,6 @@
 // values.rs over the byte form: a value held to a type, in one pass over both.
 ghost use mathlib.Core.Path.{_≡_};
+ghost use Prim.Native.Nat.{_<_};
 ghost use Rattle.form.specs.Answers.{verdict};
 ghost use Rattle.types.specs.At.{typeAt, fieldsAt, sigAt, Ok};
 ghost use Rattle.values.specs.At.{valueAt, itemsAt, entriesAt, definitionAt, sizeAtV};
@@ -23,6 +24,38 @@ pub fn skip(s: &[u8], left: usize) -> usize
     match form::walk_value(s, left) {
         Walk::End { size, level: _ } => size,
         Walk::Fault(_) => 0,
+    }
+}
+
+// The size of the value at the front of `v` where it is a number, a string or a temporal and the type at the front of `t` is its own; 0
+// where it is not: a short way past most pairs.
+fn leaf(v: &[u8], t: &[u8], left: usize) -> usize
+    requires { ⌜ Ok (valueAt left (now v)) ⌝ }
+    requires { ⌜ Ok (typeAt left (now t)) ⌝ }
+    ensures { λ r. ⌜ (0 < r → Conform.Yes r 1 ≡ held (valueAt left (now (v .entry))) (typeAt left (now (t .entry)))) ⌝ }
+{
+    let c = v[0];
+    let d = t[0];
+    match c {
+        0x02 => {
+            if d == 0x22 {
+                return 9;
+            }
+            0
+        }
+        0x03 => {
+            if d == 0x23 {
+                return NAME_WIDTH + 1;
+            }
+            0
+        }
+        0x04..=0x08 => {
+            if d == c + 0x20 {
+                return 9;
+            }
+            0
+        }
+        _ => 0,
     }
 }
 
@@ -126,6 +159,12 @@ fn conform_items(v: &[u8], n: usize, t: &[u8], left: usize) -> Conform
     let mut at: usize = 0;
     let mut i: usize = 0;
     while i < n {
+        let k = leaf(&v[at..], t, left);
+        if k != 0 {
+            at = at + k;
+            i += 1;
+            continue;
+        }
         match conforms(&v[at..], t, left) {
             Conform::Yes { a: x, b: _ } => at = at + x,
             Conform::No => return Conform::No,
@@ -161,6 +200,14 @@ fn conform_entries(v: &[u8], n: usize, t: &[u8], m: usize, left: usize) -> Confo
             continue;
         }
         let q = bt + NAME_WIDTH;
+        let k = leaf(&v[p..], &t[q..], left);
+        if k != 0 {
+            at = p + k;
+            bt = q + 1;
+            i += 1;
+            j += 1;
+            continue;
+        }
         match conforms(&v[p..], &t[q..], left) {
             Conform::Yes { a: u, b: w } => {
                 at = p + u;

@@ -20,6 +20,7 @@ use Rattle.types.proofs.grow.Reads as grow-reads
 use Rattle.types.proofs.peek.Reads as peek-reads
 use Rattle.types.proofs.skip.Reads as skip-reads
 use Rattle.values.proofs.conform_definition.Reads as conform-definition-reads
+use Rattle.values.proofs.leaf.Reads as leaf-reads
 use Rattle.values.proofs.skip.Reads as skip-reads′
 use Rattle.values.proofs.+conform_entries+conform_items+conforms.{statement}
 use Rattle.values.proofs.+conform_entries+conform_items+conforms.Tie.{close}
@@ -92,7 +93,7 @@ conform-items-μ-loop v n t left at₀ i₀ at i = n - i
 
 pub +conform-entries+conform-items+conforms-spec : {M : Type 1} → statement M
 +conform-entries+conform-items+conforms-spec =
-    close μ-conform-entries μ-conform-items μ-conforms (λ t. conform-entries-lts.spec (name-at-reads.Asked, name-at-reads.Learnt, peek-reads.Asked, peek-reads.Learnt, skip-reads′.Asked, skip-reads′.Learnt, conforms-below t, conforms.Post)
+    close μ-conform-entries μ-conform-items μ-conforms (λ t. conform-entries-lts.spec (name-at-reads.Asked, name-at-reads.Learnt, peek-reads.Asked, peek-reads.Learnt, skip-reads′.Asked, skip-reads′.Learnt, leaf-reads.Asked, leaf-reads.Learnt, conforms-below t, conforms.Post)
     (conform-entries-at t)
     conform-entries.Post
     conform-entries-Inv-loop
@@ -117,19 +118,32 @@ pub +conform-entries+conform-items+conforms-spec : {M : Type 1} → statement M
     (λ c. omega (arith, peek-asks (c .before .before .before .before .before .before .loop .inv) (t-more (c .before .before .before .before .before .before .loop .inv) (c .before .before .before .before .before .loop-test .taken) (c .before .before .before .before .name-at .result) (c .before .before .before .peek .result) (c .before .before .before .before .name-at .ensures .0) (c .before .before .before .before .name-at .ensures .1) (c .before .before .before .peek .ensures .0) (c .before .before .if1 .left) (c .before .if2 .left))))
     (λ c. omega (arith, peek-asks (c .before .before .before .before .before .before .loop .inv) (t-more (c .before .before .before .before .before .before .loop .inv) (c .before .before .before .before .before .loop-test .taken) (c .before .before .before .before .name-at .result) (c .before .before .before .peek .result) (c .before .before .before .before .name-at .ensures .0) (c .before .before .before .before .name-at .ensures .1) (c .before .before .before .peek .ensures .0) (c .before .before .if1 .left) (c .before .if2 .left))))
     (λ c. search needs)
-    (λ c κs. (omega (arith, c .before .before .before .before .before .before .before .before .before .before .pre .0), (entry-ok (merge-v (c .before .before .before .before .before .before .before .loop .inv) (c .before .before .before .before .before .before .loop-test .taken)), entries.entry-ok (merge-t (c .before .before .before .before .before .before .before .loop .inv) (t-more (c .before .before .before .before .before .before .before .loop .inv) (c .before .before .before .before .before .before .loop-test .taken) (c .before .before .before .before .before .name-at .result) (c .before .before .before .before .peek .result) (c .before .before .before .before .before .name-at .ensures .0) (c .before .before .before .before .before .name-at .ensures .1) (c .before .before .before .before .peek .ensures .0) (c .before .before .before .if1 .left) (c .before .before .if2 .left))))))
+    (λ c κs. (entry-ok (merge-v (c .before .before .before .before .before .before .before .loop .inv) (c .before .before .before .before .before .before .loop-test .taken)), entries.entry-ok (merge-t (c .before .before .before .before .before .before .before .loop .inv) (t-more (c .before .before .before .before .before .before .before .loop .inv) (c .before .before .before .before .before .before .loop-test .taken) (c .before .before .before .before .before .name-at .result) (c .before .before .before .before .peek .result) (c .before .before .before .before .before .name-at .ensures .0) (c .before .before .before .before .before .name-at .ensures .1) (c .before .before .before .before .peek .ensures .0) (c .before .before .before .if1 .left) (c .before .before .if2 .left)))))
+    (λ c. omega (arith, merge-sizes (c .before .before .before .before .before .before .before .before .before .loop .inv) (c .before .before .before .before .before .before .before .before .loop-test .taken) (c .before .before .before .before .before .before .before .name-at .result) (c .before .before .before .before .before .before .peek .result) (c .before .before .before .before .before .before .before .name-at .ensures .0) (c .before .before .before .before .before .before .before .name-at .ensures .1) (c .before .before .before .before .before .before .peek .ensures .0) (c .before .before .before .before .before .if1 .left) (c .before .before .before .before .if2 .left) _ (c .before .leaf .ensures (omega arith)) (c .before .leaf .result) 1 refl))
+    (λ c. omega (arith, merge-sizes (c .before .before .before .before .before .before .before .before .before .loop .inv) (c .before .before .before .before .before .before .before .before .loop-test .taken) (c .before .before .before .before .before .before .before .name-at .result) (c .before .before .before .before .before .before .peek .result) (c .before .before .before .before .before .before .before .name-at .ensures .0) (c .before .before .before .before .before .before .before .name-at .ensures .1) (c .before .before .before .before .before .before .peek .ensures .0) (c .before .before .before .before .before .if1 .left) (c .before .before .before .before .if2 .left) _ (c .before .leaf .ensures (omega arith)) (c .before .leaf .result) 1 refl))
     (λ c. search needs)
-    (λ c. omega (arith, merge-sizes (c .before .before .before .before .before .before .before .before .before .before .before .loop .inv) (c .before .before .before .before .before .before .before .before .before .before .loop-test .taken) (c .before .before .before .before .before .before .before .before .before .name-at .result) (c .before .before .before .before .before .before .before .before .peek .result) (c .before .before .before .before .before .before .before .before .before .name-at .ensures .0) (c .before .before .before .before .before .before .before .before .before .name-at .ensures .1) (c .before .before .before .before .before .before .before .before .peek .ensures .0) (c .before .before .before .before .before .before .before .if1 .left) (c .before .before .before .before .before .before .if2 .left) _ (c .before .before .before .conforms .ensures) _ _ (c .before .u .given .1)))
-    (λ c. omega (arith, merge-sizes (c .before .before .before .before .before .before .before .before .before .before .before .loop .inv) (c .before .before .before .before .before .before .before .before .before .before .loop-test .taken) (c .before .before .before .before .before .before .before .before .before .name-at .result) (c .before .before .before .before .before .before .before .before .peek .result) (c .before .before .before .before .before .before .before .before .before .name-at .ensures .0) (c .before .before .before .before .before .before .before .before .before .name-at .ensures .1) (c .before .before .before .before .before .before .before .before .peek .ensures .0) (c .before .before .before .before .before .before .before .if1 .left) (c .before .before .before .before .before .before .if2 .left) _ (c .before .before .before .conforms .ensures) _ _ (c .before .u .given .1)))
+    (λ c. omega (arith, t-more (c .before .before .before .before .before .before .before .before .before .loop .inv) (c .before .before .before .before .before .before .before .before .loop-test .taken) (c .before .before .before .before .before .before .before .name-at .result) (c .before .before .before .before .before .before .peek .result) (c .before .before .before .before .before .before .before .name-at .ensures .0) (c .before .before .before .before .before .before .before .name-at .ensures .1) (c .before .before .before .before .before .before .peek .ensures .0) (c .before .before .before .before .before .if1 .left) (c .before .before .before .before .if2 .left)))
     (λ c. search needs)
-    (λ c. merge-no (c .before .before .before .before .before .before .before .before .before .before .loop .inv) (c .before .before .before .before .before .before .before .before .before .loop-test .taken) (c .before .before .before .before .before .before .before .before .name-at .result) (c .before .before .before .before .before .before .before .peek .result) (c .before .before .before .before .before .before .before .before .name-at .ensures .0) (c .before .before .before .before .before .before .before .before .name-at .ensures .1) (c .before .before .before .before .before .before .before .peek .ensures .0) (c .before .before .before .before .before .before .if1 .left) (c .before .before .before .before .before .if2 .left) _ (c .before .before .conforms .ensures) (c .enum-told .given .1))
+    (λ c. merge-both (c .before .before .before .before .before .before .before .before .before .loop .inv) (c .before .before .before .before .before .before .before .before .loop-test .taken) (c .before .before .before .before .before .before .before .name-at .result) (c .before .before .before .before .before .before .peek .result) (c .before .before .before .before .before .before .before .name-at .ensures .0) (c .before .before .before .before .before .before .before .name-at .ensures .1) (c .before .before .before .before .before .before .peek .ensures .0) (c .before .before .before .before .before .if1 .left) (c .before .before .before .before .if2 .left) _ (c .before .leaf .ensures (omega arith)) (c .before .leaf .result) 1 refl)
+    (λ c. omega (arith, merge-v (c .before .before .before .before .before .before .before .before .before .loop .inv) (c .before .before .before .before .before .before .before .before .loop-test .taken) .two))
+    (λ c. omega (arith, merge-v (c .before .before .before .before .before .before .before .before .before .loop .inv) (c .before .before .before .before .before .before .before .before .loop-test .taken) .two))
     (λ c. search needs)
-    (λ c. omega (arith, t-more (c .before .before .before .before .before .before .before .before .before .before .before .loop .inv) (c .before .before .before .before .before .before .before .before .before .before .loop-test .taken) (c .before .before .before .before .before .before .before .before .before .name-at .result) (c .before .before .before .before .before .before .before .before .peek .result) (c .before .before .before .before .before .before .before .before .before .name-at .ensures .0) (c .before .before .before .before .before .before .before .before .before .name-at .ensures .1) (c .before .before .before .before .before .before .before .before .peek .ensures .0) (c .before .before .before .before .before .before .before .if1 .left) (c .before .before .before .before .before .before .if2 .left)))
+    (λ c. omega (arith, peek-asks (c .before .before .before .before .before .before .before .before .before .before .loop .inv) (t-more (c .before .before .before .before .before .before .before .before .before .before .loop .inv) (c .before .before .before .before .before .before .before .before .before .loop-test .taken) (c .before .before .before .before .before .before .before .before .name-at .result) (c .before .before .before .before .before .before .before .peek .result) (c .before .before .before .before .before .before .before .before .name-at .ensures .0) (c .before .before .before .before .before .before .before .before .name-at .ensures .1) (c .before .before .before .before .before .before .before .peek .ensures .0) (c .before .before .before .before .before .before .if1 .left) (c .before .before .before .before .before .if2 .left))))
+    (λ c. omega (arith, peek-asks (c .before .before .before .before .before .before .before .before .before .before .loop .inv) (t-more (c .before .before .before .before .before .before .before .before .before .before .loop .inv) (c .before .before .before .before .before .before .before .before .before .loop-test .taken) (c .before .before .before .before .before .before .before .before .name-at .result) (c .before .before .before .before .before .before .before .peek .result) (c .before .before .before .before .before .before .before .before .name-at .ensures .0) (c .before .before .before .before .before .before .before .before .name-at .ensures .1) (c .before .before .before .before .before .before .before .peek .ensures .0) (c .before .before .before .before .before .before .if1 .left) (c .before .before .before .before .before .if2 .left))))
     (λ c. search needs)
-    (λ c. merge-both (c .before .before .before .before .before .before .before .before .before .before .before .loop .inv) (c .before .before .before .before .before .before .before .before .before .before .loop-test .taken) (c .before .before .before .before .before .before .before .before .before .name-at .result) (c .before .before .before .before .before .before .before .before .peek .result) (c .before .before .before .before .before .before .before .before .before .name-at .ensures .0) (c .before .before .before .before .before .before .before .before .before .name-at .ensures .1) (c .before .before .before .before .before .before .before .before .peek .ensures .0) (c .before .before .before .before .before .before .before .if1 .left) (c .before .before .before .before .before .before .if2 .left) _ (c .before .before .before .conforms .ensures) _ _ (c .before .u .given .1))
-    (λ c. merge-left (c .before .before .loop .inv) (c .before .loop-test .left) (c .if3 .taken))
-    (λ c. merge-done (c .before .before .loop .inv) (c .before .loop-test .left) (c .if3 .left)))
-    (λ t. conform-items-lts.spec (conforms-below t, conforms.Post, skip-reads.Asked, skip-reads.Learnt)
+    (λ c κs. (omega (arith, c .before .before .before .before .before .before .before .before .before .before .before .before .before .before .pre .0), (entry-ok (merge-v (c .before .before .before .before .before .before .before .before .before .before .before .loop .inv) (c .before .before .before .before .before .before .before .before .before .before .loop-test .taken)), entries.entry-ok (merge-t (c .before .before .before .before .before .before .before .before .before .before .before .loop .inv) (t-more (c .before .before .before .before .before .before .before .before .before .before .before .loop .inv) (c .before .before .before .before .before .before .before .before .before .before .loop-test .taken) (c .before .before .before .before .before .before .before .before .before .name-at .result) (c .before .before .before .before .before .before .before .before .peek .result) (c .before .before .before .before .before .before .before .before .before .name-at .ensures .0) (c .before .before .before .before .before .before .before .before .before .name-at .ensures .1) (c .before .before .before .before .before .before .before .before .peek .ensures .0) (c .before .before .before .before .before .before .before .if1 .left) (c .before .before .before .before .before .before .if2 .left))))))
+    (λ c. search needs)
+    (λ c. omega (arith, merge-sizes (c .before .before .before .before .before .before .before .before .before .before .before .before .before .before .before .loop .inv) (c .before .before .before .before .before .before .before .before .before .before .before .before .before .before .loop-test .taken) (c .before .before .before .before .before .before .before .before .before .before .before .before .before .name-at .result) (c .before .before .before .before .before .before .before .before .before .before .before .before .peek .result) (c .before .before .before .before .before .before .before .before .before .before .before .before .before .name-at .ensures .0) (c .before .before .before .before .before .before .before .before .before .before .before .before .before .name-at .ensures .1) (c .before .before .before .before .before .before .before .before .before .before .before .before .peek .ensures .0) (c .before .before .before .before .before .before .before .before .before .before .before .if1 .left) (c .before .before .before .before .before .before .before .before .before .before .if2 .left) _ (c .before .before .before .conforms .ensures) _ _ (c .before .u .given .1)))
+    (λ c. omega (arith, merge-sizes (c .before .before .before .before .before .before .before .before .before .before .before .before .before .before .before .loop .inv) (c .before .before .before .before .before .before .before .before .before .before .before .before .before .before .loop-test .taken) (c .before .before .before .before .before .before .before .before .before .before .before .before .before .name-at .result) (c .before .before .before .before .before .before .before .before .before .before .before .before .peek .result) (c .before .before .before .before .before .before .before .before .before .before .before .before .before .name-at .ensures .0) (c .before .before .before .before .before .before .before .before .before .before .before .before .before .name-at .ensures .1) (c .before .before .before .before .before .before .before .before .before .before .before .before .peek .ensures .0) (c .before .before .before .before .before .before .before .before .before .before .before .if1 .left) (c .before .before .before .before .before .before .before .before .before .before .if2 .left) _ (c .before .before .before .conforms .ensures) _ _ (c .before .u .given .1)))
+    (λ c. search needs)
+    (λ c. merge-no (c .before .before .before .before .before .before .before .before .before .before .before .before .before .before .loop .inv) (c .before .before .before .before .before .before .before .before .before .before .before .before .before .loop-test .taken) (c .before .before .before .before .before .before .before .before .before .before .before .before .name-at .result) (c .before .before .before .before .before .before .before .before .before .before .before .peek .result) (c .before .before .before .before .before .before .before .before .before .before .before .before .name-at .ensures .0) (c .before .before .before .before .before .before .before .before .before .before .before .before .name-at .ensures .1) (c .before .before .before .before .before .before .before .before .before .before .before .peek .ensures .0) (c .before .before .before .before .before .before .before .before .before .before .if1 .left) (c .before .before .before .before .before .before .before .before .before .if2 .left) _ (c .before .before .conforms .ensures) (c .enum-told .given .1))
+    (λ c. search needs)
+    (λ c. omega (arith, t-more (c .before .before .before .before .before .before .before .before .before .before .before .before .before .before .before .loop .inv) (c .before .before .before .before .before .before .before .before .before .before .before .before .before .before .loop-test .taken) (c .before .before .before .before .before .before .before .before .before .before .before .before .before .name-at .result) (c .before .before .before .before .before .before .before .before .before .before .before .before .peek .result) (c .before .before .before .before .before .before .before .before .before .before .before .before .before .name-at .ensures .0) (c .before .before .before .before .before .before .before .before .before .before .before .before .before .name-at .ensures .1) (c .before .before .before .before .before .before .before .before .before .before .before .before .peek .ensures .0) (c .before .before .before .before .before .before .before .before .before .before .before .if1 .left) (c .before .before .before .before .before .before .before .before .before .before .if2 .left)))
+    (λ c. search needs)
+    (λ c. merge-both (c .before .before .before .before .before .before .before .before .before .before .before .before .before .before .before .loop .inv) (c .before .before .before .before .before .before .before .before .before .before .before .before .before .before .loop-test .taken) (c .before .before .before .before .before .before .before .before .before .before .before .before .before .name-at .result) (c .before .before .before .before .before .before .before .before .before .before .before .before .peek .result) (c .before .before .before .before .before .before .before .before .before .before .before .before .before .name-at .ensures .0) (c .before .before .before .before .before .before .before .before .before .before .before .before .before .name-at .ensures .1) (c .before .before .before .before .before .before .before .before .before .before .before .before .peek .ensures .0) (c .before .before .before .before .before .before .before .before .before .before .before .if1 .left) (c .before .before .before .before .before .before .before .before .before .before .if2 .left) _ (c .before .before .before .conforms .ensures) _ _ (c .before .u .given .1))
+    (λ c. merge-left (c .before .before .loop .inv) (c .before .loop-test .left) (c .if4 .taken))
+    (λ c. merge-done (c .before .before .loop .inv) (c .before .loop-test .left) (c .if4 .left)))
+    (λ t. conform-items-lts.spec (leaf-reads.Asked, leaf-reads.Learnt, conforms-below t, conforms.Post, skip-reads.Asked, skip-reads.Learnt)
     (conform-items-at t)
     conform-items.Post
     conform-items-Inv-loop
@@ -138,14 +152,22 @@ pub +conform-entries+conform-items+conforms-spec : {M : Type 1} → statement M
     (λ c. search needs)
     (λ c. search needs)
     (λ c. search needs)
-    (λ c κs. (omega (arith, c .before .before .before .before .before .pre .0), (item-ok (c .before .before .loop .inv) (c .before .loop-test .taken), item-type (c .before .before .loop .inv))))
-    (λ c. search needs)
-    (λ c. omega (arith, item-fits (c .before .before .before .before .before .before .loop .inv) (c .before .before .before .before .before .loop-test .taken) _ (c .before .before .before .conforms .ensures) _ _ (c .before .x .given .1)))
-    (λ c. search needs)
-    (λ c. item-no (c .before .before .before .before .before .loop .inv) (c .before .before .before .before .loop-test .taken) _ (c .before .before .conforms .ensures) (c .enum-told .given .1))
+    (λ c κs. (item-ok (c .before .before .loop .inv) (c .before .loop-test .taken), item-type (c .before .before .loop .inv)))
+    (λ c. omega (arith, item-fits (c .before .before .before .before .loop .inv) (c .before .before .before .loop-test .taken) _ (c .before .leaf .ensures (omega arith)) (c .before .leaf .result) 1 refl))
     (λ c. search needs)
     (λ c. search needs)
-    (λ c. item-turn (c .before .before .before .before .before .before .loop .inv) (c .before .before .before .before .before .loop-test .taken) _ (c .before .before .before .conforms .ensures) _ _ (c .before .x .given .1))
+    (λ c. item-turn (c .before .before .before .before .loop .inv) (c .before .before .before .loop-test .taken) _ (c .before .leaf .ensures (omega arith)) (c .before .leaf .result) 1 refl)
+    (λ c. search needs)
+    (λ c. search needs)
+    (λ c. search needs)
+    (λ c κs. (omega (arith, c .before .before .before .before .before .before .before .before .pre .0), (item-ok (c .before .before .before .before .before .loop .inv) (c .before .before .before .before .loop-test .taken), item-type (c .before .before .before .before .before .loop .inv))))
+    (λ c. search needs)
+    (λ c. omega (arith, item-fits (c .before .before .before .before .before .before .before .before .before .loop .inv) (c .before .before .before .before .before .before .before .before .loop-test .taken) _ (c .before .before .before .conforms .ensures) _ _ (c .before .x .given .1)))
+    (λ c. search needs)
+    (λ c. item-no (c .before .before .before .before .before .before .before .before .loop .inv) (c .before .before .before .before .before .before .before .loop-test .taken) _ (c .before .before .conforms .ensures) (c .enum-told .given .1))
+    (λ c. search needs)
+    (λ c. search needs)
+    (λ c. item-turn (c .before .before .before .before .before .before .before .before .before .loop .inv) (c .before .before .before .before .before .before .before .before .loop-test .taken) _ (c .before .before .before .conforms .ensures) _ _ (c .before .x .given .1))
     (λ c κs. search needs)
     (λ c. items-done (c .before .before .loop .inv) (c .before .loop-test .left) _ (c .skip .ensures)))
     λ t. conforms-lts.spec (skip-reads′.Asked, skip-reads′.Learnt, skip-reads.Asked, skip-reads.Learnt, conform-items-below t, conform-items.Post, grow-reads.Asked, grow-reads.Learnt, word-at-reads.Asked, word-at-reads.Learnt, conform-entries-below t, conform-entries.Post, wide-reads.Asked, wide-reads.Learnt, conform-definition-reads.Asked, conform-definition-reads.Learnt, width-reads.Asked, width-reads.Learnt)
