@@ -1,14 +1,14 @@
--- The walk over a table from text to text: what stands at a place, where the text with a number stands, and how long a text is.
+-- The walk over a table from text to text: what stands at a place, where the text with a number stands, how long a text is, and how many there are.
 -- Assumes nothing.
 use Prim.Native.Nat.{ℕ, zero, suc, _+_, _-_, _*_, _<_, _≤_}
-use mathlib.Core.Path.{_≡_, refl, sym, ap, ap₂, subst, _∙_}
+use mathlib.Core.Path.{_≡_, refl, sym, ap, subst, _∙_}
 use mathlib.Core.Bool.{Bool, true, false, _&&_}
 use mathlib.Core.Option.{Option, none, some}
 use mathlib.Core.List.{List, [], _∷_}
 use native.Mathlib.Omega.{arith}
 use native.Mathlib.Numerals.{add-one}
-use lib.ListN.{length, take, drop, getD, length-take, length-drop, drop-of-length-le}
-use lib.Seq.{drop-cons, drop-drop}
+use lib.ListN.{length, take, drop, getD, set, length-set, length-take, length-drop, drop-of-length-le}
+use lib.Seq.{drop-cons, drop-drop, getD-set-same, getD-set-other}
 use lib.Dec.{leb, ltb}
 use borrow.Author.Tests.{ltb-true, ltb-false, leb-true}
 use Rattle.form.specs.Limits.{mostBytes}
@@ -18,8 +18,8 @@ use Rattle.types.proofs.Reading.{ok-got, never}
 use Rattle.types.proofs.Entries.{step}
 use Rattle.retrieval.specs.Retrieve.{mapped}
 use Rattle.names.specs.Texts.{nth}
-use Rattle.names.specs.Tables.{Rule, inTable, provided, readTexts, countedTexts, readTable}
-use Rattle.names.specs.Writing.{Located, Locates}
+use Rattle.names.specs.Tables.{Rule, lessText, tidy, inTable, provided, readTexts, countedTexts, readTable}
+use Rattle.names.specs.Writing.{Located, Locates, Stands, Marked}
 use Rattle.names.specs.declared.Span.{Span}
 use Rattle.names.specs.declared.Span.the-variants as span-is
 use Rattle.names.proofs.Displaying.{Most}
@@ -28,6 +28,7 @@ use Rattle.names.proofs.Displaying.{Most}
 record First (rule : Rule) (before : Option (List ℕ)) (c n : ℕ) (s : List ℕ) (ts : List (List ℕ)) : Type 0 where
   more : List (List ℕ)
   fits : n ≤ length s
+  ruled : rule before (take n s) ≡ true
   is : ts ≡ take n s ∷ more
   second : readTexts rule (some (take n s)) c (drop n s) ≡ some more
 
@@ -37,14 +38,14 @@ mapped-some x (some xs) ts e = let p : ts ≡ x ∷ xs = cc in (xs, refl, p)
 
 first-of : (rule : Rule) (before : Option (List ℕ)) (c n : ℕ) (s : List ℕ) (ts : List (List ℕ)) → readTexts rule before (suc c) (n ∷ s) ≡ some ts → First rule before c n s ts
 unfolding readTexts
-first-of rule before c n s ts e = go (leb n (length s)) refl (rule before (take n s)) e
+first-of rule before c n s ts e = go (leb n (length s)) refl (rule before (take n s)) refl e
   where
-    go : (p : Bool) → leb n (length s) ≡ p → (q : Bool) → provided (p && q) (mapped (λ xs. take n s ∷ xs) (readTexts rule (some (take n s)) c (drop n s))) ≡ some ts → First rule before c n s ts
-    go false h q f = absurd (never f)
-    go true h false f = absurd (never f)
-    go true h true f =
+    go : (p : Bool) → leb n (length s) ≡ p → (q : Bool) → rule before (take n s) ≡ q → provided (p && q) (mapped (λ xs. take n s ∷ xs) (readTexts rule (some (take n s)) c (drop n s))) ≡ some ts → First rule before c n s ts
+    go false h q r f = absurd (never f)
+    go true h false r f = absurd (never f)
+    go true h true r f =
         let M = mapped-some (take n s) (readTexts rule (some (take n s)) c (drop n s)) ts f in
-        record { more = M .0; fits = leb-true n (length s) h; is = M .2; second = M .1 }
+        record { more = M .0; fits = leb-true n (length s) h; ruled = r; is = M .2; second = M .1 }
 
 -- ---- the text whose length byte stands at `at`, of which c follow
 pub record TextAt (rule : Rule) (c at : ℕ) (a : List ℕ) (ts : List (List ℕ)) : Type 0 where
@@ -102,6 +103,30 @@ all-most rule m before (suc c) (k ∷ s) ts e h n =
     go more ih zero = simp length-take (omega arith)
     go more ih (suc i) = ih i
 
+-- ---- a table has at most 8,192 texts: behind the first none is empty
+not-both : (q : Bool) → (q && false) ≡ true → ⊥
+not-both false e = let z : _≡_ {A = ℕ} 0 1 = cc in omega arith
+not-both true e = let z : _≡_ {A = ℕ} 0 1 = cc in omega arith
+
+some-byte : (b t : List ℕ) → inTable (some b) t ≡ true → 1 ≤ length t
+unfolding lessText
+some-byte b [] e = absurd (not-both (tidy []) e)
+some-byte b (x ∷ t) e = omega arith
+
+two-each : (b : List ℕ) (c : ℕ) (s : List ℕ) (ts : List (List ℕ)) → readTexts inTable (some b) c s ≡ some ts → 2 * c ≤ length s
+two-each b zero s ts e = omega arith
+two-each b (suc c) [] ts e = absurd (none-left inTable (some b) c ts e)
+two-each b (suc c) (n ∷ s) ts e =
+    let F = first-of inTable (some b) c n s ts e in
+    omega (arith, F .fits, two-each (take n s) c (drop n s) (F .more) (F .second), some-byte b (take n s) (F .ruled), length-take n s, length-drop n s)
+
+two-but-first : (c : ℕ) (s : List ℕ) (ts : List (List ℕ)) → readTexts inTable none c s ≡ some ts → 2 * c ≤ length s + 1
+two-but-first zero s ts e = omega arith
+two-but-first (suc c) [] ts e = absurd (none-left inTable none c ts e)
+two-but-first (suc c) (n ∷ s) ts e =
+    let F = first-of inTable none c n s ts e in
+    omega (arith, two-each (take n s) c (drop n s) (F .more) (F .second), length-drop n s)
+
 -- ---- a table that was read
 pub record Table (a : List ℕ) (ts : List (List ℕ)) : Type 0 where
   pub two : 2 ≤ length a
@@ -138,17 +163,6 @@ pub located : (a : List ℕ) (n : ℕ) (ts : List (List ℕ)) (r : Span) → rea
 unfolding Locates
 located a n ts r e h = rw e at h
 
-pub record WalkInv (a : List ℕ) (number count at i : ℕ) : Type 0 where
-  pub all : List (List ℕ)
-  pub left : List (List ℕ)
-  pub before : Option (List ℕ)
-  pub whole : readTable a ≡ some all
-  pub in-table : length a ≤ mostBytes
-  pub below : i ≤ number
-  pub there : number < count
-  pub read : readTexts inTable before (count - i) (drop at a) ≡ some left
-  pub same : nth left (number - i) ≡ nth all number
-
 module _ (a : List ℕ) (ok : Ok (readTable a)) where
   abbrev R : (ts : List (List ℕ)) × (readTable a ≡ some ts)
   R = ok-got (readTable a) ok
@@ -162,21 +176,20 @@ module _ (a : List ℕ) (ok : Ok (readTable a)) where
       let c = texts-counted inTable none (numAt 2 0 a) (drop 2 a) (R .0) (T .texts) in
       locates a number (R .0) span-is.None (R .1) (record { text = sym (beyond (R .0) number (omega arith)); inside = tt })
 
-  pub walk-start : (number count : ℕ) → count ≡ numAt 2 0 a → number < count → WalkInv a number count 2 0
-  walk-start number count e h =
+  pub table-few : numAt 2 0 a ≤ 8192
+  table-few = let T = table a (R .0) (R .1) in omega (arith, two-but-first (numAt 2 0 a) (drop 2 a) (R .0) (T .texts), length-drop 2 a, T .most)
+
+  pub first-stands : Stands a 0 2
+  first-stands =
       let T = table a (R .0) (R .1) in
-      let z : number - 0 ≡ number = omega arith in
-      let c : count - 0 ≡ numAt 2 0 a = omega arith in
+      let c : numAt 2 0 a - 0 ≡ numAt 2 0 a = omega arith in
       record {
         all = R .0;
         left = R .0;
         before = none;
         whole = R .1;
-        in-table = T .most;
-        below = omega arith;
-        there = h;
         read = ap (λ (k : ℕ). readTexts inTable none k (drop 2 a)) c ∙ T .texts;
-        same = ap (nth (R .0)) z;
+        same = λ n. let z : n ≡ 0 + n = omega arith in ap (nth (R .0)) z;
       }
 
 nth-first : (t : List ℕ) (ts : List (List ℕ)) → nth (t ∷ ts) 0 ≡ some t
@@ -187,41 +200,94 @@ nth-next : (t : List ℕ) (ts : List (List ℕ)) (n : ℕ) → nth (t ∷ ts) (s
 unfolding nth
 nth-next t ts n = refl
 
-module _ {a : List ℕ} {number count at i : ℕ} (Q : WalkInv a number count at i) where
-  abbrev A : TextAt inTable (count - (i + 1)) at a (Q .left)
-  A =
-      let k : i < count = omega (arith, Q .below, Q .there) in
-      text-there inTable (Q .before) (count - (i + 1)) at a (Q .left) (ap (λ (z : ℕ). readTexts inTable (Q .before) z (drop at a)) (sym (step i count k)) ∙ Q .read)
+module _ {a : List ℕ} {i at : ℕ} (Q : Stands a i at) (h : i < numAt 2 0 a) where
+  abbrev A : TextAt inTable (numAt 2 0 a - (i + 1)) at a (Q .left)
+  A = text-there inTable (Q .before) (numAt 2 0 a - (i + 1)) at a (Q .left) (ap (λ (z : ℕ). readTexts inTable (Q .before) z (drop at a)) (sym (step i (numAt 2 0 a) h)) ∙ Q .read)
 
-  pub walk-fits : (at + 1 + getD a at 0 ≤ length a) × (length a ≤ mostBytes)
-  walk-fits = (A .fits, Q .in-table)
+  pub stands-fits : (at + 1 + getD a at 0 ≤ length a) × (length a ≤ mostBytes)
+  stands-fits = (A .fits, table a (Q .all) (Q .whole) .most)
 
-  pub walk-next : i < number → (n : ℕ) → n ≡ getD a at 0 → WalkInv a number count (at + 1 + n) (i + 1)
-  walk-next h n e =
+  module _ (n : ℕ) (e : n ≡ getD a at 0) where
+    pub next-stands : Stands a (i + 1) (at + 1 + n)
+    next-stands =
+        record {
+          all = Q .all;
+          left = A .more;
+          before = some (take (getD a at 0) (drop (at + 1) a));
+          whole = Q .whole;
+          read = ap (λ (k : ℕ). readTexts inTable (some (take (getD a at 0) (drop (at + 1) a))) (numAt 2 0 a - (i + 1)) (drop (at + 1 + k) a)) e ∙ A .second;
+          same = λ k.
+              let z : i + suc k ≡ i + 1 + k = omega arith in
+              sym (nth-next (take (getD a at 0) (drop (at + 1) a)) (A .more) k)
+              ∙ ap (λ (ts : List (List ℕ)). nth ts (suc k)) (sym (A .is))
+              ∙ Q .same (suc k)
+              ∙ ap (nth (Q .all)) z;
+        }
+
+    pub stands-found : Locates (readTable a) i a (span-is.At (at + 1) (at + 1 + n))
+    stands-found =
+        let z : i + 0 ≡ i = omega arith in
+        let k : at + 1 + n - (at + 1) ≡ getD a at 0 = omega arith in
+        locates a i (Q .all) (span-is.At (at + 1) (at + 1 + n)) (Q .whole)
+        (record {
+          text = ap (λ (j : ℕ). some (take j (drop (at + 1) a))) k
+              ∙ sym (nth-first (take (getD a at 0) (drop (at + 1) a)) (A .more))
+              ∙ ap (λ (ts : List (List ℕ)). nth ts 0) (sym (A .is))
+              ∙ Q .same 0
+              ∙ ap (nth (Q .all)) z;
+          inside = (omega arith, omega (arith, A .fits));
+        })
+
+-- ---- the loop that marks the texts
+pub record MarkInv (a old marks : List ℕ) (count at i : ℕ) : Type 0 where
+  pub counted : count ≡ numAt 2 0 a
+  pub kept : length marks ≡ length old
+  pub room : count ≤ length marks
+  pub below : i ≤ count
+  pub here : Stands a i at
+  pub stands : (j : ℕ) → j < i → Stands a j (getD marks j 0)
+
+pub mark-start : (a marks : List ℕ) (count : ℕ) → Ok (readTable a) → numAt 2 0 a ≤ length marks → count ≡ numAt 2 0 a → MarkInv a marks marks count 2 0
+mark-start a marks count ok h e = record { counted = e; kept = refl; room = omega arith; below = omega arith; here = first-stands a ok; stands = λ j l. absurd (omega arith) }
+
+module _ {a old marks : List ℕ} {count at i : ℕ} (Q : MarkInv a old marks count at i) where
+  pub mark-fits : i < count → (at + 1 + getD a at 0 ≤ length a) × (length a ≤ mostBytes)
+  mark-fits h = stands-fits (Q .here) (omega (arith, Q .counted))
+
+  pub mark-next : i < count → (n : ℕ) → n ≡ getD a at 0 → MarkInv a old (set marks i at) count (at + 1 + n) (i + 1)
+  mark-next h n e =
       record {
-        all = Q .all;
-        left = A .more;
-        before = some (take (getD a at 0) (drop (at + 1) a));
-        whole = Q .whole;
-        in-table = Q .in-table;
+        counted = Q .counted;
+        kept = length-set marks i at ∙ Q .kept;
+        room = omega (arith, Q .room, length-set marks i at);
         below = omega arith;
-        there = Q .there;
-        read = ap (λ (k : ℕ). readTexts inTable (some (take (getD a at 0) (drop (at + 1) a))) (count - (i + 1)) (drop (at + 1 + k) a)) e ∙ A .second;
-        same =
-            sym (nth-next (take (getD a at 0) (drop (at + 1) a)) (A .more) (number - (i + 1)))
-            ∙ ap₂ (λ (z : List (List ℕ)) (k : ℕ). nth z k) (sym (A .is)) (sym (step i number h))
-            ∙ Q .same;
+        here = next-stands (Q .here) (omega (arith, Q .counted)) n e;
+        stands = λ j l. go j l (ltb j i) refl;
       }
+    where
+      go : (j : ℕ) → j < i + 1 → (q : Bool) → ltb j i ≡ q → Stands a j (getD (set marks i at) j 0)
+      go j l true p =
+          let k : j < i = ltb-true j i p in
+          subst (λ (z : ℕ). Stands a j z) (sym (getD-set-other marks i j at 0 (λ x. omega arith))) (Q .stands j k)
+      go j l false p =
+          let k : i ≡ j = omega (arith, ltb-false j i p) in
+          let r : i < length marks = omega (arith, Q .room) in
+          subst (λ (z : ℕ). Stands a z (getD (set marks i at) z 0)) k (subst (λ (z : ℕ). Stands a i z) (sym (getD-set-same marks i at 0 r)) (Q .here))
 
-  pub walk-done : number ≤ i → (n : ℕ) → n ≡ getD a at 0 → Locates (readTable a) number a (span-is.At (at + 1) (at + 1 + n))
-  walk-done h n e =
-      let z : 0 ≡ number - i = omega (arith, Q .below) in
-      let k : at + 1 + n - (at + 1) ≡ getD a at 0 = omega arith in
-      locates a number (Q .all) (span-is.At (at + 1) (at + 1 + n)) (Q .whole)
-      (record {
-        text = ap (λ (j : ℕ). some (take j (drop (at + 1) a))) k
-            ∙ sym (nth-first (take (getD a at 0) (drop (at + 1) a)) (A .more))
-            ∙ ap₂ (λ (ts : List (List ℕ)) (j : ℕ). nth ts j) (sym (A .is)) z
-            ∙ Q .same;
-        inside = (omega arith, omega (arith, A .fits));
-      })
+  pub mark-done : count ≤ i → Marked a marks
+  mark-done h = record { room = omega (arith, Q .counted, Q .room); stands = λ j l. Q .stands j (omega (arith, Q .counted)) }
+
+-- ---- the text at a mark
+module _ {a marks : List ℕ} (M : Marked a marks) (number count at : ℕ) (ec : count ≡ numAt 2 0 a) (h : number < count) (ea : at ≡ getD marks number 0) where
+  at-mark : Stands a number at
+  at-mark = subst (λ (z : ℕ). Stands a number z) (sym ea) (M .stands number (omega arith))
+
+  pub text-fits : (at + 1 + getD a at 0 ≤ length a) × (length a ≤ mostBytes)
+  text-fits = stands-fits at-mark (omega arith)
+
+  pub text-found : (n : ℕ) → n ≡ getD a at 0 → Locates (readTable a) number a (span-is.At (at + 1) (at + 1 + n))
+  text-found n e = stands-found at-mark (omega arith) n e
+
+-- room for m marks
+pub room-for : (count n m l : ℕ) → count ≡ n → count ≤ m → l ≡ m → n ≤ l
+room-for count n m l e h k = omega arith

@@ -1,12 +1,12 @@
 -- What the writers of a text and of a name leave: as much of it as has room, and how long it is; and the walks over a table.
 -- Assumes nothing.
-use Prim.Native.Nat.{ℕ, zero, suc, _+_, _-_, _≤_}
+use Prim.Native.Nat.{ℕ, zero, suc, _+_, _-_, _<_, _≤_}
 use mathlib.Core.Path.{_≡_}
 use mathlib.Core.Option.{Option, none, some}
 use mathlib.Core.List.{List, [], _++_}
-use lib.ListN.{length, take, drop}
+use lib.ListN.{length, take, drop, getD}
 use Rattle.form.specs.Trees.{Ty, Fields}
-use Rattle.form.specs.Form.{Bytes}
+use Rattle.form.specs.Form.{Bytes, numAt}
 use Rattle.form.specs.Outcome.{done}
 use Rattle.form.specs.Read.{readType}
 use Rattle.order.specs.Size.{size, size-fields}
@@ -14,7 +14,7 @@ use Rattle.types.specs.At.{Sig, size-sig}
 use Rattle.retrieval.specs.Retrieve.{mapped}
 use Rattle.retrieval.specs.Filling.{fill, Filled}
 use Rattle.names.specs.Texts.{comma, colon, within, text, textFields, textSig, nth}
-use Rattle.names.specs.Tables.{readTable}
+use Rattle.names.specs.Tables.{inTable, readTexts, readTable}
 use Rattle.names.specs.declared.Shown.{Shown}
 use Rattle.names.specs.declared.Shown.the-variants as shown-is
 use Rattle.names.specs.declared.Span.{Span}
@@ -47,6 +47,20 @@ pub record Located (o : Option (List ℕ)) (s : List ℕ) (r : Span) : Type 0 wh
 unfoldable pub Locates : Option (List (List ℕ)) → ℕ → List ℕ → Span → Type 0
 Locates (some ts) n s r = Located (nth ts n) s r
 Locates none n s r = Unit {0}
+
+-- text k of the table stands at `at`: what is read from there on are the texts from k on
+pub record Stands (a : List ℕ) (k at : ℕ) : Type 0 where
+  pub all : List (List ℕ)
+  pub left : List (List ℕ)
+  pub before : Option (List ℕ)
+  pub whole : readTable a ≡ some all
+  pub read : readTexts inTable before (numAt 2 0 a - k) (drop at a) ≡ some left
+  pub same : (n : ℕ) → nth left n ≡ nth all (k + n)
+
+-- the marks tell of each text where it stands
+pub record Marked (a marks : List ℕ) : Type 0 where
+  pub room : numAt 2 0 a ≤ length marks
+  pub stands : (j : ℕ) → j < numAt 2 0 a → Stands a j (getD marks j 0)
 
 -- ---- the text of what was read
 -- a way to show a thing: its size, and its text over a table

@@ -3,6 +3,7 @@ ghost use mathlib.Core.Path.{_≡_};
 ghost use Prim.Native.Nat.{_+_, _<_, _≤_, _^_};
 ghost use lib.ListN.{length, take, drop, getD};
 ghost use Rattle.form.specs.Limits.{mostBytes};
+ghost use Rattle.form.specs.Form.{numAt};
 ghost use Rattle.form.specs.Trees.{decode};
 ghost use Rattle.form.specs.Answers.{Built};
 ghost use Rattle.types.specs.At.{typeAt, fieldsAt, sigAt, Ok};
@@ -11,7 +12,7 @@ ghost use Rattle.retrieval.specs.Retrieve.{mapped};
 ghost use Rattle.names.specs.Texts.{nameOf, sameText, isBuiltInTypeName, startOf, arrow};
 ghost use Rattle.names.specs.Names.{blank, trimStart, trimEnd, trim, isMark, parted, added, nameNew};
 ghost use Rattle.names.specs.Tables.{printable, tidy, plain, lessText, readTable, readParts, isRead};
-ghost use Rattle.names.specs.Writing.{gap, label, Locates, ofTypes, ofInner, ofFields, ofSigs, Shows, Accepted, Writes};
+ghost use Rattle.names.specs.Writing.{gap, label, Locates, Marked, ofTypes, ofInner, ofFields, ofSigs, Shows, Accepted, Writes};
 ghost use Rattle.names.specs.Calls.{displayCall, nameNewCall, fromStrCall, known};
 use form::Checked;
 use form::MOST_BYTES;
@@ -313,21 +314,40 @@ fn check_parts(s: &[u8]) -> bool
     at == s.len()
 }
 
-// Where the text with this number stands: the table is walked from the front.
-fn text_at(table: &[u8], number: usize) -> Span
+// Where each text of the table stands: one walk over it. A mark is the place of the text's length byte.
+fn mark_texts(table: &[u8], marks: &mut [u16])
     requires { ⌜ Ok (readTable (now table)) ⌝ }
+    requires { ⌜ numAt 2 0 (now table) ≤ length (now marks) ⌝ }
+    ensures { λ r. ⌜ Marked (now (table .entry)) (now (marks .exit)) ⌝ }
+{
+    let count = form::word_at(table, 0);
+    let mut at: usize = 2;
+    let mut i: usize = 0;
+    while i < count {
+        marks[i] = at as u16;
+        at = at + 1 + form::wide(table[at]);
+        i += 1;
+    }
+}
+
+// The place that a mark names.
+fn place(mark: u16) -> usize
+    ensures { λ r. ⌜ r ≡ mark ⌝ }
+{
+    mark as usize
+}
+
+// Where the text with this number stands, by the marks.
+fn text_at(table: &[u8], marks: &[u16], number: usize) -> Span
+    requires { ⌜ Ok (readTable (now table)) ⌝ }
+    requires { ⌜ Marked (now table) (now marks) ⌝ }
     ensures { λ r. ⌜ Locates (readTable (now (table .entry))) number (now (table .entry)) r ⌝ }
 {
     let count = form::word_at(table, 0);
     if count <= number {
         return Span::None;
     }
-    let mut at: usize = 2;
-    let mut i: usize = 0;
-    while i < number {
-        at = at + 1 + form::wide(table[at]);
-        i += 1;
-    }
+    let at = place(marks[number]);
     let from = at + 1;
     Span::At {
         from,
@@ -370,10 +390,11 @@ fn put_arrow(out: &mut [u8], at: usize) -> usize
 }
 
 // The text of the type at the front of `t`.
-fn show(t: &[u8], table: &[u8], out: &mut [u8], left: usize) -> Shown
+fn show(t: &[u8], table: &[u8], marks: &[u16], out: &mut [u8], left: usize) -> Shown
     requires { ⌜ length (now t) ≤ mostBytes ⌝ }
     requires { ⌜ Ok (typeAt left (now t)) ⌝ }
     requires { ⌜ Ok (readTable (now table)) ⌝ }
+    requires { ⌜ Marked (now table) (now marks) ⌝ }
     ensures { λ r. ⌜ Shows ofTypes (typeAt left (now (t .entry))) (readTable (now (table .entry))) (now (out .entry)) (now (out .exit)) r ⌝ }
 {
     let c = t[0];
@@ -382,28 +403,36 @@ fn show(t: &[u8], table: &[u8], out: &mut [u8], left: usize) -> Shown
         return Shown::Yes { read: 1, wrote: n };
     }
     if c == 0x2A {
-        return show_inner(b"list<", &t[1..], table, out, left - 1);
+        return show_inner(b"list<", &t[1..], table, marks, out, left - 1);
     }
     if c == 0x2B {
-        return show_inner(b"range<", &t[1..], table, out, left - 1);
+        return show_inner(b"range<", &t[1..], table, marks, out, left - 1);
     }
     if c == 0x2C {
-        return show_context(t, table, out, left);
+        return show_context(t, table, marks, out, left);
     }
-    show_function(t, table, out, left)
+    show_function(t, table, marks, out, left)
 }
 
 // A list or a range over the type at the front of `t`.
-fn show_inner(front: &[u8], t: &[u8], table: &[u8], out: &mut [u8], left: usize) -> Shown
+fn show_inner(
+    front: &[u8],
+    t: &[u8],
+    table: &[u8],
+    marks: &[u16],
+    out: &mut [u8],
+    left: usize,
+) -> Shown
     requires { ⌜ length (now front) ≤ 8 ⌝ }
     requires { ⌜ length (now t) ≤ mostBytes ⌝ }
     requires { ⌜ Ok (typeAt left (now t)) ⌝ }
     requires { ⌜ Ok (readTable (now table)) ⌝ }
+    requires { ⌜ Marked (now table) (now marks) ⌝ }
     ensures { λ r. ⌜ Shows (ofInner (now (front .entry))) (typeAt left (now (t .entry))) (readTable (now (table .entry))) (now (out .entry)) (now (out .exit)) r ⌝ }
 {
     let from = retrieval::put(front, out, 0);
     let p = retrieval::smaller(from, out.len());
-    match show(t, table, &mut out[p..], left) {
+    match show(t, table, marks, &mut out[p..], left) {
         Shown::Yes { read, wrote } => {
             let to = retrieval::put(b">", out, from + wrote);
             Shown::Yes {
@@ -416,16 +445,24 @@ fn show_inner(front: &[u8], t: &[u8], table: &[u8], out: &mut [u8], left: usize)
 }
 
 // A context type: its entries between the brackets.
-fn show_context(t: &[u8], table: &[u8], out: &mut [u8], left: usize) -> Shown
+fn show_context(t: &[u8], table: &[u8], marks: &[u16], out: &mut [u8], left: usize) -> Shown
     requires { ⌜ length (now t) ≤ mostBytes ⌝ }
     requires { ⌜ Ok (typeAt left (now t)) ⌝ }
     requires { ⌜ getD (now t) 0 0 ≡ 0x2C ⌝ }
     requires { ⌜ Ok (readTable (now table)) ⌝ }
+    requires { ⌜ Marked (now table) (now marks) ⌝ }
     ensures { λ r. ⌜ Shows ofTypes (typeAt left (now (t .entry))) (readTable (now (table .entry))) (now (out .entry)) (now (out .exit)) r ⌝ }
 {
     let from = retrieval::put(b"context<", out, 0);
     let p = retrieval::smaller(from, out.len());
-    match show_fields(&t[3..], form::word_at(t, 1), table, &mut out[p..], left - 1) {
+    match show_fields(
+        &t[3..],
+        form::word_at(t, 1),
+        table,
+        marks,
+        &mut out[p..],
+        left - 1,
+    ) {
         Shown::Yes { read, wrote } => {
             let to = retrieval::put(b">", out, from + wrote);
             Shown::Yes {
@@ -438,16 +475,24 @@ fn show_context(t: &[u8], table: &[u8], out: &mut [u8], left: usize) -> Shown
 }
 
 // A function type: its parameters and its result.
-fn show_function(t: &[u8], table: &[u8], out: &mut [u8], left: usize) -> Shown
+fn show_function(t: &[u8], table: &[u8], marks: &[u16], out: &mut [u8], left: usize) -> Shown
     requires { ⌜ length (now t) ≤ mostBytes ⌝ }
     requires { ⌜ Ok (typeAt left (now t)) ⌝ }
     requires { ⌜ getD (now t) 0 0 ≡ 0x2D ⌝ }
     requires { ⌜ Ok (readTable (now table)) ⌝ }
+    requires { ⌜ Marked (now table) (now marks) ⌝ }
     ensures { λ r. ⌜ Shows ofTypes (typeAt left (now (t .entry))) (readTable (now (table .entry))) (now (out .entry)) (now (out .exit)) r ⌝ }
 {
     let from = retrieval::put(b"function<", out, 0);
     let p = retrieval::smaller(from, out.len());
-    match show_sig(&t[2..], form::wide(t[1]), table, &mut out[p..], left - 1) {
+    match show_sig(
+        &t[2..],
+        form::wide(t[1]),
+        table,
+        marks,
+        &mut out[p..],
+        left - 1,
+    ) {
         Shown::Yes { read, wrote } => Shown::Yes {
             read: read + 2,
             wrote: from + wrote,
@@ -457,17 +502,25 @@ fn show_function(t: &[u8], table: &[u8], out: &mut [u8], left: usize) -> Shown
 }
 
 // `count` entries of a context type, each its name and its type, with a comma between two.
-fn show_fields(s: &[u8], count: usize, table: &[u8], out: &mut [u8], left: usize) -> Shown
+fn show_fields(
+    s: &[u8],
+    count: usize,
+    table: &[u8],
+    marks: &[u16],
+    out: &mut [u8],
+    left: usize,
+) -> Shown
     requires { ⌜ length (now s) ≤ mostBytes ⌝ }
     requires { ⌜ Ok (fieldsAt left count 0 (now s)) ⌝ }
     requires { ⌜ Ok (readTable (now table)) ⌝ }
+    requires { ⌜ Marked (now table) (now marks) ⌝ }
     ensures { λ r. ⌜ Shows ofFields (fieldsAt left count 0 (now (s .entry))) (readTable (now (table .entry))) (now (out .entry)) (now (out .exit)) r ⌝ }
 {
     let mut at: usize = 0;
     let mut to: usize = 0;
     let mut i: usize = 0;
     while i < count {
-        match text_at(table, form::name_at(s, at)) {
+        match text_at(table, marks, form::name_at(s, at)) {
             Span::At { from: b, to: e } => {
                 to = put_label(i, &table[b..e], out, to);
             }
@@ -475,7 +528,7 @@ fn show_fields(s: &[u8], count: usize, table: &[u8], out: &mut [u8], left: usize
         }
         let from = at + NAME_WIDTH;
         let p = retrieval::smaller(to, out.len());
-        match show(&s[from..], table, &mut out[p..], left) {
+        match show(&s[from..], table, marks, &mut out[p..], left) {
             Shown::Yes { read, wrote } => {
                 at = from + read;
                 to = to + wrote;
@@ -491,10 +544,18 @@ fn show_fields(s: &[u8], count: usize, table: &[u8], out: &mut [u8], left: usize
 }
 
 // `count` parameters with a comma between two, and behind them the result.
-fn show_sig(s: &[u8], count: usize, table: &[u8], out: &mut [u8], left: usize) -> Shown
+fn show_sig(
+    s: &[u8],
+    count: usize,
+    table: &[u8],
+    marks: &[u16],
+    out: &mut [u8],
+    left: usize,
+) -> Shown
     requires { ⌜ length (now s) ≤ mostBytes ⌝ }
     requires { ⌜ Ok (sigAt left count (now s)) ⌝ }
     requires { ⌜ Ok (readTable (now table)) ⌝ }
+    requires { ⌜ Marked (now table) (now marks) ⌝ }
     ensures { λ r. ⌜ Shows ofSigs (sigAt left count (now (s .entry))) (readTable (now (table .entry))) (now (out .entry)) (now (out .exit)) r ⌝ }
 {
     let mut at: usize = 0;
@@ -503,7 +564,7 @@ fn show_sig(s: &[u8], count: usize, table: &[u8], out: &mut [u8], left: usize) -
     while i < count {
         to = put_gap(i, out, to);
         let p = retrieval::smaller(to, out.len());
-        match show(&s[at..], table, &mut out[p..], left) {
+        match show(&s[at..], table, marks, &mut out[p..], left) {
             Shown::Yes { read, wrote } => {
                 at = at + read;
                 to = to + wrote;
@@ -514,7 +575,7 @@ fn show_sig(s: &[u8], count: usize, table: &[u8], out: &mut [u8], left: usize) -
     }
     to = put_arrow(out, to);
     let p = retrieval::smaller(to, out.len());
-    match show(&s[at..], table, &mut out[p..], left) {
+    match show(&s[at..], table, marks, &mut out[p..], left) {
         Shown::Yes { read, wrote } => Shown::Yes {
             read: at + read,
             wrote: to + wrote,
@@ -524,22 +585,38 @@ fn show_sig(s: &[u8], count: usize, table: &[u8], out: &mut [u8], left: usize) -
 }
 
 // The text of an accepted type over an accepted table: measured over no output, then written. Refusals 20 and 18.
-fn write_text(t: &[u8], table: &[u8], out: &mut [u8]) -> Written
+fn write_marked(t: &[u8], table: &[u8], marks: &[u16], out: &mut [u8]) -> Written
     requires { ⌜ Accepted (now t) (now table) ⌝ }
+    requires { ⌜ Marked (now table) (now marks) ⌝ }
     ensures { λ r. ⌜ Built (displayCall (now (t .entry)) (now (table .entry)) (length (now (out .entry)))) (now (out .entry)) (now (out .exit)) r ⌝ }
 {
-    match show(t, table, &mut out[..0], TYPE_LEVELS) {
+    match show(t, table, marks, &mut out[..0], TYPE_LEVELS) {
         Shown::No => Written::Refused(20),
         Shown::Yes { read: _, wrote: n } => {
             if out.len() < n {
                 return Written::Refused(18);
             }
-            match show(t, table, out, TYPE_LEVELS) {
+            match show(t, table, marks, out, TYPE_LEVELS) {
                 Shown::No => Written::Refused(20),
                 Shown::Yes { read: _, wrote: w } => Written::Bytes(w),
             }
         }
     }
+}
+
+// The same, over marks of its own: few for a short table, otherwise as many as a table can have texts.
+fn write_text(t: &[u8], table: &[u8], out: &mut [u8]) -> Written
+    requires { ⌜ Accepted (now t) (now table) ⌝ }
+    ensures { λ r. ⌜ Built (displayCall (now (t .entry)) (now (table .entry)) (length (now (out .entry)))) (now (out .entry)) (now (out .exit)) r ⌝ }
+{
+    if form::word_at(table, 0) <= 64 {
+        let mut few = [0u16; 64];
+        mark_texts(table, &mut few);
+        return write_marked(t, table, &few, out);
+    }
+    let mut marks = [0u16; 8192];
+    mark_texts(table, &mut marks);
+    write_marked(t, table, &marks, out)
 }
 
 // Display of `FeelType`. Refusals 6 to 10 of the type, 19 of the table, 20, 18.

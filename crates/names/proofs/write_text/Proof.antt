@@ -5,28 +5,66 @@ use Rattle.names.proofs.write_text.Statement.{statement}
 use Rattle.names.proofs.write_text.Tie as tie
 use Rattle.names.proofs.write_text.Reads as reads
 use Rattle.names.proofs.write_text.Lts as lts
-use Rattle.names.proofs.show.Reads as show-reads
+use Rattle.form.proofs.word_at.Reads as word-at-reads
+use Rattle.names.proofs.mark_texts.Reads as mark-texts-reads
+use Rattle.names.proofs.write_marked.Reads as write-marked-reads
 use mathlib.Core.Path.{refl}
-use Rattle.names.proofs.ShowCalling.{type-short, type-ok, table-ok, call-err, call-short, call-again, call-done}
-use native.Mathlib.Omega.{arith}
+use Rattle.names.proofs.Locating.{table-two, table-few, room-for}
+use Rattle.names.proofs.ShowCalling.{table-ok}
+
+word-at-requires : tie.Need-word-at-requires
+word-at-requires c κs = table-two (c .before .before .before .args .table .now) (table-ok (c .before .before .before .args .t .now) (c .before .before .before .args .table .now) (c .before .before .before .pre))
+
+slice-aggregate-mark-texts : tie.Need-slice-aggregate-mark-texts
+slice-aggregate-mark-texts c = search needs
+
+mark-texts-requires : tie.Need-mark-texts-requires
+mark-texts-requires c κs = (table-ok (c .before .before .before .before .before .before .args .t .now) (c .before .before .before .before .before .before .args .table .now) (c .before .before .before .before .before .before .pre), room-for _ _ 64 _ (c .before .before .word-at .ensures .0) (c .before .if1 .taken) refl)
+
+slice-aggregate-write-marked : tie.Need-slice-aggregate-write-marked
+slice-aggregate-write-marked c = search needs
+
+write-marked-requires : tie.Need-write-marked-requires
+write-marked-requires c κs = search needs
+
+same-length : tie.Need-same-length
+same-length c = search needs
+
+returns : tie.Need-returns
+returns c = search needs
+
+slice-aggregate-mark-texts-2 : tie.Need-slice-aggregate-mark-texts-2
+slice-aggregate-mark-texts-2 c = search needs
+
+mark-texts-requires-2 : tie.Need-mark-texts-requires-2
+mark-texts-requires-2 c κs = (table-ok (c .before .before .before .before .before .before .args .t .now) (c .before .before .before .before .before .before .args .table .now) (c .before .before .before .before .before .before .pre), room-for _ _ 8192 _ refl (table-few (c .before .before .before .before .before .before .args .table .now) (table-ok (c .before .before .before .before .before .before .args .t .now) (c .before .before .before .before .before .before .args .table .now) (c .before .before .before .before .before .before .pre))) refl)
+
+slice-aggregate-write-marked-2 : tie.Need-slice-aggregate-write-marked-2
+slice-aggregate-write-marked-2 c = search needs
+
+write-marked-requires-2 : tie.Need-write-marked-requires-2
+write-marked-requires-2 c κs = search needs
+
+same-length-2 : tie.Need-same-length-2
+same-length-2 c = search needs
+
+returns-2 : tie.Need-returns-2
+returns-2 c = search needs
 
 pub write-text-spec : {M : Type 1} → statement M
 write-text-spec =
     tie.close
     (tie.spec
-    (λ c. search needs)
-    (λ c. search needs)
-    (λ c κs. (type-short (c .before .before .before .before .args .t .now) (c .before .before .before .before .args .table .now) (c .before .before .before .before .pre), (type-ok (c .before .before .before .before .args .t .now) (c .before .before .before .before .args .table .now) (c .before .before .before .before .pre), table-ok (c .before .before .before .before .args .t .now) (c .before .before .before .before .args .table .now) (c .before .before .before .before .pre))))
-    (λ c. search needs)
-    (λ c. search needs)
-    (λ c. search needs)
-    (λ c. call-short (c .before .before .before .before .before .before .before .before .before .before .before .args .t .now) (c .before .before .before .before .before .before .before .before .before .before .before .args .table .now) (c .before .before .before .before .before .before .before .before .before .before .before .pre) (c .before .before .before .before .before .before .before .before .before .before .before .args .out .now) _ _ _ refl (c .before .before .before .before .before .before .show .ensures) _ _ (c .before .before .n .given .1) (c .if1 .taken))
-    (λ c κs. (type-short (c .before .before .before .before .before .before .before .before .before .before .before .before .args .t .now) (c .before .before .before .before .before .before .before .before .before .before .before .before .args .table .now) (c .before .before .before .before .before .before .before .before .before .before .before .before .pre), (type-ok (c .before .before .before .before .before .before .before .before .before .before .before .before .args .t .now) (c .before .before .before .before .before .before .before .before .before .before .before .before .args .table .now) (c .before .before .before .before .before .before .before .before .before .before .before .before .pre), table-ok (c .before .before .before .before .before .before .before .before .before .before .before .before .args .t .now) (c .before .before .before .before .before .before .before .before .before .before .before .before .args .table .now) (c .before .before .before .before .before .before .before .before .before .before .before .before .pre))))
-    (λ c. search needs)
-    (λ c. search needs)
-    (λ c. search needs)
-    (λ c. call-err (c .before .before .before .before .before .before .before .before .before .args .t .now) (c .before .before .before .before .before .before .before .before .before .args .table .now) (c .before .before .before .before .before .before .before .before .before .pre) (c .before .before .before .before .before .before .before .before .before .args .out .now) _ _ _ refl (c .before .before .before .before .show .ensures) (c .enum-told .given .1))
-    (λ c. search needs)
-    (λ c. call-again (c .before .before .before .before .before .before .before .before .before .before .before .before .before .before .before .before .before .args .t .now) (c .before .before .before .before .before .before .before .before .before .before .before .before .before .before .before .before .before .args .table .now) (c .before .before .before .before .before .before .before .before .before .before .before .before .before .before .before .before .before .pre) (c .before .before .before .before .before .before .before .before .before .before .before .before .before .before .before .before .before .args .out .now) _ _ _ refl (c .before .before .before .before .before .before .before .before .before .before .before .before .show .ensures) _ _ (c .before .before .before .before .before .before .before .before .n .given .1) (c .before .before .before .before .before .before .if1 .left) _ _ (c .before .before .before .before .show2 .ensures) (c .enum-told2 .given .1))
-    (λ c. search needs)
-    (λ c. call-done (c .before .before .before .before .before .before .before .before .before .before .before .before .before .before .before .before .before .before .args .t .now) (c .before .before .before .before .before .before .before .before .before .before .before .before .before .before .before .before .before .before .args .table .now) (c .before .before .before .before .before .before .before .before .before .before .before .before .before .before .before .before .before .before .pre) (c .before .before .before .before .before .before .before .before .before .before .before .before .before .before .before .before .before .before .args .out .now) _ _ _ refl (c .before .before .before .before .before .before .before .before .before .before .before .before .before .show .ensures) _ _ (c .before .before .before .before .before .before .before .before .before .n .given .1) (c .before .before .before .before .before .before .before .if1 .left) _ _ (c .before .before .before .before .before .show2 .ensures) _ _ (c .before .w .given .1)))
+    word-at-requires
+    slice-aggregate-mark-texts
+    mark-texts-requires
+    slice-aggregate-write-marked
+    write-marked-requires
+    same-length
+    returns
+    slice-aggregate-mark-texts-2
+    mark-texts-requires-2
+    slice-aggregate-write-marked-2
+    write-marked-requires-2
+    same-length-2
+    returns-2)
