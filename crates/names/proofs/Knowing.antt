@@ -3,22 +3,22 @@
 use Prim.Native.Nat.{ℕ, zero, suc, _+_, _-_, _<_, _≤_}
 use native.Mathlib.Omega.{arith}
 use native.Mathlib.Numerals.{add-one}
-use mathlib.Core.Path.{_≡_, refl, sym, ap, ap₂, _∙_}
+use mathlib.Core.Path.{_≡_, refl, sym, ap, ap₂, subst, _∙_}
 use mathlib.Core.Bool.{Bool, true, false, cond, _&&_, _||_, false≢true}
 use mathlib.Core.Option.{Option, none, some}
 use mathlib.Core.List.{List, [], _∷_}
-use lib.ListN.{take, drop, drop-of-length-le}
+use lib.ListN.{length, take, drop, drop-of-length-le}
 use lib.Dec.{eqb}
 use borrow.Author.Tests.{eq-eqb, eqb-true}
 use Rattle.form.specs.Trees.{Simple, decode}
 use Rattle.form.proofs.ExactTypes.{code-decode}
 use Rattle.retrieval.specs.Retrieve.{mapped}
-use Rattle.names.specs.Texts.{nameOf, simples, command, sameText, oneNamed, fromStr, isNamed, isBuiltInTypeName, letters, startOf}
+use Rattle.names.specs.Texts.{nameOf, Passes, simples, command, sameText, oneNamed, fromStr, isNamed, isBuiltInTypeName, letters, startOf}
 use Rattle.names.specs.Tables.{isRead}
 use Rattle.names.specs.Calls.{fromStrCall, known}
 use Rattle.names.specs.declared.Known.{Known}
 use Rattle.names.specs.declared.Known.the-variants as known-is
-use Rattle.names.proofs.Letters.{name-cut}
+use Rattle.names.proofs.Letters.{name-cut, other-length}
 use Rattle.names.proofs.Tabling.{is-mapped}
 
 -- ---- equal byte for byte
@@ -119,3 +119,11 @@ module _ (s : List ℕ) (r : Known) (e : known r ≡ fromStrCall s) where
 
   pub built-in-no : r ≡ known-is.Unknown → false ≡ isBuiltInTypeName s
   built-in-no p = sym (ap (λ x. isRead (known x)) p) ∙ known-is-read
+
+-- the names in front of the first with as many letters are others
+looking-up : (s : List ℕ) (r : ℕ) → r ≤ 10 → ((j : ℕ) → j < r → length (nameOf (decode j)) ≡ length s → ⊥) → Looking s r
+looking-up s zero w f = looking s
+looking-up s (suc j) w f = subst (Looking s) (add-one j) (looking-next (looking-up s j (omega arith) (λ i h. f i (omega arith))) (omega arith) false (other-length s (nameOf (decode j)) (λ e. f j (omega arith) (sym e))) refl)
+
+pub looking-from : (s : List ℕ) (r : ℕ) → Passes (length s) r → Looking s r
+looking-from s r p = looking-up s r (p .within) (p .others)

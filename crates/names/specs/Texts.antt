@@ -1,6 +1,7 @@
 -- The texts of types: the ten names of types.rs, `FeelType::from_str`, `is_built_in_type_name` and Display of FeelType.
 -- A text is a list of bytes. Assumes nothing.
-use Prim.Native.Nat.{ℕ, zero, suc, _+_}
+use Prim.Native.Nat.{ℕ, zero, suc, _+_, _<_, _≤_}
+use mathlib.Core.Path.{_≡_}
 use mathlib.Core.Bool.{Bool, true, false, cond, _&&_, _||_}
 use mathlib.Core.Option.{Option, none, some}
 use mathlib.Core.List.{List, [], _∷_, _++_}
@@ -40,6 +41,11 @@ simples = any ∷ boolean ∷ number ∷ string ∷ date ∷ time ∷ dateTime �
 -- the command of a simple type
 abbrev pub command : Simple → ℕ
 command x = 0x20 + code x
+
+-- none of the first r names has n letters
+pub record Passes (n r : ℕ) : Type 0 where
+  pub within : r ≤ 10
+  pub others : (j : ℕ) → j < r → length (nameOf (decode j)) ≡ n → ⊥
 
 -- equal byte for byte
 unfoldable pub sameText : List ℕ → List ℕ → Bool

@@ -9,7 +9,7 @@ ghost use Rattle.form.specs.Answers.{Built};
 ghost use Rattle.types.specs.At.{typeAt, fieldsAt, sigAt, Ok};
 ghost use Rattle.retrieval.specs.Filling.{fill, puts};
 ghost use Rattle.retrieval.specs.Retrieve.{mapped};
-ghost use Rattle.names.specs.Texts.{nameOf, sameText, isBuiltInTypeName, startOf, arrow};
+ghost use Rattle.names.specs.Texts.{nameOf, Passes, sameText, isBuiltInTypeName, startOf, arrow};
 ghost use Rattle.names.specs.Names.{blank, trimStart, trimEnd, trim, isMark, parted, added, nameNew};
 ghost use Rattle.names.specs.Tables.{printable, tidy, plain, lessText, readTable, readParts, isRead};
 ghost use Rattle.names.specs.Writing.{gap, label, Locates, Marked, ofTypes, ofInner, ofFields, ofSigs, Shows, Accepted, Writes};
@@ -91,6 +91,22 @@ fn put_simple(k: usize, out: &mut [u8]) -> usize
     to - from
 }
 
+// The first name that has n letters; 10 where none has.
+fn first_of(n: usize) -> usize
+    ensures { λ r. ⌜ Passes n r ⌝ }
+{
+    match n {
+        3 => 0,
+        4 => 4,
+        6 => 2,
+        7 => 1,
+        13 => 6,
+        22 => 7,
+        25 => 8,
+        _ => SIMPLES,
+    }
+}
+
 // The command of the k-th type.
 fn command(k: usize) -> u8
     requires { ⌜ k < 10 ⌝ }
@@ -103,7 +119,7 @@ fn command(k: usize) -> u8
 pub fn from_str(s: &[u8]) -> Known
     ensures { λ r. ⌜ known r ≡ fromStrCall (now (s .entry)) ⌝ }
 {
-    let mut k: usize = 0;
+    let mut k = first_of(s.len());
     while k < SIMPLES {
         if has_name(s, k) {
             return Known::Type(command(k));

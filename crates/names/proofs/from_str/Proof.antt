@@ -7,7 +7,7 @@ use Rattle.names.proofs.from_str.Lts as lts
 use Rattle.names.proofs.command.Reads as command-reads
 use Rattle.names.proofs.has_name.Reads as has-name-reads
 use Prim.Native.Nat.{_-_}
-use Rattle.names.proofs.Knowing.{Looking, looking, looking-ended, looking-hit, looking-next}
+use Rattle.names.proofs.Knowing.{Looking, looking-from, looking-ended, looking-hit, looking-next}
 use borrow.Author.Needs.{needs}
 use native.Mathlib.Omega.{arith}
 
@@ -23,7 +23,8 @@ from-str-spec =
     (tie.spec
     Inv-loop
     μ-loop
-    (λ c. looking _)
+    (λ c κs. search needs)
+    (λ c. looking-from _ _ (c .first-of .ensures))
     (λ c κs. search needs)
     (λ c κs. search needs)
     (λ c. looking-hit (c .before .before .before .before .loop .inv) (c .before .before .before .loop-test .taken) _ (c .before .before .has-name .ensures) (c .before .if1 .taken) _ (c .command .ensures))
