@@ -87,3 +87,13 @@ fn every_call_of_the_bindings_answers_as_the_rust() {
         println!("{}: {cases} cases, {counts:?}", call.name);
     }
 }
+
+/// The words stand twice, since the bindings have no dependency; they are the same.
+#[test]
+fn refusals_have_the_same_words() {
+    for number in 1..=20 {
+        let refusal = hedvaste::Refusal::new(number).expect("a refusal");
+        let words = feel_form::words(number);
+        assert_eq!(refusal.to_string(), format!("refused {number}, {words}"));
+    }
+}
