@@ -2,6 +2,7 @@ pub mod Table
 pub mod Commands
 pub mod Numbers
 pub mod Runs
+pub mod Passes
 pub mod TypeLaws
 pub mod ValueLaws
 pub mod Whole

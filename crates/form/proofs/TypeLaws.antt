@@ -9,12 +9,12 @@ use lib.Seq.{getD-drop, drop-drop}
 use Rattle.form.specs.Trees.{Ty, leaf, built, list, range, context, function, Fields, no-fields, field, Tys, no-params, param}
 use Rattle.form.specs.Form.{numAt, level, levelBuilt, levelFields, levelTys}
 use Rattle.form.specs.Layout.{TypeKind, tSimple, tList, tRange, tContext, tFunction, Kind, ofValue, ofType, noCommand, kindOf, operands, operandsT, slot, widthOf}
-use Rattle.form.specs.Read.{Got, got, bad, readFields, readTys, counted, readFunction, stepType, stepT, readT}
+use Rattle.form.specs.Read.{Got, got, bad, front, andThen, readRun, readFields, readTys, counted, readFunction, stepType, stepT, readT}
 use Rattle.form.specs.Walks.{walkOf, walkBy, pairWalk, up, Short}
 use Rattle.form.specs.declared.Fault.the-variants.{Shape, Names, Level}
 use Rattle.form.specs.declared.Walk.the-variants as walk
 use Rattle.form.proofs.Commands.{ViewT, isSimpleT, isListT, isRangeT, isContextT, isFunctionT, View, isValue, isType, isGap, isBeyond, view, there, value-below}
-use Rattle.form.proofs.Runs.{front-up, front-run, then-up, counted-is, counted-short, run-snoc}
+use Rattle.form.proofs.Runs.{end-is, front-up, front-run, then-up, counted-is, counted-short, run-snoc}
 
 pub fields-law : (m : ℕ) (t : Ty) (fs : Fields) → levelFields (field m t fs) ≡ max (level t) (levelFields fs)
 unfolding levelFields
@@ -105,6 +105,15 @@ function-is child (c ∷ s) h =
     then-up levelTys level level (λ ts t. built (function ts t)) 2 s child (λ x y. refl) (readTys child c s)
     ∙ ap (up 2) (sym (run-snoc level levelTys no-params param tys-law child tys-flat c s))
 
+-- one type is a run of one
+one-is : (child : List ℕ → Got Ty) (s : List ℕ) → walkBy levelTys 0 0 (readTys child 1 s) ≡ walkOf level (child s)
+unfolding readRun levelTys walkBy walkOf andThen front
+one-is child s = go (child s)
+  where
+    go : (x : Got Ty) → walkBy levelTys 0 0 (andThen param 0 s (readTys child 0) x) ≡ walkOf level x
+    go (got t n) = end-is (omega arith) (omega arith)
+    go (bad f) = refl
+
 module _ (l : ℕ) (s : List ℕ) (h : 0 < length s) (p : 0 < l) where
   t-kind : (k : TypeKind) → kindOf (getD s 0 0) ≡ ofType k → walkOf level (readT l s) ≡ walkOf level (stepType (readT (l - 1)) k (getD s 0 0) (drop 1 s))
   unfolding stepT
@@ -124,6 +133,9 @@ module _ (l : ℕ) (s : List ℕ) (h : 0 < length s) (p : 0 < l) where
 
   pub t-one : 0x2A ≤ getD s 0 0 → getD s 0 0 < 0x2C → walkOf level (readT l s) ≡ up 1 (walkOf level (readT (l - 1) (drop 1 s)))
   t-one q r = rw (t-step l s h p) (step-one (readT (l - 1)) (getD s 0 0) (drop 1 s) (kindOf (getD s 0 0)) (view (getD s 0 0)) q r)
+
+  pub t-one-run : 0x2A ≤ getD s 0 0 → getD s 0 0 < 0x2C → walkOf level (readT l s) ≡ up 1 (walkBy levelTys 0 0 (readTys (readT (l - 1)) 1 (drop 1 s)))
+  t-one-run q r = t-one q r ∙ ap (up 1) (sym (one-is (readT (l - 1)) (drop 1 s)))
 
   module _ (o : widthOf (getD s 0 0) ≤ length s - 1) where
     off : (k : TypeKind) → kindOf (getD s 0 0) ≡ ofType k → operandsT k ≤ length s - 1

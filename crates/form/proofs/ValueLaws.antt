@@ -15,11 +15,11 @@ use Rattle.form.specs.Layout.{ValueKind, kNull, kBoolean, kNumber, kStri
 use Rattle.form.specs.Limits.{nameWidth}
 use Rattle.form.specs.Outcome.{pick}
 use Rattle.form.specs.Read.{Got, got, bad, front, andThen, orElse, operand, readRun, readVals, readEntries, readParams, readFlag, readKey, counted, readRange, signature, readDefinition, readT, stepValue, stepV, readV}
-use Rattle.form.specs.Walks.{walkOf, walkBy, pairWalk, up, Short, flagWalk}
+use Rattle.form.specs.Walks.{walkOf, walkBy, pairWalk, up, Short, operandEnd, flagWalk}
 use Rattle.form.specs.declared.Fault.the-variants.{Shape, Names, Level}
 use Rattle.form.specs.declared.Walk.the-variants as walk
-use Rattle.form.proofs.Commands.{ViewV, isNull, isBoolean, isNumber, isString, isTemporal, isRange, isList, isContext, isDefinition, isBuiltIn, isFeelType, isIrrelevant, View, isValue, isType, isGap, isBeyond, view, there, width-is}
-use Rattle.form.proofs.Runs.{end-is, front-up, then-up, operand-short, operand-at, counted-is, counted-short}
+use Rattle.form.proofs.Commands.{ViewV, isNull, isBoolean, isNumber, isString, isTemporal, isRange, isList, isContext, isDefinition, isBuiltIn, isFeelType, isIrrelevant, View, isValue, isType, isGap, isBeyond, view, type-within, there, width-is}
+use Rattle.form.proofs.Runs.{end-is, first-at, front-up, then-up, operand-short, operand-at, counted-is, counted-short}
 
 pub params-law : (m : ℕ) (t : Ty) (ps : Params) → levelParams (parameter m t ps) ≡ max (level t) (levelParams ps)
 unfolding levelParams
@@ -268,26 +268,40 @@ module _ (l : ℕ) (s : List ℕ) (h : 0 < length s) (p : 0 < l) where
     unfolding stepValue operandsV
     v-definition c ce e = v-kind kDefinition e ∙ rw ce (definition-is (readT (l - 1)) s (off kDefinition e))
 
--- ---- the short way past a leaf with a key or a text
-module _ (l : ℕ) (s : List ℕ) (at n : ℕ) (p : 0 < l) (h : at < length s) where
-  behind : 0 < length (drop at s)
-  behind = simp length-drop (omega arith)
+-- ---- the short way past a leaf of data
+flag-end : (m x w : ℕ) → x ≤ m → w ≡ 1 → flagWalk x m ≡ walk.End (w + 1) 1
+flag-end m x w h e = rw (le-leb x m h, e)
 
-  short-key : (k : ValueKind) (w : ℕ) → kindOf (getD (drop at s) 0 0) ≡ ofValue k → operandsV k ≡ w → ((o : widthOf (getD (drop at s) 0 0) ≤ length (drop at s) - 1) → w ≡ widthOf (getD (drop at s) 0 0) → walkOf levelV (readV l (drop at s)) ≡ walk.End (w + 1) 1) → (0 < n → (n ≡ w + 1) × (w + 1 ≤ length s - at)) → Short (walkOf levelV (readV l (drop at s))) n (length s - at)
-  unfolding operands
-  short-key k w e o g f q =
-      let v : widthOf (getD (drop at s) 0 0) ≡ w = width-is (getD (drop at s) 0 0) (ofValue k) e ∙ o in
-      let d : length (drop at s) ≡ length s - at = length-drop at s in
-      rw (f q .0) (g (omega (arith, v, d, f q .1)) (sym v), f q .1)
+module _ (l : ℕ) (s : List ℕ) (h : 0 < length s) (p : 0 < l) (o : widthOf (getD s 0 0) ≤ length s - 1) (q : getD s 1 0 ≤ operandEnd (getD s 0 0)) (i : getD s 0 0 < 9) where
+  leaf-value : (k : ValueKind) → ViewV (getD s 0 0) k → kindOf (getD s 0 0) ≡ ofValue k → walkOf levelV (readV l s) ≡ walk.End (widthOf (getD s 0 0) + 1) 1
+  unfolding operands operandsV operandEnd
+  leaf-value k (isNull e) f = v-null l s h p o f ∙ flag-end 3 (getD s 1 0) (widthOf (getD s 0 0)) (rw e at q) (width-is (getD s 0 0) (ofValue kNull) f)
+  leaf-value k (isBoolean e) f = v-boolean l s h p o f ∙ flag-end 1 (getD s 1 0) (widthOf (getD s 0 0)) (rw e at q) (width-is (getD s 0 0) (ofValue kBoolean) f)
+  leaf-value k (isNumber e) f = v-number l s h p o (widthOf (getD s 0 0)) refl f
+  leaf-value k (isString e) f = v-string l s h p o (widthOf (getD s 0 0)) refl f
+  leaf-value k (isTemporal x y) f = v-temporal l s h p o (widthOf (getD s 0 0)) refl f
+  leaf-value k (isRange e) f = absurd (omega arith)
+  leaf-value k (isList e) f = absurd (omega arith)
+  leaf-value k (isContext e) f = absurd (omega arith)
+  leaf-value k (isDefinition e) f = absurd (omega arith)
+  leaf-value k (isBuiltIn e) f = absurd (omega arith)
+  leaf-value k (isFeelType e) f = absurd (omega arith)
+  leaf-value k (isIrrelevant e) f = absurd (omega arith)
 
-  pub short-number : kindOf (getD (drop at s) 0 0) ≡ ofValue kNumber → (0 < n → (n ≡ 9) × (9 ≤ length s - at)) → Short (walkOf levelV (readV l (drop at s))) n (length s - at)
-  unfolding operandsV
-  short-number e = short-key kNumber 8 e refl (λ o w. v-number l (drop at s) behind p o 8 w e)
+  leaf-view : (j : Kind) → View (getD s 0 0) j → kindOf (getD s 0 0) ≡ j → walkOf levelV (readV l s) ≡ walk.End (widthOf (getD s 0 0) + 1) 1
+  leaf-view j (isValue k v) f = leaf-value k v f
+  leaf-view j (isType k v) f = absurd (omega (arith, type-within (getD s 0 0) k v))
+  leaf-view j (isGap x y) f = absurd (omega arith)
+  leaf-view j (isBeyond x) f = absurd (omega arith)
 
-  pub short-string : kindOf (getD (drop at s) 0 0) ≡ ofValue kString → (0 < n → (n ≡ nameWidth + 1) × (nameWidth + 1 ≤ length s - at)) → Short (walkOf levelV (readV l (drop at s))) n (length s - at)
-  unfolding operandsV
-  short-string e = short-key kString nameWidth e refl (λ o w. v-string l (drop at s) behind p o nameWidth w e)
+  leaf-is : walkOf levelV (readV l s) ≡ walk.End (widthOf (getD s 0 0) + 1) 1
+  leaf-is = leaf-view (kindOf (getD s 0 0)) (view (getD s 0 0)) refl
 
-  pub short-temporal : kindOf (getD (drop at s) 0 0) ≡ ofValue kTemporal → (0 < n → (n ≡ 9) × (9 ≤ length s - at)) → Short (walkOf levelV (readV l (drop at s))) n (length s - at)
-  unfolding operandsV
-  short-temporal e = short-key kTemporal 8 e refl (λ o w. v-temporal l (drop at s) behind p o 8 w e)
+pub short-leaf : (l : ℕ) (s : List ℕ) (at n : ℕ) → 0 < l → at < length s → (0 < n → (getD s at 0 < 9) × (n ≡ widthOf (getD s at 0) + 1)) → n ≤ length s - at → getD s (at + 1) 0 ≤ operandEnd (getD s at 0) → Short (walkOf levelV (readV l (drop at s))) n (length s - at)
+short-leaf l s at n p h f r q z =
+    let d : length (drop at s) ≡ length s - at = length-drop at s in
+    let a : getD (drop at s) 0 0 ≡ getD s at 0 = first-at s at in
+    let b : getD (drop at s) 1 0 ≡ getD s (at + 1) 0 = getD-drop at s 1 0 in
+    let w = f z .1 in
+    let o : widthOf (getD (drop at s) 0 0) ≤ length (drop at s) - 1 = rw (a, d) (omega (arith, w)) in
+    (leaf-is l (drop at s) (rw d (omega arith)) p o (rw (a, b) q) (rw a (f z .0)) ∙ end-is (rw a (sym w)) refl, r)

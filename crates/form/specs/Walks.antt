@@ -1,6 +1,6 @@
 -- What the walks of the code answer: the reader's answer without the tree.
 -- Assumes nothing.
-use Prim.Native.Nat.{ℕ, _+_, _<_, _≤_, _^_, max}
+use Prim.Native.Nat.{ℕ, _+_, _<_, _≤_, _^_, _/_, _%_, max}
 use mathlib.Core.Path.{_≡_}
 use mathlib.Core.List.{List}
 use lib.ListN.{drop}
@@ -44,6 +44,14 @@ Inside (walk.Fault f) n = Unit {0}
 -- a short way past n bytes, taken where n is not 0: the walk is one of a leaf of n bytes, and there is room for them
 abbrev pub Short : Walk → ℕ → ℕ → Type 0
 Short w n room = 0 < n → (w ≡ walk.End n 1) × (n ≤ room)
+
+-- a walk in one number, size * 64 + level, taken where it is not 0: the walk ended so, within n bytes, and its level is small
+abbrev pub Packed : Walk → ℕ → ℕ → Type 0
+Packed w r n = 0 < r → (w ≡ walk.End (r / 64) (r % 64)) × ((r / 64 ≤ n) × (r % 64 ≤ r / 64))
+
+-- the largest operand byte of a leaf of data: a null's trace, a boolean's byte; a key or a text has any
+unfoldable pub operandEnd : ℕ → ℕ
+operandEnd b = pick (eqb b 0x00) 3 (pick (eqb b 0x01) 1 255)
 
 -- a leaf with one operand byte, at most m
 abbrev pub flagWalk : ℕ → ℕ → Walk

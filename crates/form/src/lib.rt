@@ -1,12 +1,12 @@
 // The byte form of document 01: one walk over a value or a type says where it ends and its level, or the first fault.
 ghost use mathlib.Core.Path.{_≡_};
-ghost use Prim.Native.Nat.{ℕ, _+_, _*_, _-_, _<_, _≤_, max};
+ghost use Prim.Native.Nat.{ℕ, _+_, _*_, _-_, _/_, _%_, _<_, _≤_, max};
 ghost use lib.ListN.{length, drop};
 ghost use Rattle.form.specs.Limits.{nameWidth, nameEnd};
 ghost use Rattle.form.specs.Form.{numAt, level, levelFields, levelTys, levelParams, levelV, levelVals, levelEntries, Bytes};
 ghost use Rattle.form.specs.Layout.{widthOf};
 ghost use Rattle.form.specs.Read.{readT, readFields, readTys, readParams, readV, readVals, readEntries, numberOf, checkType, checkValue};
-ghost use Rattle.form.specs.Walks.{walkOf, walkBy, pairWalk, up, Room, Inside, Short, flagWalk, settled};
+ghost use Rattle.form.specs.Walks.{walkOf, walkBy, pairWalk, up, Room, Inside, Short, Packed, operandEnd, flagWalk, settled};
 ghost use Rattle.form.specs.Answers.{checked};
 
 // The limits of document 01; specs/Limits.antt has the same numbers.
@@ -148,13 +148,6 @@ pub fn larger(a: usize, b: usize) -> usize
     ensures { λ r. ⌜ r ≡ max a b ⌝ }
 {
     if a < b { b } else { a }
-}
-
-// n where there is room for n bytes, 0 where there is not.
-fn fitting(n: usize, room: usize) -> usize
-    ensures { λ r. ⌜ (0 < r → (r ≡ n) × (n ≤ room)) ⌝ }
-{
-    if room < n { 0 } else { n }
 }
 
 // A parent over what was walked: k bytes in front, one level on top.
@@ -300,7 +293,30 @@ fn walk_types(s: &[u8], count: usize, left: usize) -> Walk
 
 // ---- values
 
-// The size of the value at `at` where it is a number, a string or a temporal, 0 where it is not: a short way past most values.
+// The size of a leaf of data by its command, 0 for every other command.
+pub fn leaf_size(c: u8) -> usize
+    ensures { λ r. ⌜ (0 < r → (c < 9) × (r ≡ widthOf c + 1)) ⌝ }
+{
+    match c {
+        0x00 | 0x01 => 2,
+        0x02 | 0x04 | 0x05 | 0x06 | 0x07 | 0x08 => 9,
+        0x03 => NAME_WIDTH + 1,
+        _ => 0,
+    }
+}
+
+// The largest operand byte of a leaf of data.
+fn operand_end(c: u8) -> u8
+    ensures { λ r. ⌜ r ≡ operandEnd c ⌝ }
+{
+    match c {
+        0x00 => 3,
+        0x01 => 1,
+        _ => 255,
+    }
+}
+
+// The size of the value at `at` where it is a leaf of data, 0 where it is not: a short way past most values.
 pub fn key_at(s: &[u8], at: usize, left: usize) -> usize
     requires { ⌜ at ≤ length (now s) ⌝ }
     ensures { λ r. ⌜ Short (walkOf levelV (readV left (drop at (now (s .entry))))) r (length (now (s .entry)) - at) ⌝ }
@@ -311,13 +327,18 @@ pub fn key_at(s: &[u8], at: usize, left: usize) -> usize
     if s.len() == at {
         return 0;
     }
-    let room = s.len() - at;
-    match s[at] {
-        0x02 => fitting(9, room),
-        0x03 => fitting(NAME_WIDTH + 1, room),
-        0x04..=0x08 => fitting(9, room),
-        _ => 0,
+    let c = s[at];
+    let n = leaf_size(c);
+    if n < 2 {
+        return 0;
     }
+    if s.len() - at < n {
+        return 0;
+    }
+    if operand_end(c) < s[at + 1] {
+        return 0;
+    }
+    n
 }
 
 // `count` names and types of a definition, in any order, behind `start` bytes of level `top`.
@@ -484,6 +505,232 @@ fn walk_entries(s: &[u8], count: usize, left: usize) -> Walk
     }
 }
 
+// ---- passes: walks with size and level in one number, size * 64 + level, and 0 where the plain walk must tell. An enum comes back through memory, a number does not.
+
+// The number of a size and a level, 0 where they are too large for it.
+fn pack(size: usize, level: usize) -> usize
+    ensures { λ r. ⌜ (0 < r → (r / 64 ≡ size) × (r % 64 ≡ level)) ⌝ }
+{
+    if MOST_BYTES < size {
+        return 0;
+    }
+    if 63 < level {
+        return 0;
+    }
+    size * 64 + level
+}
+
+// The number of a parent over children of this size and level: k bytes in front, one level on top.
+fn pack_parent(size: usize, level: usize, k: usize) -> usize
+    ensures { λ r. ⌜ (0 < r → (r / 64 ≡ size + k) × (r % 64 ≡ level + 1)) ⌝ }
+{
+    if MOST_BYTES < size {
+        return 0;
+    }
+    if MOST_BYTES < k {
+        return 0;
+    }
+    if 62 < level {
+        return 0;
+    }
+    (size + k) * 64 + (level + 1)
+}
+
+// The plain walk over a type as a pass.
+fn plain_type(s: &[u8], left: usize) -> usize
+    ensures { λ r. ⌜ Packed (walkOf level (readT left (now (s .entry)))) r (length (now (s .entry))) ⌝ }
+{
+    match walk_type(s, left) {
+        Walk::End { size, level } => pack(size, level),
+        Walk::Fault(_) => 0,
+    }
+}
+
+// A pass over a type that is no simple one.
+pub fn pass_type(s: &[u8], left: usize) -> usize
+    ensures { λ r. ⌜ Packed (walkOf level (readT left (now (s .entry)))) r (length (now (s .entry))) ⌝ }
+{
+    if left == 0 {
+        return 0;
+    }
+    if s.len() < 3 {
+        return plain_type(s, left);
+    }
+    match s[0] {
+        0x2A => pass_types(&s[1..], 1, 1, left - 1),
+        0x2B => pass_types(&s[1..], 1, 1, left - 1),
+        0x2C => pass_fields(&s[3..], 3, word_at(s, 1), left - 1),
+        0x2D => pass_types(&s[2..], 2, wide(s[1]) + 1, left - 1),
+        _ => plain_type(s, left),
+    }
+}
+
+// A pass over `count` types behind k bytes of their parent.
+fn pass_types(s: &[u8], k: usize, count: usize, left: usize) -> usize
+    requires { ⌜ 1 ≤ k ⌝ }
+    ensures { λ r. ⌜ Packed (up k (walkBy levelTys 0 0 (readTys (readT left) count (now (s .entry))))) r (length (now (s .entry)) + k) ⌝ }
+{
+    let mut at: usize = 0;
+    let mut deep: usize = 0;
+    let mut i: usize = 0;
+    while i < count {
+        let n = simple_at(s, at, left);
+        if n != 0 {
+            at = at + n;
+            deep = larger(deep, 1);
+            i += 1;
+            continue;
+        }
+        let w = pass_type(&s[at..], left);
+        if w == 0 {
+            return 0;
+        }
+        at = at + w / 64;
+        deep = larger(deep, w % 64);
+        i += 1;
+    }
+    pack_parent(at, deep, k)
+}
+
+// A pass over `count` entries of a context type behind k bytes of their parent.
+fn pass_fields(s: &[u8], k: usize, count: usize, left: usize) -> usize
+    requires { ⌜ 1 ≤ k ⌝ }
+    ensures { λ r. ⌜ Packed (up k (walkBy levelFields 0 0 (readFields (readT left) count 0 (now (s .entry))))) r (length (now (s .entry)) + k) ⌝ }
+{
+    let mut at: usize = 0;
+    let mut deep: usize = 0;
+    let mut least: usize = 0;
+    let mut i: usize = 0;
+    while i < count {
+        if s.len() - at < NAME_WIDTH {
+            return 0;
+        }
+        let name = name_at(s, at);
+        if name < least {
+            return 0;
+        }
+        let from = at + NAME_WIDTH;
+        let n = simple_at(s, from, left);
+        if n != 0 {
+            at = from + n;
+            deep = larger(deep, 1);
+            least = name + 1;
+            i += 1;
+            continue;
+        }
+        let w = pass_type(&s[from..], left);
+        if w == 0 {
+            return 0;
+        }
+        at = from + w / 64;
+        deep = larger(deep, w % 64);
+        least = name + 1;
+        i += 1;
+    }
+    pack_parent(at, deep, k)
+}
+
+// The plain walk over a value as a pass.
+fn plain_value(s: &[u8], left: usize) -> usize
+    ensures { λ r. ⌜ Packed (walkOf levelV (readV left (now (s .entry)))) r (length (now (s .entry))) ⌝ }
+{
+    match walk_value(s, left) {
+        Walk::End { size, level } => pack(size, level),
+        Walk::Fault(_) => 0,
+    }
+}
+
+// A pass over a value that is a range, a list or a context.
+pub fn pass_value(s: &[u8], left: usize) -> usize
+    ensures { λ r. ⌜ Packed (walkOf levelV (readV left (now (s .entry)))) r (length (now (s .entry))) ⌝ }
+{
+    if left == 0 {
+        return 0;
+    }
+    if s.len() < 3 {
+        return plain_value(s, left);
+    }
+    match s[0] {
+        0x09 => {
+            if 3 < s[1] {
+                return 0;
+            }
+            if 3 < s[2] {
+                return 0;
+            }
+            pass_items(&s[3..], 3, 2, left - 1)
+        }
+        0x0A => pass_items(&s[3..], 3, word_at(s, 1), left - 1),
+        0x0B => pass_entries(&s[3..], 3, word_at(s, 1), left - 1),
+        _ => plain_value(s, left),
+    }
+}
+
+// A pass over `count` values behind k bytes of their parent.
+fn pass_items(s: &[u8], k: usize, count: usize, left: usize) -> usize
+    requires { ⌜ 1 ≤ k ⌝ }
+    ensures { λ r. ⌜ Packed (up k (walkBy levelVals 0 0 (readVals (readV left) count (now (s .entry))))) r (length (now (s .entry)) + k) ⌝ }
+{
+    let mut at: usize = 0;
+    let mut deep: usize = 0;
+    let mut i: usize = 0;
+    while i < count {
+        let n = key_at(s, at, left);
+        if n != 0 {
+            at = at + n;
+            deep = larger(deep, 1);
+            i += 1;
+            continue;
+        }
+        let w = pass_value(&s[at..], left);
+        if w == 0 {
+            return 0;
+        }
+        at = at + w / 64;
+        deep = larger(deep, w % 64);
+        i += 1;
+    }
+    pack_parent(at, deep, k)
+}
+
+// A pass over `count` entries of a context behind k bytes of their parent.
+fn pass_entries(s: &[u8], k: usize, count: usize, left: usize) -> usize
+    requires { ⌜ 1 ≤ k ⌝ }
+    ensures { λ r. ⌜ Packed (up k (walkBy levelEntries 0 0 (readEntries (readV left) count 0 (now (s .entry))))) r (length (now (s .entry)) + k) ⌝ }
+{
+    let mut at: usize = 0;
+    let mut deep: usize = 0;
+    let mut least: usize = 0;
+    let mut i: usize = 0;
+    while i < count {
+        if s.len() - at < NAME_WIDTH {
+            return 0;
+        }
+        let name = name_at(s, at);
+        if name < least {
+            return 0;
+        }
+        let from = at + NAME_WIDTH;
+        let n = key_at(s, from, left);
+        if n != 0 {
+            at = from + n;
+            deep = larger(deep, 1);
+            least = name + 1;
+            i += 1;
+            continue;
+        }
+        let w = pass_value(&s[from..], left);
+        if w == 0 {
+            return 0;
+        }
+        at = from + w / 64;
+        deep = larger(deep, w % 64);
+        least = name + 1;
+        i += 1;
+    }
+    pack_parent(at, deep, k)
+}
+
 // ---- the whole
 
 fn number(f: Fault, base: u8) -> u8
@@ -525,6 +772,10 @@ pub fn check_type(s: &[u8]) -> Checked
     if MOST_BYTES < s.len() {
         return Checked::Refused(TYPE_REFUSALS);
     }
+    let w = pass_type(s, TYPE_LEVELS);
+    if w / 64 == s.len() {
+        return Checked::Accepted { level: w % 64 };
+    }
     settle(walk_type(s, TYPE_LEVELS), s.len(), TYPE_REFUSALS)
 }
 
@@ -538,6 +789,10 @@ pub fn check_value(s: &[u8]) -> Checked
     }
     if MOST_BYTES < s.len() {
         return Checked::Refused(VALUE_REFUSALS);
+    }
+    let w = pass_value(s, VALUE_LEVELS);
+    if w / 64 == s.len() {
+        return Checked::Accepted { level: w % 64 };
     }
     settle(walk_value(s, VALUE_LEVELS), s.len(), VALUE_REFUSALS)
 }

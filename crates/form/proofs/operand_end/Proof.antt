@@ -1,0 +1,12 @@
+use Rattle.form.proofs.operand_end.Statement.{statement}
+use Rattle.form.proofs.operand_end.Tie as tie
+use Rattle.form.proofs.operand_end.Reads as reads
+use Rattle.form.proofs.operand_end.Lts as lts
+use mathlib.Core.Path.{sym, ap}
+use borrow.Author.Tests.{ne-eqb}
+use Rattle.form.specs.Walks.{operandEnd}
+use borrow.Author.Needs.{needs}
+use native.Mathlib.Omega.{arith}
+
+pub operand-end-spec : {M : Type 1} → statement M
+operand-end-spec = tie.close (tie.spec (λ c. unfold operandEnd in sym (ap operandEnd (c .match .keys1))) (λ c. unfold operandEnd in sym (ap operandEnd (c .match .keys2))) (λ c. unfold operandEnd in simp (ne-eqb (c .before .args .c) 0 (c .match .rest .0 .1), ne-eqb (c .before .args .c) 1 (c .match .rest .1))))
