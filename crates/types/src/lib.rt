@@ -37,6 +37,10 @@ pub fn skip(s: &[u8], left: usize) -> usize
     if n != 0 {
         return n;
     }
+    let w = form::pass_type(s, left);
+    if w != 0 {
+        return w / 64;
+    }
     match form::walk_type(s, left) {
         Walk::End { size, level: _ } => size,
         Walk::Fault(_) => 0,

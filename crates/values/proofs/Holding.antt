@@ -124,6 +124,14 @@ held-any v (built (range t)) e = absurd (omega arith)
 held-any v (built (context fs)) e = absurd (omega arith)
 held-any v (built (function ps r)) e = absurd (omega arith)
 
+simple-size : (u : Ty) → cmd u < 42 → size u ≡ 1
+unfolding size
+simple-size (leaf s) h = refl
+simple-size (built (list t)) h = absurd (omega arith)
+simple-size (built (range t)) h = absurd (omega arith)
+simple-size (built (context fs)) h = absurd (omega arith)
+simple-size (built (function ps r)) h = absurd (omega arith)
+
 held-null : (x : ℕ) (u : Ty) → conforms fixed (v-leaf (l-null x)) u ≡ true
 unfolding conforms cmp
 held-null x (leaf s) = fixed-laws .null-least s
@@ -263,20 +271,27 @@ module _ (l : ℕ) (v t : List ℕ) (p : Ok (valueAt l v)) (q : Ok (typeAt l t))
       go x u e f (s-definition r ps b c h z) = absurd (omega arith)
       go x u e f (s-other y c h) = absurd (omega arith)
 
+  -- the short way: a leaf of data against a simple type
+  pub null-simple : getD v 0 0 ≡ 0 → getD t 0 0 < 42 → Yes 2 1 ≡ whole
+  null-simple c d = by-null 1 c (trees (λ x u e f s. sym (entries.size-got (typeAt l t) u f ∙ simple-size u (omega (arith, cmd-is l t u f, d)))))
+
+  pub any-simple : (n : ℕ) → (getD v 0 0 ≡ 0 → ⊥) → getD v 0 0 < 9 → n ≡ widthOf (getD v 0 0) + 1 → getD t 0 0 ≡ 32 → Yes n 1 ≡ whole
+  unfolding size-val
+  any-simple n y0 y8 k d = by-any n d (trees go)
+    where
+      go : (x : Val) (u : Ty) → valueAt l v ≡ some x → typeAt l t ≡ some u → Sort l v x → n ≡ sizeAtV (valueAt l v)
+      go x u e f (s-null y c) = absurd (y0 c)
+      go x u e f (s-simple y h i c z) = k ∙ sym (size-got (valueAt l v) (v-leaf y) e ∙ z)
+      go x u e f (s-range i j a b c h r) = absurd (omega arith)
+      go x u e f (s-list vs c h r) = absurd (omega arith)
+      go x u e f (s-context es c h r) = absurd (omega arith)
+      go x u e f (s-definition r ps b c h z) = absurd (omega arith)
+      go x u e f (s-other y c h) = absurd (omega arith)
+
+  pub own-simple : (n : ℕ) → (getD v 0 0 ≡ 0 → ⊥) → getD v 0 0 < 9 → n ≡ widthOf (getD v 0 0) + 1 → getD t 0 0 ≡ getD v 0 0 + 32 → Yes n 1 ≡ whole
+  own-simple n y0 y8 k d = ap (λ (z : ℕ). Yes z 1) k ∙ simple-yes (widthOf (getD v 0 0)) y0 y8 d refl
+
   -- the width of a simple value is small
-  -- the short way: a number, a string, a temporal
-  pub key-number : getD v 0 0 ≡ 0x02 → getD t 0 0 ≡ 0x22 → Yes 9 1 ≡ whole
-  unfolding widthOf kindOf operands operandsV
-  key-number e d = simple-yes 8 (λ z. absurd (omega (arith, e, z))) (omega (arith, e)) (omega (arith, e, d)) (sym (ap widthOf e))
-
-  pub key-string : getD v 0 0 ≡ 0x03 → getD t 0 0 ≡ 0x23 → Yes (nameWidth + 1) 1 ≡ whole
-  unfolding widthOf kindOf operands operandsV
-  key-string e d = simple-yes nameWidth (λ z. absurd (omega (arith, e, z))) (omega (arith, e)) (omega (arith, e, d)) (sym (ap widthOf e))
-
-  pub key-temporal : 0x04 ≤ getD v 0 0 → getD v 0 0 ≤ 0x08 → getD t 0 0 ≡ getD v 0 0 + 0x20 → Yes 9 1 ≡ whole
-  unfolding operands operandsV
-  key-temporal a b d = simple-yes 8 (λ z. absurd (omega (arith, a, z))) (omega (arith, b)) d (sym (width-is (getD v 0 0) (ofValue kTemporal) (kind-temporal (getD v 0 0) a (omega (arith, b)))))
-
   pub simple-fits : (n : ℕ) → (getD v 0 0 ≡ 0 → ⊥) → getD v 0 0 < 9 → n ≡ widthOf (getD v 0 0) → n + 1 ≤ length v
   unfolding size-val
   simple-fits n y0 y8 k = trees go

@@ -21,14 +21,18 @@ pub fn skip(s: &[u8], left: usize) -> usize
     if n != 0 {
         return n;
     }
+    let w = form::pass_value(s, left);
+    if w != 0 {
+        return w / 64;
+    }
     match form::walk_value(s, left) {
         Walk::End { size, level: _ } => size,
         Walk::Fault(_) => 0,
     }
 }
 
-// The size of the value at the front of `v` where it is a number, a string or a temporal and the type at the front of `t` is its own; 0
-// where it is not: a short way past most pairs.
+// The size of the value at the front of `v` where it is a leaf of data and the type at the front of `t` is a simple one to which it conforms; 0
+// where not: a short way past most pairs.
 fn leaf(v: &[u8], t: &[u8], left: usize) -> usize
     requires { ⌜ Ok (valueAt left (now v)) ⌝ }
     requires { ⌜ Ok (typeAt left (now t)) ⌝ }
@@ -36,27 +40,23 @@ fn leaf(v: &[u8], t: &[u8], left: usize) -> usize
 {
     let c = v[0];
     let d = t[0];
-    match c {
-        0x02 => {
-            if d == 0x22 {
-                return 9;
-            }
-            0
-        }
-        0x03 => {
-            if d == 0x23 {
-                return NAME_WIDTH + 1;
-            }
-            0
-        }
-        0x04..=0x08 => {
-            if d == c + 0x20 {
-                return 9;
-            }
-            0
-        }
-        _ => 0,
+    if 0x29 < d {
+        return 0;
     }
+    if c == 0x00 {
+        return 2;
+    }
+    let n = form::leaf_size(c);
+    if n == 0 {
+        return 0;
+    }
+    if d == 0x20 {
+        return n;
+    }
+    if d == c + 0x20 {
+        return n;
+    }
+    0
 }
 
 // Whether the value at the front of `v` conforms to the type at the front of `t`: one pass over both.
