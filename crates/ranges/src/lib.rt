@@ -143,10 +143,7 @@ pub fn undefined(i: u8) -> Verdict
     if 3 < i {
         return Verdict::Refused(2);
     }
-    if i == 1 {
-        return Verdict::Yes;
-    }
-    answer(i == 3)
+    answer(i % 2 == 1)
 }
 
 // The key that stands at `at`, as the number of its eight bytes.
