@@ -102,10 +102,10 @@ module _ (least : Bool) (s : List ℕ) (k : ℕ) (old : List ℕ) (h : Ready lea
     unfolding typeCall _>>=_ _>>_
     call-is = rw (F .reads, le-leb (wanted s) k l)
 
-    pub build-ask : FitVal least (valueAt valueLevels s) k mostBytes
-    build-ask =
-        fit-of least (valueAt valueLevels s) (F .v) k mostBytes (F .there)
-        (record { well = F .well; apt = ready-fine least s h .1; roomy = omega (arith, F .sized); spared = omega (arith, F .sized, F .short); small = omega (arith, F .sized, F .short) })
+    pub build-ask : (spare : ℕ) → length s ≤ spare → FitVal least (valueAt valueLevels s) k spare
+    build-ask spare g =
+        fit-of least (valueAt valueLevels s) (F .v) k spare (F .there)
+        (record { well = F .well; apt = ready-fine least s h .1; roomy = omega (arith, F .sized); spared = omega (arith, F .sized); small = omega (arith, F .sized, F .short) })
 
     module _ (sc sc2 : List ℕ) (n w : ℕ) (c : Typed size-val (typeText least) (valueAt valueLevels s) sc sc2 n w) where
       W : Wrote size-val (typeText least) (F .v) sc sc2 n w

@@ -7,7 +7,8 @@ use mathlib.Core.Option.{Option, some}
 use mathlib.Core.List.{List, [], _∷_, _++_}
 use native.Mathlib.Omega.{arith}
 use lib.ListN.{length, getD, take, drop, set, length-append, length-set}
-use borrow.Rule.Slice.PartMut.{putMid, same-len-mid}
+use lib.Seq.{getD-drop}
+use borrow.Rule.Slice.PartMut.{putMid, same-len-mid, set-mid-at}
 use Rattle.form.specs.Trees.{Ty, built, code, Leaf, l-null, l-boolean, l-number, l-string, l-temporal, decode-temporal, Params, Val, v-leaf, v-range, v-list, v-context, v-function, v-type, no-items, item, Entries}
 use Rattle.form.specs.Form.{bytes, numAt, Bytes, enc, encV, WfV, WfVals, WfEntries}
 use Rattle.form.specs.Layout.{ofValue, kTemporal, kindOf, operandsV, operands, widthOf}
@@ -28,7 +29,7 @@ use Rattle.types.proofs.Instances.{front-bytes}
 use Rattle.values.specs.At.{valueAt, itemsAt, entriesAt, Definition, definition, size-definition, definitionAt}
 use Rattle.values.proofs.Reading.{some-byte, some-level, v-inside, IsVal, is-null, is-boolean, is-number, is-string, is-temporal, is-range, is-list, is-context, is-definition, is-built-in, is-type, is-irrelevant, is-val}
 use Rattle.bounds.proofs.Laws.{length-rest, onto-first, onto-two, onto-three, length-onto}
-use Rattle.infer.specs.Typing.{typeBy, Fits, FitVal, FitDefinition, Fitting, Starts, Wrote, Typed, typeText, fieldsText, innerText, signatureText}
+use Rattle.infer.specs.Typing.{typeBy, Fits, FitVal, FitDefinition, Fitting, Plain, Starts, Wrote, Typed, typeText, fieldsText, innerText, signatureText}
 use Rattle.infer.proofs.Trees.{fine, list-is, range-is, context-is, leaf-is, built-in-is, irrelevant-is, function-is, type-is, count-is}
 use Rattle.infer.proofs.Writing.{starts-onto, starts-inside, lent-starts, encoded, Opened, open-fit, fit, typed, typed-is, behind}
 
@@ -443,6 +444,10 @@ module _ (m : Bool) (l : ℕ) (s old spare : List ℕ) (p : FitVal m (valueAt l 
   simply-done : (b n : ℕ) → Simply m (O .x) b n → (k : ℕ) → k ≡ n → Typed size-val (typeText m) (valueAt l s) old (set old 0 b) (k + 1) 1
   simply-done b n N k e = simple-wrote m l s (O .x) (O .read) b (N .0) (k + 1) (ap (λ (z : ℕ). z + 1) e ∙ N .1) old one-free
 
+  plain-done : (n : ℕ) → Plain (getD s 0 0) n → Typed size-val (typeText m) (valueAt l s) old (set old 0 (getD s 0 0 + 32)) n 1
+  plain-done n P =
+      subst (λ (z : ℕ). Typed size-val (typeText m) (valueAt l s) old (set old 0 (getD s 0 0 + 32)) z 1) (sym (P .size)) (simply-done _ _ (leaf-of m l s (O .x) kind (λ e. omega (arith, P .some)) (P .low)) (widthOf (getD s 0 0)) refl)
+
   module _ (other : Other m l s) where
     pub leaf-ends : getD s 0 0 < 9 → widthOf (getD s 0 0) + 1 ≤ length s
     leaf-ends h = simply-ends _ _ (leaf-of m l s (O .x) kind (other .0 .0 .0 .0 .0 .1) h)
@@ -474,3 +479,28 @@ module _ (m : Bool) (l : ℕ) (s old spare : List ℕ) (p : FitVal m (valueAt l 
 pub definition-fits : {m : Bool} {l : ℕ} {s old : List ℕ} {r : Option Definition} {xs : List ℕ} → Under m l s old size-definition signatureText r 4 2 xs → FitDefinition r (length (behind 2 xs))
 unfolding FitDefinition
 definition-fits {r = r} {xs = xs} U = rw (U .part) (omega (arith, U .sized, U .roomy, U .same, length-rest xs 2))
+
+-- ---- the short way: the type of a leaf at i of s is one byte at j of xs
+module _ (m : Bool) (l : ℕ) (s : List ℕ) (i : ℕ) (xs : List ℕ) (j : ℕ) (spare : List ℕ) (p : FitVal m (valueAt l (behind i s)) (length (behind j xs)) (length spare)) (bs : Bytes s) where
+  there : Bytes (behind i s)
+  there = subst Bytes (sym (rest s i)) (bytes-drop i s bs)
+
+  one-there : 1 ≤ length (behind j xs)
+  one-there = one-free m l (behind i s) (behind j xs) spare p there
+
+  pub plain-free : j < length xs
+  plain-free = omega (arith, one-there, length-rest xs j)
+
+  pub plain-put : (b : ℕ) → putMid j (length xs - j) xs (set (behind j xs) 0 b) ≡ set xs j b
+  plain-put b = let z : j + 0 ≡ j = omega arith in set-mid-at j (length xs - j) 0 xs b (omega (arith, one-there)) ∙ ap (λ (k : ℕ). set xs k b) z
+
+  module _ (k : ℕ) (P : Plain (getD (behind i s) 0 0) k) where
+    byte-is : getD (behind i s) 0 0 ≡ getD s i 0
+    byte-is = let z : i + 0 ≡ i = omega arith in ap (λ (r : List ℕ). getD r 0 0) (rest s i) ∙ getD-drop i s 0 0 ∙ ap (λ (k : ℕ). getD s k 0) z
+
+    pub plain-byte : getD s i 0 < 9
+    plain-byte = omega (arith, byte-is, P .low)
+
+    pub plain-told : Typed size-val (typeText m) (valueAt l (behind i s)) (behind j xs) (set (behind j xs) 0 (getD s i 0 + 32)) k 1
+    plain-told =
+        subst (λ (b : ℕ). Typed size-val (typeText m) (valueAt l (behind i s)) (behind j xs) (set (behind j xs) 0 (b + 32)) k 1) byte-is (plain-done m l (behind i s) (behind j xs) spare p there k P)

@@ -6,7 +6,7 @@ use mathlib.Core.Bool.{Bool, true}
 use mathlib.Core.Option.{some}
 use mathlib.Core.List.{List, [], _++_, append-assoc, append-nil}
 use native.Mathlib.Omega.{arith}
-use lib.ListN.{length, drop, length-append, length-drop}
+use lib.ListN.{length, getD, drop, set, length-append, length-drop}
 use lib.Seq.{drop-drop}
 use borrow.Rule.Slice.PartMut.{putMid, same-len-mid}
 use Rattle.form.specs.Limits.{nameWidth, mostBytes}
@@ -22,13 +22,14 @@ use Rattle.order.proofs.Size.{length-enc}
 use Rattle.types.proofs.Reading.{rest}
 use Rattle.types.proofs.Entries.{step}
 use Rattle.values.specs.At.{valueAt, entriesAt}
-use Rattle.values.proofs.Reading.{v-inside, Entry, next-entry, no-entry}
+use Rattle.values.proofs.Reading.{some-byte, v-inside, Entry, next-entry, no-entry}
 use Rattle.bounds.specs.Writing.{over}
 use Rattle.bounds.proofs.Laws.{length-rest, length-over}
 use Rattle.bounds.proofs.Trees.{enc-field, enc-none}
-use Rattle.infer.specs.Typing.{typeBy, fieldsBy, FitVal, FitEntries, Starts, Wrote, Typed, typeText, fieldsText}
+use Rattle.infer.specs.Typing.{typeBy, fieldsBy, FitVal, FitEntries, Plain, Starts, Wrote, Typed, typeText, fieldsText}
 use Rattle.infer.proofs.Trees.{fine, fields-none, fields-entry, data-entry}
 use Rattle.infer.proofs.Writing.{starts, lent-starts, over-starts, encoded, open-fit, fit, typed, typed-is, behind}
+use Rattle.infer.proofs.Commands.{plain-free, plain-put, plain-byte, plain-told}
 
 pub record EntriesInv (m : Bool) (l : ℕ) (v : List ℕ) (n : ℕ) (old spare₀ out spare : List ℕ) (at to i : ℕ) : Type 0 where
   -- all, what is left of them, and what was written
@@ -194,6 +195,40 @@ module _ {m : Bool} {l : ℕ} {s : List ℕ} {n : ℕ} {old spare₀ out spare :
             spare-len = k ∙ Q .spare-len;
             state = lent-starts p (typeText m (H .v)) xs ys (to + nameWidth) sx lp (W .out);
           }
+
+    -- the short way past a leaf
+    pub entry-some : 0 < length (behind (at + nameWidth) s)
+    entry-some = some-byte l (behind (at + nameWidth) s) (H .v) (H .first)
+
+    pub entry-byte : at + nameWidth < length s
+    entry-byte = omega (arith, entry-some, length-rest s (at + nameWidth))
+
+    module _ (xs : List ℕ) (k : ℕ) (named : xs ≡ over to (bytes nameWidth (numAt nameWidth at s)) out) (P : Plain (getD (behind (at + nameWidth) s) 0 0) k) where
+      abbrev fits : FitVal m (valueAt l (behind (at + nameWidth) s)) (length (behind (to + nameWidth) xs)) (length spare)
+      fits = entry-fits xs (name-len xs named)
+
+      abbrev b : ℕ
+      b = getD s (at + nameWidth) 0 + 32
+
+      told : Typed size-val (typeText m) (valueAt l (behind (at + nameWidth) s)) (behind (to + nameWidth) xs) (set (behind (to + nameWidth) xs) 0 b) k 1
+      told = plain-told m l s (at + nameWidth) xs (to + nameWidth) spare fits bs k P
+
+      pub entry-low : getD s (at + nameWidth) 0 < 9
+      entry-low = plain-byte m l s (at + nameWidth) xs (to + nameWidth) spare fits bs k P
+
+      pub entry-free : to + nameWidth < length xs
+      entry-free = plain-free m l s (at + nameWidth) xs (to + nameWidth) spare fits bs
+
+      pub entry-leaf-read : at + nameWidth + k ≤ length s
+      entry-leaf-read = entry-read xs (set (behind (to + nameWidth) xs) 0 b) k 1 named told
+
+      pub entry-leaf-wrote : to + nameWidth + 1 ≤ length s
+      entry-leaf-wrote = entry-wrote xs (set (behind (to + nameWidth) xs) 0 b) k 1 named told
+
+      pub entry-leaf : EntriesInv m l s n old spare₀ (set xs (to + nameWidth) b) spare (at + nameWidth + k) (to + nameWidth + 1) (i + 1)
+      entry-leaf =
+          subst (λ (z : List ℕ). EntriesInv m l s n old spare₀ z spare (at + nameWidth + k) (to + nameWidth + 1) (i + 1)) (plain-put m l s (at + nameWidth) xs (to + nameWidth) spare fits bs b)
+          (entry-next xs (set (behind (to + nameWidth) xs) 0 b) k 1 named told spare refl)
 
   pub entries-done : n ≤ i → Typed size-entries (fieldsText m) (entriesAt l n 0 s) old out at to
   entries-done h =

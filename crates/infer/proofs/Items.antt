@@ -6,7 +6,7 @@ use mathlib.Core.Bool.{Bool, true}
 use mathlib.Core.Option.{some}
 use mathlib.Core.List.{List, [], _∷_}
 use native.Mathlib.Omega.{arith}
-use lib.ListN.{length, drop, set, length-drop, length-set}
+use lib.ListN.{length, getD, drop, set, length-drop, length-set}
 use lib.Seq.{drop-drop}
 use borrow.Rule.Slice.PartMut.{putMid, same-len-mid}
 use Rattle.form.specs.Limits.{mostBytes, valueLevels, typeLevels}
@@ -14,6 +14,7 @@ use Rattle.form.specs.Trees.{null, Ty, leaf, Val, Vals, no-items, item}
 use Rattle.form.specs.Form.{Bytes, enc, level, levelV, Wf, WfV, WfVals}
 use Rattle.form.proofs.Exact.{bytes-drop}
 use Rattle.order.specs.Order.{fixed}
+use Rattle.order.specs.Types.{reduce}
 use Rattle.order.specs.Size.{size, size-val, size-vals}
 use Rattle.order.specs.Values.{are-data}
 use Rattle.order.specs.Inferred.{isData}
@@ -22,11 +23,12 @@ use Rattle.types.specs.At.{typeAt}
 use Rattle.types.proofs.Reading.{rest}
 use Rattle.types.proofs.Entries.{step}
 use Rattle.values.specs.At.{valueAt, itemsAt}
-use Rattle.values.proofs.Reading.{v-inside, Item, next-item, no-item}
+use Rattle.values.proofs.Reading.{some-byte, v-inside, Item, next-item, no-item}
 use Rattle.bounds.proofs.Laws.{length-rest, onto-first}
-use Rattle.infer.specs.Typing.{typeBy, joined, taken, inner, FitVal, FitItems, Starts, Wrote, Typed, typeText, innerText, Sides, Joined}
-use Rattle.infer.proofs.Trees.{Fine, fine, Sound, sound, data-item}
-use Rattle.infer.proofs.Writing.{starts-onto, starts-read, lent-front, lent-back, encoded, Opened, open-fit, fit, typed, typed-is, sides, joined-is, behind}
+use Rattle.infer.specs.Typing.{typeBy, joined, taken, inner, FitVal, FitItems, Plain, Starts, Wrote, Typed, typeText, innerText, Sides, Reduced, Joined}
+use Rattle.infer.proofs.Trees.{Fine, fine, Sound, sound, type-reduced, joined-reduced, data-item}
+use Rattle.infer.proofs.Writing.{starts-onto, starts-read, lent-front, lent-back, encoded, Opened, open-fit, fit, typed, typed-is, sides, reduced, joined-is, behind}
+use Rattle.infer.proofs.Commands.{plain-free, plain-put, plain-byte, plain-told}
 
 pub record ItemsInv (m equal : Bool) (l : ℕ) (v : List ℕ) (n : ℕ) (old spare₀ out spare : List ℕ) (at to i : ℕ) : Type 0 where
   -- all, what is left of them, and the type so far
@@ -40,6 +42,7 @@ pub record ItemsInv (m equal : Bool) (l : ℕ) (v : List ℕ) (n : ℕ) (old spa
   pub sized : at + size-vals left ≡ size-vals whole
   pub type : taken m equal t left ≡ inner m equal whole
   pub wf : Wf t
+  pub reduced : m ≡ true → reduce fixed t ≡ t
   pub long : size t ≡ to
   pub low : to ≤ at
   pub levels : level t ≤ typeLevels
@@ -164,6 +167,7 @@ module _ (m equal : Bool) (l : ℕ) (s : List ℕ) (n : ℕ) (old spare₀ : Lis
           sized = omega (arith, F .sized, W .all);
           type = inner-item m equal (F .v) (F .more) ∙ ap (inner m equal) (sym (F .is));
           wf = G .wf;
+          reduced = type-reduced m (F .v);
           long = omega (arith, W .long, length-enc (typeBy m (F .v)));
           low = omega (arith, W .all, W .long, length-enc (typeBy m (F .v)), G .short);
           levels = omega (arith, G .low, F .depth);
@@ -245,6 +249,9 @@ module _ {m equal : Bool} {l : ℕ} {s : List ℕ} {n : ℕ} {old spare₀ out s
             wf-second = good .wf;
           })
 
+      pub item-reduced : Reduced m (typeAt typeLevels xs)
+      item-reduced = reduced m (typeAt typeLevels xs) (Q .t) read-t (Q .reduced)
+
       pub item-next : (zs sp₂ : List ℕ) (r : ℕ) → Joined m equal (typeAt typeLevels xs) (typeAt typeLevels (drop to xs)) xs zs r → length sp₂ ≡ length sp → ItemsInv m equal l s n old spare₀ zs sp₂ (at + e) r (i + 1)
       item-next zs sp₂ r J k₂ =
           let S = joined-is m equal (typeAt typeLevels xs) (typeAt typeLevels (drop to xs)) (Q .t) u xs zs r read-t read-u J in
@@ -260,6 +267,7 @@ module _ {m equal : Bool} {l : ℕ} {s : List ℕ} {n : ℕ} {old spare₀ out s
             sized = omega (arith, Q .sized, N .sized, W .all);
             type = taken-item m equal (Q .t) (N .v) (N .more) ∙ ap (taken m equal (Q .t)) (sym (N .is)) ∙ Q .type;
             wf = both .wf;
+            reduced = joined-reduced m equal (Q .t) u;
             long = sym (length-enc j) ∙ sym (S .long);
             low = omega (arith, S .long, length-enc j, both .short, Q .long, Q .low, good .short, W .all);
             levels = omega (arith, both .low, Q .levels, good .low, N .depth);
@@ -271,6 +279,45 @@ module _ {m equal : Bool} {l : ℕ} {s : List ℕ} {n : ℕ} {old spare₀ out s
             spare-len = k₂ ∙ k ∙ Q .spare-len;
             state = S .out;
           }
+
+    -- the short way past a leaf
+    pub item-some : 0 < length (behind at s)
+    item-some = some-byte l (behind at s) (N .v) first-behind
+
+    pub item-byte : at < length s
+    item-byte = omega (arith, item-some, length-rest s at)
+
+    pub item-free : to < length out
+    item-free = plain-free m l s at out to spare item-fits bs
+
+    module _ (levels : l ≤ valueLevels) (k : ℕ) (P : Plain (getD (behind at s) 0 0) k) where
+      abbrev b : ℕ
+      b = getD s at 0 + 32
+
+      abbrev ys : List ℕ
+      ys = set (behind to out) 0 b
+
+      told : Typed size-val (typeText m) (valueAt l (behind at s)) (behind to out) ys k 1
+      told = plain-told m l s at out to spare item-fits bs k P
+
+      put : putMid to (length out - to) out ys ≡ set out to b
+      put = plain-put m l s at out to spare item-fits bs b
+
+      pub item-low : getD s at 0 < 9
+      item-low = plain-byte m l s at out to spare item-fits bs k P
+
+      pub leaf-read : at + k ≤ length s
+      leaf-read = item-read levels ys spare k 1 told refl
+
+      pub leaf-sides : Sides (typeAt typeLevels (set out to b)) (typeAt typeLevels (drop to (set out to b))) (set out to b) to 1 (length spare)
+      leaf-sides = subst (λ (z : List ℕ). Sides (typeAt typeLevels z) (typeAt typeLevels (drop to z)) z to 1 (length spare)) put (item-sides levels ys spare k 1 told refl)
+
+      pub leaf-reduced : Reduced m (typeAt typeLevels (set out to b))
+      leaf-reduced = subst (λ (z : List ℕ). Reduced m (typeAt typeLevels z)) put (item-reduced levels ys spare k 1 told refl)
+
+      pub leaf-next : (zs sp : List ℕ) (r : ℕ) → Joined m equal (typeAt typeLevels (set out to b)) (typeAt typeLevels (drop to (set out to b))) (set out to b) zs r → length sp ≡ length spare → ItemsInv m equal l s n old spare₀ zs sp (at + k) r (i + 1)
+      leaf-next zs sp r J e =
+          item-next levels ys spare k 1 told refl zs sp r (subst (λ (z : List ℕ). Joined m equal (typeAt typeLevels z) (typeAt typeLevels (drop to z)) z zs r) (sym put) J) e
 
   pub items-done : n ≤ i → (first : List ℕ) → length old ≡ length first → Typed size-vals (innerText m equal) (itemsAt l n s) first out at to
   items-done h first k =

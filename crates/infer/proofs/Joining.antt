@@ -14,6 +14,7 @@ use Rattle.form.specs.Form.{Bytes, enc, Wf}
 use Rattle.form.specs.Answers.{onto}
 use Rattle.form.proofs.Types.{enc-same}
 use Rattle.order.specs.Order.{up, fixed}
+use Rattle.order.specs.Types.{reduce}
 use Rattle.order.specs.Size.{size}
 use Rattle.order.specs.Document.{conformsTo, eqTy, supertype}
 use Rattle.order.proofs.Equal.{eq-ty-same, eq-ty-self}
@@ -28,8 +29,9 @@ use Rattle.types.proofs.Instances.{front-bytes}
 use Rattle.types.proofs.Conforming.{judge-yes, judge-no}
 use Rattle.bounds.specs.Writing.{ofTypes, Ready, Combined, Wrote}
 use Rattle.bounds.proofs.Building.{ready, combined-is}
+use Rattle.bounds.proofs.Trees.{self}
 use Rattle.bounds.proofs.Laws.{onto-front, onto-first, length-onto}
-use Rattle.infer.specs.Typing.{keepsFirst, joined, Starts, Side, Sides, Kept, Stands, Joined}
+use Rattle.infer.specs.Typing.{keepsFirst, joined, Starts, Side, Sides, Reduced, Kept, Stands, Joined}
 
 -- ---- what stands at the front
 pub onto-again : (bs old : List ℕ) → Starts bs (onto bs old)
@@ -74,6 +76,10 @@ is-kept x y t u q r p p' h = rw (p, p') h
 kept-is : (x y : Option Ty) (t u : Ty) (q r : Bool) → x ≡ some t → y ≡ some u → Kept q x y r → r ≡ keepsFirst q t u
 unfolding Kept
 kept-is x y t u q r p p' h = rw (p, p') at h
+
+reduced-is : (x : Option Ty) (t : Ty) (a : Bool) → x ≡ some t → Reduced a x → a ≡ true → reduce fixed t ≡ t
+unfolding Reduced
+reduced-is x t a p h = rw p at h
 
 is-joined : (x y : Option Ty) (t u : Ty) (a b : Bool) (old new : List ℕ) (r : ℕ) → x ≡ some t → y ≡ some u → Stands (joined a b t u) old new r → Joined a b x y old new r
 unfolding Joined
@@ -167,12 +173,22 @@ module _ (s : List ℕ) (n m spare : ℕ) (h : Sides (typeAt typeLevels s) (type
   joined-by a b r e k =
       ap (λ x. joined x b (T .t) (T .u)) e ∙ ap (λ x. cond x (T .t) (leaf any)) (sym (kept-is (typeAt typeLevels s) (typeAt typeLevels (drop n s)) (T .t) (T .u) b r (T .read-t) (T .read-u) k))
 
-  pub joined-first : Bytes s → (a b r : Bool) → a ≡ false → Kept b (typeAt typeLevels s) (typeAt typeLevels (drop n s)) r → r ≡ true → Joined a b (typeAt typeLevels s) (typeAt typeLevels (drop n s)) s s n
-  joined-first bs a b r e k y =
+  -- nothing was written: the first type stands as it is
+  stays : Bytes s → (a b : Bool) → joined a b (T .t) (T .u) ≡ T .t → Joined a b (typeAt typeLevels s) (typeAt typeLevels (drop n s)) s s n
+  stays bs a b e =
       let z : n ≡ length (enc (T .t)) = T .side .first ∙ sym (length-enc (T .t)) in
       is-joined (typeAt typeLevels s) (typeAt typeLevels (drop n s)) (T .t) (T .u) a b s s n (T .read-t) (T .read-u)
-      (subst (λ x. Stands x s s n) (sym (joined-by a b r e k ∙ ap (λ x. cond x (T .t) (leaf any)) y))
-      (record { long = z; out = starts-taken (enc (T .t)) s n z (first-bytes bs); kept = refl }))
+      (subst (λ x. Stands x s s n) (sym e) (record { long = z; out = starts-taken (enc (T .t)) s n z (first-bytes bs); kept = refl }))
+
+  pub joined-first : Bytes s → (a b r : Bool) → a ≡ false → Kept b (typeAt typeLevels s) (typeAt typeLevels (drop n s)) r → r ≡ true → Joined a b (typeAt typeLevels s) (typeAt typeLevels (drop n s)) s s n
+  joined-first bs a b r e k y = stays bs a b (joined-by a b r e k ∙ ap (λ x. cond x (T .t) (leaf any)) y)
+
+  -- the supertype of a reduced type with itself is the type
+  pub joined-same : Bytes s → (a b r : Bool) → a ≡ true → Reduced a (typeAt typeLevels s) → Kept true (typeAt typeLevels s) (typeAt typeLevels (drop n s)) r → r ≡ true → Joined a b (typeAt typeLevels s) (typeAt typeLevels (drop n s)) s s n
+  joined-same bs a b r e h k y =
+      let same : T .t ≡ T .u = eq-ty-same (T .t) (T .u) (sym (kept-is (typeAt typeLevels s) (typeAt typeLevels (drop n s)) (T .t) (T .u) true r (T .read-t) (T .read-u) k) ∙ y) in
+      stays bs a b
+      (ap (λ x. joined x b (T .t) (T .u)) e ∙ ap (supertype (T .t)) (sym same) ∙ self up (T .t) (asc-of (T .t) (T .side .wf-first)) ∙ reduced-is (typeAt typeLevels s) (T .t) a (T .read-t) h e)
 
   pub joined-any : (a b r : Bool) → a ≡ false → Kept b (typeAt typeLevels s) (typeAt typeLevels (drop n s)) r → r ≡ false → Joined a b (typeAt typeLevels s) (typeAt typeLevels (drop n s)) s (set s 0 32) 1
   unfolding enc

@@ -23,7 +23,7 @@ use Rattle.types.proofs.Entries.{step}
 use Rattle.values.specs.At.{valueAt, itemsAt, entriesAt}
 use Rattle.values.proofs.Reading as reading
 use Rattle.values.proofs.Reading.{IsVal, is-null, is-boolean, is-number, is-string, is-temporal, is-range, is-list, is-context, is-definition, is-built-in, is-type, is-irrelevant, is-val, some-byte, some-level, v-inside, items-inside, entries-inside, Item, next-item, no-item, Entry, next-entry, no-entry}
-use Rattle.infer.specs.Typing.{dataBy, grown}
+use Rattle.infer.specs.Typing.{dataBy, grown, Plain}
 use Rattle.infer.specs.declared.Data.{Data}
 use Rattle.infer.specs.declared.Data.the-variants.{Yes, No}
 
@@ -186,6 +186,26 @@ width-of : (b c n : ℕ) (k : ValueKind) → b ≡ c → kindOf c ≡ ofValue k 
 unfolding operands
 width-of b c n k e f h = omega (arith, width-is b (ofValue k) (ap kindOf e ∙ f))
 
+-- ---- leaves by their command
+plain : (b c n : ℕ) (k : ValueKind) → b ≡ c → kindOf c ≡ ofValue k → operandsV k + 1 ≡ n → 0 < c → c < 9 → Plain b n
+plain b c n k e f h p q = record { some = omega arith; low = omega arith; size = sym (width-of b c n k e f h) }
+
+pub plain-boolean : (b : ℕ) → b ≡ 1 → Plain b 2
+unfolding kindOf operandsV
+plain-boolean b e = plain b 1 2 kBoolean e refl refl (omega arith) (omega arith)
+
+pub plain-number : (b : ℕ) → b ≡ 2 → Plain b 9
+unfolding kindOf operandsV
+plain-number b e = plain b 2 9 kNumber e refl refl (omega arith) (omega arith)
+
+pub plain-string : (b : ℕ) → b ≡ 3 → Plain b (nameWidth + 1)
+unfolding kindOf operandsV
+plain-string b e = plain b 3 (nameWidth + 1) kString e refl refl (omega arith) (omega arith)
+
+pub plain-temporal : (b : ℕ) → 4 ≤ b → b < 9 → Plain b 9
+unfolding operandsV
+plain-temporal b p q = plain b b 9 kTemporal refl (kind-temporal b p q) refl (omega arith) q
+
 -- leaves are data, and their size is the width of the command and one
 data-leaf : (l : ℕ) (s : List ℕ) (v : Val) → IsVal l s v → getD s 0 0 < 9 → (isData v ≡ true) × (widthOf (getD s 0 0) + 1 ≡ size-val v)
 unfolding is-data size-val operandsV kindOf
@@ -299,6 +319,9 @@ module _ (l : ℕ) (s : List ℕ) (p : Ok (valueAt l s)) where
       let d = data-leaf l s v (is-val l s v e) h in
       sym (whole-is v e ∙ ap (λ b. told b (size-val v)) (d .0) ∙ ap Yes (omega (arith, d .1))))
 
+  leaf-known : (n : ℕ) → Plain (getD s 0 0) n → Yes n ≡ dataBy isData size-val (valueAt l s)
+  leaf-known n P = ap Yes (P .size) ∙ leaf-done (widthOf (getD s 0 0)) refl (P .low)
+
   pub leaf-fits : (w : ℕ) → w ≡ widthOf (getD s 0 0) → getD s 0 0 < 9 → w + 1 ≤ length s
   leaf-fits w q h = tree (λ v e. omega (arith, data-leaf l s v (is-val l s v e) h .1, v-inside l s v e))
 
@@ -331,3 +354,32 @@ module _ {X : Type 0} {test : X → Bool} {sz : X → ℕ} {at : List ℕ → Op
       grown-told : (b : Bool) (n : ℕ) → grown 3 (told b n) ≡ told b (n + 3)
       grown-told true n = refl
       grown-told false n = refl
+
+-- ---- the short way past a leaf
+module _ {l : ℕ} {v : List ℕ} {n at i : ℕ} (I : ItemsInv l v n at i) (h : i < n) where
+  pub items-some : 0 < length (take (length v - at) (drop at v))
+  items-some = has-byte l (take (length v - at) (drop at v)) (items-ok I h)
+
+  module _ (k : ℕ) (P : Plain (getD (take (length v - at) (drop at v)) 0 0) k) where
+    item-leaf : Yes k ≡ dataBy isData size-val (valueAt l (take (length v - at) (drop at v)))
+    item-leaf = leaf-known l (take (length v - at) (drop at v)) (items-ok I h) k P
+
+    pub items-leaf-fit : at + k ≤ length v
+    items-leaf-fit = items-fit I h (Yes k) k refl item-leaf
+
+    pub items-leaf : ItemsInv l v n (at + k) (i + 1)
+    items-leaf = items-again I h (Yes k) k refl item-leaf
+
+module _ {l : ℕ} {v : List ℕ} {n at i : ℕ} (I : EntriesInv l v n at i) (h : i < n) where
+  pub entries-some : 0 < length (take (length v - (at + nameWidth)) (drop (at + nameWidth) v))
+  entries-some = has-byte l (take (length v - (at + nameWidth)) (drop (at + nameWidth) v)) (entries-ok I h)
+
+  module _ (k : ℕ) (P : Plain (getD (take (length v - (at + nameWidth)) (drop (at + nameWidth) v)) 0 0) k) where
+    entry-leaf : Yes k ≡ dataBy isData size-val (valueAt l (take (length v - (at + nameWidth)) (drop (at + nameWidth) v)))
+    entry-leaf = leaf-known l (take (length v - (at + nameWidth)) (drop (at + nameWidth) v)) (entries-ok I h) k P
+
+    pub entries-leaf-fit : at + nameWidth + k ≤ length v
+    entries-leaf-fit = entries-fit I h (Yes k) k refl entry-leaf
+
+    pub entries-leaf : EntriesInv l v n (at + nameWidth + k) (i + 1)
+    entries-leaf = entries-again I h (Yes k) k refl entry-leaf

@@ -14,7 +14,7 @@ use Rattle.order.specs.Values.{leaf-type, types-of, is-data, are-data, hold-dat
 use Rattle.order.specs.Document.{conformsTo, supertype}
 use Rattle.order.specs.Inferred.{isData, leastType, list-type, typeOf, first-type, items-below}
 use Rattle.order.proofs.Simple.{fixed-laws, and-left, and-right}
-use Rattle.order.proofs.Laws.{le-refl}
+use Rattle.order.proofs.Laws.{le-refl, sup-reduced}
 use Rattle.order.proofs.Size.{size-positive, level-positive, size-sup, level-sup}
 use Rattle.order.proofs.WellFormed.{asc-of, wf-sup}
 use Rattle.order.proofs.Least.{least-reduced}
@@ -47,6 +47,15 @@ kept false t u w = record { wf = tt; short = omega (arith, size-positive t); low
 pub sound : (m equal : Bool) (t u : Ty) → Wf t → Wf u → size t + size u < 65536 → Sound t u (joined m equal t u)
 sound true equal t u v w h = record { wf = wf-sup fixed t u v w h; short = size-sup fixed t u (asc-of t v); low = level-sup fixed t u }
 sound false equal t u v w h = kept (keepsFirst equal t u) t u v
+
+-- ---- least types are reduced
+pub type-reduced : (m : Bool) (v : Val) → m ≡ true → reduce fixed (typeBy m v) ≡ typeBy m v
+type-reduced true v e = least-reduced fixed v
+type-reduced false v e = absurd (false≢true e)
+
+pub joined-reduced : (m equal : Bool) (t u : Ty) → m ≡ true → reduce fixed (joined m equal t u) ≡ joined m equal t u
+joined-reduced true equal t u e = sup-reduced fixed fixed-laws t u
+joined-reduced false equal t u e = absurd (false≢true e)
 
 -- ---- a list
 null-first : (t : Ty) → reduce fixed t ≡ t → supertype (leaf null) t ≡ t

@@ -2,7 +2,7 @@
 -- Assumes nothing.
 use Prim.Native.Nat.{ℕ, _-_, _≤_}
 use mathlib.Core.Path.{_≡_, refl, sym, ap, subst, _∙_}
-use mathlib.Core.Bool.{Bool}
+use mathlib.Core.Bool.{Bool, true}
 use mathlib.Core.Option.{Option, none, some}
 use mathlib.Core.List.{List, [], _++_, append-assoc, append-nil}
 use native.Mathlib.Omega.{arith}
@@ -16,13 +16,15 @@ use Rattle.form.specs.Answers.{onto}
 use Rattle.form.proofs.Exact.{Found}
 use Rattle.form.proofs.ExactTypes.{read-enc}
 use Rattle.form.proofs.ExactValues.{enc-readV}
+use Rattle.order.specs.Order.{fixed}
+use Rattle.order.specs.Types.{reduce}
 use Rattle.order.specs.Size.{size-val}
 use Rattle.types.specs.At.{typeAt}
 use Rattle.types.proofs.Reading.{seen-got, got-seen}
 use Rattle.values.specs.At.{valueAt}
 use Rattle.values.proofs.Reading.{value-told}
 use Rattle.bounds.specs.Writing.{over}
-use Rattle.infer.specs.Typing.{joined, Fits, Fitting, Starts, Wrote, Typed, Side, Sides, Stands, Joined}
+use Rattle.infer.specs.Typing.{joined, Fits, Fitting, Starts, Wrote, Typed, Side, Sides, Reduced, Stands, Joined}
 
 -- ---- what stands at the front
 pub starts : (bs r s : List ℕ) → s ≡ bs ++ r → Starts bs s
@@ -106,6 +108,10 @@ module _ {X : Type 0} {sz : X → ℕ} {text : X → List ℕ} where
 pub sides : (x y : Option Ty) (t u : Ty) (s : List ℕ) (n m spare : ℕ) → x ≡ some t → y ≡ some u → Side t u s n m spare → Sides x y s n m spare
 unfolding Sides
 sides x y t u s n m spare e f h = rw (e, f) h
+
+pub reduced : (m : Bool) (x : Option Ty) (t : Ty) → x ≡ some t → (m ≡ true → reduce fixed t ≡ t) → Reduced m x
+unfolding Reduced
+reduced m x t e h = rw e h
 
 pub joined-is : (m equal : Bool) (x y : Option Ty) (t u : Ty) (old new : List ℕ) (n : ℕ) → x ≡ some t → y ≡ some u → Joined m equal x y old new n → Stands (joined m equal t u) old new n
 unfolding Joined

@@ -4,13 +4,15 @@ use mathlib.Core.Path.{_≡_}
 use mathlib.Core.Bool.{Bool, true, false, cond}
 use mathlib.Core.Option.{Option, none, some}
 use mathlib.Core.List.{List, _++_}
-use Prim.Native.Nat.{ℕ, _+_, _≤_}
+use Prim.Native.Nat.{ℕ, _+_, _<_, _≤_}
 use lib.ListN.{length}
 use Rattle.form.specs.Limits.{mostBytes}
 use Rattle.form.specs.Trees.{any, null, Ty, leaf, Fields, Val, Vals, no-items, item, Entries}
 use Rattle.form.specs.Form.{enc, encFields, encTys, Wf, WfV, WfVals, WfEntries}
+use Rattle.form.specs.Layout.{widthOf}
 use Rattle.form.specs.Answers.{onto}
 use Rattle.order.specs.Order.{fixed}
+use Rattle.order.specs.Types.{reduce}
 use Rattle.order.specs.Size.{size, size-val, size-vals, size-entries}
 use Rattle.order.specs.Document.{conformsTo, eqTy, supertype}
 use Rattle.order.specs.Values.{types-of, are-data, hold-data, least-entries}
@@ -28,6 +30,12 @@ dataBy test sz none = data-is.No
 abbrev pub grown : ℕ → Data → Data
 grown k (data-is.Yes n) = data-is.Yes (n + k)
 grown k data-is.No = data-is.No
+
+-- n bytes of a boolean, a number, a string or a temporal with the command c
+pub record Plain (c n : ℕ) : Type 0 where
+  pub some : 0 < c
+  pub low : c < 9
+  pub size : n ≡ widthOf c + 1
 
 -- ---- the least type (true) or the inferred one
 abbrev pub typeBy : Bool → Val → Ty
@@ -129,6 +137,11 @@ unfoldable pub Sides : Option Ty → Option Ty → List ℕ → ℕ → ℕ → 
 Sides (some t) (some u) s n m spare = Side t u s n m spare
 Sides (some t) none s n m spare = ⊥
 Sides none y s n m spare = ⊥
+
+-- where the least type is asked, the first is reduced
+unfoldable pub Reduced : Bool → Option Ty → Type 0
+Reduced least (some t) = least ≡ true → reduce fixed t ≡ t
+Reduced least none = ⊥
 
 unfoldable pub Kept : Bool → Option Ty → Option Ty → Bool → Type 0
 Kept equal (some t) (some u) r = r ≡ keepsFirst equal t u

@@ -2,7 +2,7 @@
 ghost use mathlib.Core.Path.{_≡_};
 ghost use mathlib.Core.Bool.{true};
 ghost use Prim.Native.Nat.{ℕ, _+_, _*_, _<_, _≤_};
-ghost use lib.ListN.{length, drop};
+ghost use lib.ListN.{length, getD, drop};
 ghost use Rattle.form.specs.Answers.{Built};
 ghost use Rattle.form.specs.Limits.{typeLevels, valueLevels};
 ghost use Rattle.order.specs.Order.{fixed};
@@ -11,7 +11,7 @@ ghost use Rattle.order.specs.Size.{size-val, size-vals, size-entries};
 ghost use Rattle.order.specs.Inferred.{isData};
 ghost use Rattle.types.specs.At.{typeAt, Ok};
 ghost use Rattle.values.specs.At.{valueAt, itemsAt, entriesAt, definitionAt, size-definition};
-ghost use Rattle.infer.specs.Typing.{dataBy, grown, FitVal, FitEntries, FitItems, FitDefinition, Typed, typeText, fieldsText, innerText, signatureText, Sides, Kept, Joined};
+ghost use Rattle.infer.specs.Typing.{dataBy, grown, Plain, FitVal, FitEntries, FitItems, FitDefinition, Typed, typeText, fieldsText, innerText, signatureText, Sides, Reduced, Kept, Joined};
 ghost use Rattle.infer.specs.Calls.{Ready, typeCall, leastTypeCall, typeOfCall};
 use form::Checked;
 use form::MOST_BYTES;
@@ -36,6 +36,20 @@ pub enum Data {
 struct Ends {
     read: usize,
     wrote: usize,
+}
+
+// The size of the value at the front where it is a boolean, a number, a string or a temporal, 0 where it is not: a short way past most values.
+fn leaf(v: &[u8]) -> usize
+    requires { ⌜ 0 < length (now v) ⌝ }
+    ensures { λ r. ⌜ (0 < r → Plain (getD (now (v .entry)) 0 0) r) ⌝ }
+{
+    match v[0] {
+        0x01 => 2,
+        0x02 => 9,
+        0x03 => NAME_WIDTH + 1,
+        0x04..=0x08 => 9,
+        _ => 0,
+    }
 }
 
 // ---- data values
@@ -78,6 +92,12 @@ fn are_data(v: &[u8], n: usize, left: usize) -> Data
     let mut at: usize = 0;
     let mut i: usize = 0;
     while i < n {
+        let k = leaf(&v[at..]);
+        if k != 0 {
+            at = at + k;
+            i += 1;
+            continue;
+        }
         match is_data(&v[at..], left) {
             Data::Yes(x) => at = at + x,
             Data::No => return Data::No,
@@ -96,6 +116,12 @@ fn hold_data(v: &[u8], n: usize, left: usize) -> Data
     let mut i: usize = 0;
     while i < n {
         let p = at + NAME_WIDTH;
+        let k = leaf(&v[p..]);
+        if k != 0 {
+            at = p + k;
+            i += 1;
+            continue;
+        }
         match is_data(&v[p..], left) {
             Data::Yes(x) => at = p + x,
             Data::No => return Data::No,
@@ -107,7 +133,7 @@ fn hold_data(v: &[u8], n: usize, left: usize) -> Data
 
 // ---- the builders: `least` asks the least type, otherwise the inferred one is written
 
-// Of the inferred types at the front, n bytes, and behind it, m bytes: whether they are equal, or the second conforms to the first.
+// Of the types at the front, n bytes, and behind it, m bytes: whether they are equal, or the second conforms to the first.
 fn keeps(equal: bool, s: &[u8], n: usize, m: usize) -> bool
     requires { ⌜ Sides (typeAt typeLevels (now s)) (typeAt typeLevels (drop n (now s))) (now s) n m (n + m) ⌝ }
     ensures { λ r. ⌜ Kept equal (typeAt typeLevels (now (s .entry))) (typeAt typeLevels (drop n (now (s .entry)))) r ⌝ }
@@ -122,13 +148,17 @@ fn keeps(equal: bool, s: &[u8], n: usize, m: usize) -> bool
     }
 }
 
-// The type at the front, n bytes, and the one behind it, m bytes, become one at the front; answers its length.
+// The type at the front, n bytes, and the one behind it, m bytes, become one at the front; answers its length. Equal least types stay as they are.
 fn join(least: bool, equal: bool, out: &mut [u8], n: usize, m: usize, spare: &mut [u8]) -> usize
     requires { ⌜ Sides (typeAt typeLevels (now out)) (typeAt typeLevels (drop n (now out))) (now out) n m (length (now spare)) ⌝ }
+    requires { ⌜ Reduced least (typeAt typeLevels (now out)) ⌝ }
     ensures { λ r. ⌜ Joined least equal (typeAt typeLevels (now (out .entry))) (typeAt typeLevels (drop n (now (out .entry)))) (now (out .entry)) (now (out .exit)) r ⌝ }
     ensures { λ _. ⌜ length (now (spare .exit)) ≡ length (now (spare .entry)) ⌝ }
 {
     if least {
+        if keeps(true, &out[..], n, m) {
+            return n;
+        }
         let w = &out[..];
         let e = bounds::write_super(w, &w[n..], spare, TYPE_LEVELS);
         let k = e.wrote;
@@ -265,6 +295,14 @@ fn write_items(
     let mut to = e.wrote;
     let mut i: usize = 1;
     while i < n {
+        let k = leaf(&v[at..]);
+        if k != 0 {
+            out[to] = v[at] + 0x20;
+            at = at + k;
+            to = join(least, equal, out, to, 1, spare);
+            i += 1;
+            continue;
+        }
         let e = write_type(least, &v[at..], &mut out[to..], spare, left);
         at = at + e.read;
         to = join(least, equal, out, to, e.wrote, spare);
@@ -297,6 +335,14 @@ fn write_entries(
         let p = at + NAME_WIDTH;
         let w = to + NAME_WIDTH;
         bounds::copy_name(v, at, out, to);
+        let k = leaf(&v[p..]);
+        if k != 0 {
+            out[w] = v[p] + 0x20;
+            at = p + k;
+            to = w + 1;
+            i += 1;
+            continue;
+        }
         let e = write_type(least, &v[p..], &mut out[w..], spare, left);
         at = p + e.read;
         to = w + e.wrote;
@@ -311,21 +357,40 @@ fn write_entries(
 // ---- the calls
 
 // Both calls after the value was read, and for the least type is data: the answer is built in the scratch, and copied where it fits. Refusals: 14, 18.
-fn build(least: bool, v: &[u8], scratch: &mut [u8], out: &mut [u8]) -> Written
+fn build_with(
+    least: bool,
+    v: &[u8],
+    scratch: &mut [u8],
+    spare: &mut [u8],
+    out: &mut [u8],
+) -> Written
     requires { ⌜ Ready least (now v) ⌝ }
+    requires { ⌜ length (now v) ≤ length (now spare) ⌝ }
     ensures { λ r. ⌜ Built (typeCall least (now (v .entry)) (length (now (scratch .entry))) (length (now (out .entry)))) (now (out .entry)) (now (out .exit)) r ⌝ }
 {
     if scratch.len() < 4 * v.len() {
         return Written::Refused(14);
     }
-    let mut spare = [0u8; 16384];
-    let e = write_type(least, v, scratch, &mut spare, VALUE_LEVELS);
+    let e = write_type(least, v, scratch, spare, VALUE_LEVELS);
     let n = e.wrote;
     if out.len() < n {
         return Written::Refused(18);
     }
     bounds::copy(&scratch[..n], out);
     Written::Bytes(n)
+}
+
+// The same with a spare place of its own: a small one for a short value, since all of it is set to zero.
+fn build(least: bool, v: &[u8], scratch: &mut [u8], out: &mut [u8]) -> Written
+    requires { ⌜ Ready least (now v) ⌝ }
+    ensures { λ r. ⌜ Built (typeCall least (now (v .entry)) (length (now (scratch .entry))) (length (now (out .entry)))) (now (out .entry)) (now (out .exit)) r ⌝ }
+{
+    if v.len() <= 512 {
+        let mut spare = [0u8; 512];
+        return build_with(least, v, scratch, &mut spare, out);
+    }
+    let mut spare = [0u8; 16384];
+    build_with(least, v, scratch, &mut spare, out)
 }
 
 // The least type. Refusals 1 to 5, 13, 14, 18.

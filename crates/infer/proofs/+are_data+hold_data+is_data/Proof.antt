@@ -15,12 +15,13 @@ use Rattle.infer.proofs.+are_data+hold_data+is_data.Lts-is_data as is-d
 use Rattle.form.proofs.width.Reads as width-reads
 use Rattle.form.proofs.word_at.Reads as word-at-reads
 use Rattle.infer.proofs.grow.Reads as grow-reads
+use Rattle.infer.proofs.leaf.Reads as leaf-reads
 use Rattle.infer.proofs.+are_data+hold_data+is_data.{statement}
 use Rattle.infer.proofs.+are_data+hold_data+is_data.Tie.{close}
 use borrow.Author.Needs.{needs}
 use native.Mathlib.Omega.{arith}
 use mathlib.Core.Path.{refl}
-use Rattle.infer.proofs.OnlyData.{ItemsInv, items-start, items-end, items-done, items-ok, items-no, items-fit, items-again, EntriesInv, entries-start, entries-two, entries-done, entries-ok, entries-no, entries-fit, entries-again, has-byte, has-level, leaf-done, leaf-fits, other-done, ranges, lists, contexts, run-ok, run-fits, run-done}
+use Rattle.infer.proofs.OnlyData.{ItemsInv, items-start, items-end, items-done, items-ok, items-no, items-fit, items-again, items-some, items-leaf-fit, items-leaf, EntriesInv, entries-start, entries-two, entries-done, entries-ok, entries-no, entries-fit, entries-again, entries-some, entries-leaf-fit, entries-leaf, has-byte, has-level, leaf-done, leaf-fits, other-done, ranges, lists, contexts, run-ok, run-fits, run-done}
 
 abbrev μ-are-data : Measures 1 are-data-kinds.ps ℕ
 μ-are-data κs a = 2 * (a .1 .1 .0) + 1
@@ -64,7 +65,7 @@ abbrev hold-data-μ-loop : hold-data-lts.MeasureT-loop
 hold-data-μ-loop v n left at₀ i₀ at i = n - i
 
 pub +are-data+hold-data+is-data-spec : {M : Type 1} → statement M
-+are-data+hold-data+is-data-spec = close μ-are-data μ-hold-data μ-is-data (λ t. are-data-lts.spec (is-data-below t, is-data.Post)
++are-data+hold-data+is-data-spec = close μ-are-data μ-hold-data μ-is-data (λ t. are-data-lts.spec (leaf-reads.Asked, leaf-reads.Learnt, is-data-below t, is-data.Post)
     (are-data-at t)
     are-data.Post
     are-data-Inv-loop
@@ -73,17 +74,25 @@ pub +are-data+hold-data+is-data-spec : {M : Type 1} → statement M
     (λ c. items-end (c .before .loop .inv))
     (λ c. items-end (c .before .loop .inv))
     (λ c. search needs)
-    (λ c κs. (omega (arith, c .before .before .before .before .pre .0), items-ok (c .before .before .loop .inv) (c .before .loop-test .taken)))
-    (λ c. search needs)
-    (λ c. omega (arith, items-fit (c .before .before .before .before .before .before .loop .inv) (c .before .before .before .before .before .loop-test .taken) _ _ (c .before .x .given .1) (c .before .before .before .is-data .ensures)))
-    (λ c. search needs)
-    (λ c. items-no (c .before .before .before .before .before .loop .inv) (c .before .before .before .before .loop-test .taken) _ (c .enum-told .given .1) (c .before .before .is-data .ensures))
+    (λ c κs. items-some (c .before .before .loop .inv) (c .before .loop-test .taken))
+    (λ c. omega (arith, c .before .before .before .before .before .before .good, items-leaf-fit (c .before .before .before .before .loop .inv) (c .before .before .before .loop-test .taken) _ (c .before .leaf .ensures (omega (arith, c .if1 .taken)))))
     (λ c. search needs)
     (λ c. search needs)
-    (λ c. items-again (c .before .before .before .before .before .before .loop .inv) (c .before .before .before .before .before .loop-test .taken) _ _ (c .before .x .given .1) (c .before .before .before .is-data .ensures))
+    (λ c. items-leaf (c .before .before .before .before .loop .inv) (c .before .before .before .loop-test .taken) _ (c .before .leaf .ensures (omega (arith, c .if1 .taken))))
+    (λ c. items-end (c .before .before .before .before .loop .inv))
+    (λ c. items-end (c .before .before .before .before .loop .inv))
+    (λ c. search needs)
+    (λ c κs. (omega (arith, c .before .before .before .before .before .before .before .pre .0), items-ok (c .before .before .before .before .before .loop .inv) (c .before .before .before .before .loop-test .taken)))
+    (λ c. search needs)
+    (λ c. omega (arith, items-fit (c .before .before .before .before .before .before .before .before .before .loop .inv) (c .before .before .before .before .before .before .before .before .loop-test .taken) _ _ (c .before .x .given .1) (c .before .before .before .is-data .ensures)))
+    (λ c. search needs)
+    (λ c. items-no (c .before .before .before .before .before .before .before .before .loop .inv) (c .before .before .before .before .before .before .before .loop-test .taken) _ (c .enum-told .given .1) (c .before .before .is-data .ensures))
+    (λ c. search needs)
+    (λ c. search needs)
+    (λ c. items-again (c .before .before .before .before .before .before .before .before .before .loop .inv) (c .before .before .before .before .before .before .before .before .loop-test .taken) _ _ (c .before .x .given .1) (c .before .before .before .is-data .ensures))
     (λ c. items-done (c .before .loop .inv) (c .loop-test .left)))
     (λ t. hold-data-lts.spec
-    (is-data-below t, is-data.Post)
+    (leaf-reads.Asked, leaf-reads.Learnt, is-data-below t, is-data.Post)
     (hold-data-at t)
     hold-data.Post
     hold-data-Inv-loop
@@ -93,14 +102,22 @@ pub +are-data+hold-data+is-data-spec : {M : Type 1} → statement M
     (λ c. omega (arith, entries-two (c .before .loop .inv) (c .loop-test .taken)))
     (λ c. omega (arith, entries-two (c .before .loop .inv) (c .loop-test .taken)))
     (λ c. search needs)
-    (λ c κs. (omega (arith, c .before .before .before .before .pre .0), entries-ok (c .before .before .loop .inv) (c .before .loop-test .taken)))
-    (λ c. search needs)
-    (λ c. omega (arith, entries-fit (c .before .before .before .before .before .before .loop .inv) (c .before .before .before .before .before .loop-test .taken) _ _ (c .before .x .given .1) (c .before .before .before .is-data .ensures)))
-    (λ c. search needs)
-    (λ c. entries-no (c .before .before .before .before .before .loop .inv) (c .before .before .before .before .loop-test .taken) _ (c .enum-told .given .1) (c .before .before .is-data .ensures))
+    (λ c κs. entries-some (c .before .before .loop .inv) (c .before .loop-test .taken))
+    (λ c. omega (arith, c .before .before .before .before .before .before .good, entries-leaf-fit (c .before .before .before .before .loop .inv) (c .before .before .before .loop-test .taken) _ (c .before .leaf .ensures (omega (arith, c .if1 .taken)))))
     (λ c. search needs)
     (λ c. search needs)
-    (λ c. entries-again (c .before .before .before .before .before .before .loop .inv) (c .before .before .before .before .before .loop-test .taken) _ _ (c .before .x .given .1) (c .before .before .before .is-data .ensures))
+    (λ c. entries-leaf (c .before .before .before .before .loop .inv) (c .before .before .before .loop-test .taken) _ (c .before .leaf .ensures (omega (arith, c .if1 .taken))))
+    (λ c. omega (arith, entries-two (c .before .before .before .before .loop .inv) (c .before .before .before .loop-test .taken)))
+    (λ c. omega (arith, entries-two (c .before .before .before .before .loop .inv) (c .before .before .before .loop-test .taken)))
+    (λ c. search needs)
+    (λ c κs. (omega (arith, c .before .before .before .before .before .before .before .pre .0), entries-ok (c .before .before .before .before .before .loop .inv) (c .before .before .before .before .loop-test .taken)))
+    (λ c. search needs)
+    (λ c. omega (arith, entries-fit (c .before .before .before .before .before .before .before .before .before .loop .inv) (c .before .before .before .before .before .before .before .before .loop-test .taken) _ _ (c .before .x .given .1) (c .before .before .before .is-data .ensures)))
+    (λ c. search needs)
+    (λ c. entries-no (c .before .before .before .before .before .before .before .before .loop .inv) (c .before .before .before .before .before .before .before .loop-test .taken) _ (c .enum-told .given .1) (c .before .before .is-data .ensures))
+    (λ c. search needs)
+    (λ c. search needs)
+    (λ c. entries-again (c .before .before .before .before .before .before .before .before .before .loop .inv) (c .before .before .before .before .before .before .before .before .loop-test .taken) _ _ (c .before .x .given .1) (c .before .before .before .is-data .ensures))
     (λ c. entries-done (c .before .loop .inv) (c .loop-test .left)))
     λ t. is-data-lts.spec (are-data-below t, are-data.Post, grow-reads.Asked, grow-reads.Learnt, word-at-reads.Asked, word-at-reads.Learnt, hold-data-below t, hold-data.Post, width-reads.Asked, width-reads.Learnt)
     (is-data-at t)

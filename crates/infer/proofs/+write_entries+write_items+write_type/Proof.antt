@@ -18,6 +18,7 @@ use Rattle.form.proofs.wide.Reads as wide-reads
 use Rattle.form.proofs.width.Reads as width-reads
 use Rattle.form.proofs.word_at.Reads as word-at-reads
 use Rattle.infer.proofs.join.Reads as join-reads
+use Rattle.infer.proofs.leaf.Reads as leaf-reads
 use Rattle.infer.proofs.write_signature.Reads as write-signature-reads
 use Rattle.types.proofs.skip.Reads as skip-reads
 use Rattle.infer.proofs.+write_entries+write_items+write_type.{statement}
@@ -27,8 +28,8 @@ use lib.ListN.{getD, set}
 use borrow.Author.Needs.{needs}
 use native.Mathlib.Omega.{arith}
 use Rattle.form.proofs.Whole.{bytes-of}
-use Rattle.infer.proofs.Entries.{EntriesInv, entries-start, entry-name, entry-room, name-len, entry-fits, entry-read, entry-wrote, entry-next, entries-done}
-use Rattle.infer.proofs.Items.{ItemsInv, items-one, items-none, items-first, items-kept, items-start, item-room, item-fits, item-read, item-sides, item-next, items-done}
+use Rattle.infer.proofs.Entries.{EntriesInv, entries-start, entry-name, entry-room, name-len, entry-fits, entry-read, entry-wrote, entry-next, entry-some, entry-byte, entry-low, entry-free, entry-leaf-read, entry-leaf-wrote, entry-leaf, entries-done}
+use Rattle.infer.proofs.Items.{ItemsInv, items-one, items-none, items-first, items-kept, items-start, item-room, item-fits, item-read, item-sides, item-reduced, item-next, item-some, item-byte, item-free, item-low, leaf-read, leaf-sides, leaf-reduced, leaf-next, items-done}
 use Rattle.infer.proofs.Commands.{first-byte, level-left, one-free, null-done, leaf-ends, leaf-done, other-ends, other-done, in-range, in-list, in-context, in-definition, definition-fits, in-type, type-end, type-room, type-done, part-fits, under-head, under-room, under-free, under-read, under-wrote, under-kept, under-done, still}
 
 abbrev μ-write-entries : Measures 3 write-entries-kinds.ps ℕ
@@ -82,7 +83,7 @@ write-items-μ-loop least equal v n out₀ spare₀ left at₀ to₀ i₀ out sp
 
 pub +write-entries+write-items+write-type-spec : {M : Type 1} → statement M
 +write-entries+write-items+write-type-spec =
-    close μ-write-entries μ-write-items μ-write-type (λ t. write-entries-lts.spec (copy-name-reads.Asked, copy-name-reads.Learnt, write-type-below t, write-type.Post)
+    close μ-write-entries μ-write-items μ-write-type (λ t. write-entries-lts.spec (copy-name-reads.Asked, copy-name-reads.Learnt, leaf-reads.Asked, leaf-reads.Learnt, write-type-below t, write-type.Post)
     (write-entries-at t)
     write-entries.Post
     write-entries-Inv-loop
@@ -94,19 +95,31 @@ pub +write-entries+write-items+write-type-spec : {M : Type 1} → statement M
     (λ c. entry-name (c .before .before .before .before .before .loop .inv) (bytes-of (c .before .before .before .before .before .before .before .before .before .args .v .now) (c .before .before .before .before .before .before .before .before .shared-slice-known .given)) (c .before .before .before .before .loop-test .taken))
     (λ c. omega (arith, entry-name (c .before .before .before .before .before .loop .inv) (bytes-of (c .before .before .before .before .before .before .before .before .before .args .v .now) (c .before .before .before .before .before .before .before .before .shared-slice-known .given)) (c .before .before .before .before .loop-test .taken)))
     (λ c. search needs)
-    (λ c. omega (arith, entry-room (c .before .before .before .before .before .before .loop .inv) (bytes-of (c .before .before .before .before .before .before .before .before .before .before .args .v .now) (c .before .before .before .before .before .before .before .before .before .shared-slice-known .given)) (c .before .before .before .before .before .loop-test .taken), name-len (c .before .before .before .before .before .before .loop .inv) (bytes-of (c .before .before .before .before .before .before .before .before .before .before .args .v .now) (c .before .before .before .before .before .before .before .before .before .shared-slice-known .given)) (c .before .before .before .before .before .loop-test .taken) _ (c .before .before .before .copy-name .ensures)))
-    (λ c. omega (arith, entry-room (c .before .before .before .before .before .before .loop .inv) (bytes-of (c .before .before .before .before .before .before .before .before .before .before .args .v .now) (c .before .before .before .before .before .before .before .before .before .shared-slice-known .given)) (c .before .before .before .before .before .loop-test .taken), name-len (c .before .before .before .before .before .before .loop .inv) (bytes-of (c .before .before .before .before .before .before .before .before .before .before .args .v .now) (c .before .before .before .before .before .before .before .before .before .shared-slice-known .given)) (c .before .before .before .before .before .loop-test .taken) _ (c .before .before .before .copy-name .ensures)))
+    (λ c κs. entry-some (c .before .before .before .before .before .before .loop .inv) (bytes-of (c .before .before .before .before .before .before .before .before .before .before .args .v .now) (c .before .before .before .before .before .before .before .before .before .shared-slice-known .given)) (c .before .before .before .before .before .loop-test .taken))
+    (λ c. entry-byte (c .before .before .before .before .before .before .before .before .before .loop .inv) (bytes-of (c .before .before .before .before .before .before .before .before .before .before .before .before .before .args .v .now) (c .before .before .before .before .before .before .before .before .before .before .before .before .shared-slice-known .given)) (c .before .before .before .before .before .before .before .before .loop-test .taken))
+    (λ c. omega (arith, entry-low (c .before .before .before .before .before .before .before .before .before .loop .inv) (bytes-of (c .before .before .before .before .before .before .before .before .before .before .before .before .before .args .v .now) (c .before .before .before .before .before .before .before .before .before .before .before .before .shared-slice-known .given)) (c .before .before .before .before .before .before .before .before .loop-test .taken) _ _ (c .before .before .before .before .before .before .copy-name .ensures) (c .before .before .leaf .ensures (omega (arith, c .before .if1 .taken)))))
+    (λ c. entry-free (c .before .before .before .before .before .before .before .before .before .loop .inv) (bytes-of (c .before .before .before .before .before .before .before .before .before .before .before .before .before .args .v .now) (c .before .before .before .before .before .before .before .before .before .before .before .before .shared-slice-known .given)) (c .before .before .before .before .before .before .before .before .loop-test .taken) _ _ (c .before .before .before .before .before .before .copy-name .ensures) (c .before .before .leaf .ensures (omega (arith, c .before .if1 .taken))))
+    (λ c. omega (arith, c .before .before .before .before .before .before .before .before .before .before .before .before .before .good, entry-leaf-read (c .before .before .before .before .before .before .before .before .before .loop .inv) (bytes-of (c .before .before .before .before .before .before .before .before .before .before .before .before .before .args .v .now) (c .before .before .before .before .before .before .before .before .before .before .before .before .shared-slice-known .given)) (c .before .before .before .before .before .before .before .before .loop-test .taken) _ _ (c .before .before .before .before .before .before .copy-name .ensures) (c .before .before .leaf .ensures (omega (arith, c .before .if1 .taken)))))
+    (λ c. omega (arith, c .before .before .before .before .before .before .before .before .before .before .before .before .before .good, entry-leaf-wrote (c .before .before .before .before .before .before .before .before .before .loop .inv) (bytes-of (c .before .before .before .before .before .before .before .before .before .before .before .before .before .args .v .now) (c .before .before .before .before .before .before .before .before .before .before .before .before .shared-slice-known .given)) (c .before .before .before .before .before .before .before .before .loop-test .taken) _ _ (c .before .before .before .before .before .before .copy-name .ensures) (c .before .before .leaf .ensures (omega (arith, c .before .if1 .taken)))))
     (λ c. search needs)
-    (λ c κs. (omega (arith, c .before .before .before .before .before .before .before .before .before .before .before .before .pre .0), (entry-fits (c .before .before .before .before .before .before .before .before .loop .inv) (bytes-of (c .before .before .before .before .before .before .before .before .before .before .before .before .args .v .now) (c .before .before .before .before .before .before .before .before .before .before .before .shared-slice-known .given)) (c .before .before .before .before .before .before .before .loop-test .taken) (c .before .before .before .before .before .copy-name .last .1 .1 .0) (name-len (c .before .before .before .before .before .before .before .before .loop .inv) (bytes-of (c .before .before .before .before .before .before .before .before .before .before .before .before .args .v .now) (c .before .before .before .before .before .before .before .before .before .before .before .shared-slice-known .given)) (c .before .before .before .before .before .before .before .loop-test .taken) _ (c .before .before .before .before .before .copy-name .ensures)), c .before .before .before .before .before .before .before .before .before .before .before .before .pre .1 .1)))
-    (λ c. omega (arith, c .before .before .before .before .before .before .before .before .before .before .before .before .before .before .before .before .before .before .good, entry-read (c .before .before .before .before .before .before .before .before .before .before .before .before .before .before .loop .inv) (bytes-of (c .before .before .before .before .before .before .before .before .before .before .before .before .before .before .before .before .before .before .args .v .now) (c .before .before .before .before .before .before .before .before .before .before .before .before .before .before .before .before .before .shared-slice-known .given)) (c .before .before .before .before .before .before .before .before .before .before .before .before .before .loop-test .taken) _ _ _ _ (c .before .before .before .before .before .before .before .before .before .before .before .copy-name .ensures) (c .before .before .before .before .before .write-type .ensures .0)))
-    (λ c. omega (arith, c .before .before .before .before .before .before .before .before .before .before .before .before .before .before .before .before .before .before .before .good, entry-wrote (c .before .before .before .before .before .before .before .before .before .before .before .before .before .before .before .loop .inv) (bytes-of (c .before .before .before .before .before .before .before .before .before .before .before .before .before .before .before .before .before .before .before .args .v .now) (c .before .before .before .before .before .before .before .before .before .before .before .before .before .before .before .before .before .before .shared-slice-known .given)) (c .before .before .before .before .before .before .before .before .before .before .before .before .before .before .loop-test .taken) _ _ _ _ (c .before .before .before .before .before .before .before .before .before .before .before .before .copy-name .ensures) (c .before .before .before .before .before .before .write-type .ensures .0)))
+    (λ c. omega (arith, c .before .before .before .before .before .before .before .before .loop-test .taken))
+    (λ c. entry-leaf (c .before .before .before .before .before .before .before .before .before .loop .inv) (bytes-of (c .before .before .before .before .before .before .before .before .before .before .before .before .before .args .v .now) (c .before .before .before .before .before .before .before .before .before .before .before .before .shared-slice-known .given)) (c .before .before .before .before .before .before .before .before .loop-test .taken) _ _ (c .before .before .before .before .before .before .copy-name .ensures) (c .before .before .leaf .ensures (omega (arith, c .before .if1 .taken))))
+    (λ c. entry-name (c .before .before .before .before .before .before .before .before .loop .inv) (bytes-of (c .before .before .before .before .before .before .before .before .before .before .before .before .args .v .now) (c .before .before .before .before .before .before .before .before .before .before .before .shared-slice-known .given)) (c .before .before .before .before .before .before .before .loop-test .taken))
+    (λ c. omega (arith, entry-name (c .before .before .before .before .before .before .before .before .loop .inv) (bytes-of (c .before .before .before .before .before .before .before .before .before .before .before .before .args .v .now) (c .before .before .before .before .before .before .before .before .before .before .before .shared-slice-known .given)) (c .before .before .before .before .before .before .before .loop-test .taken)))
     (λ c. search needs)
-    (λ c. omega (arith, c .before .before .before .before .before .before .before .before .before .before .before .before .before .before .loop-test .taken))
-    (λ c. entry-next (c .before .before .before .before .before .before .before .before .before .before .before .before .before .before .before .loop .inv) (bytes-of (c .before .before .before .before .before .before .before .before .before .before .before .before .before .before .before .before .before .before .before .args .v .now) (c .before .before .before .before .before .before .before .before .before .before .before .before .before .before .before .before .before .before .shared-slice-known .given)) (c .before .before .before .before .before .before .before .before .before .before .before .before .before .before .loop-test .taken) _ _ _ _ (c .before .before .before .before .before .before .before .before .before .before .before .before .copy-name .ensures) (c .before .before .before .before .before .before .write-type .ensures .0) _ (c .before .before .before .before .before .before .write-type .ensures .1))
+    (λ c. omega (arith, entry-room (c .before .before .before .before .before .before .before .before .before .loop .inv) (bytes-of (c .before .before .before .before .before .before .before .before .before .before .before .before .before .args .v .now) (c .before .before .before .before .before .before .before .before .before .before .before .before .shared-slice-known .given)) (c .before .before .before .before .before .before .before .before .loop-test .taken), name-len (c .before .before .before .before .before .before .before .before .before .loop .inv) (bytes-of (c .before .before .before .before .before .before .before .before .before .before .before .before .before .args .v .now) (c .before .before .before .before .before .before .before .before .before .before .before .before .shared-slice-known .given)) (c .before .before .before .before .before .before .before .before .loop-test .taken) _ (c .before .before .before .before .before .before .copy-name .ensures)))
+    (λ c. omega (arith, entry-room (c .before .before .before .before .before .before .before .before .before .loop .inv) (bytes-of (c .before .before .before .before .before .before .before .before .before .before .before .before .before .args .v .now) (c .before .before .before .before .before .before .before .before .before .before .before .before .shared-slice-known .given)) (c .before .before .before .before .before .before .before .before .loop-test .taken), name-len (c .before .before .before .before .before .before .before .before .before .loop .inv) (bytes-of (c .before .before .before .before .before .before .before .before .before .before .before .before .before .args .v .now) (c .before .before .before .before .before .before .before .before .before .before .before .before .shared-slice-known .given)) (c .before .before .before .before .before .before .before .before .loop-test .taken) _ (c .before .before .before .before .before .before .copy-name .ensures)))
+    (λ c. search needs)
+    (λ c κs. (omega (arith, c .before .before .before .before .before .before .before .before .before .before .before .before .before .before .before .pre .0), (entry-fits (c .before .before .before .before .before .before .before .before .before .before .before .loop .inv) (bytes-of (c .before .before .before .before .before .before .before .before .before .before .before .before .before .before .before .args .v .now) (c .before .before .before .before .before .before .before .before .before .before .before .before .before .before .shared-slice-known .given)) (c .before .before .before .before .before .before .before .before .before .before .loop-test .taken) (c .before .before .before .before .before .before .before .before .copy-name .last .1 .1 .0) (name-len (c .before .before .before .before .before .before .before .before .before .before .before .loop .inv) (bytes-of (c .before .before .before .before .before .before .before .before .before .before .before .before .before .before .before .args .v .now) (c .before .before .before .before .before .before .before .before .before .before .before .before .before .before .shared-slice-known .given)) (c .before .before .before .before .before .before .before .before .before .before .loop-test .taken) _ (c .before .before .before .before .before .before .before .before .copy-name .ensures)), c .before .before .before .before .before .before .before .before .before .before .before .before .before .before .before .pre .1 .1)))
+    (λ c. omega (arith, c .before .before .before .before .before .before .before .before .before .before .before .before .before .before .before .before .before .before .before .before .before .good, entry-read (c .before .before .before .before .before .before .before .before .before .before .before .before .before .before .before .before .before .loop .inv) (bytes-of (c .before .before .before .before .before .before .before .before .before .before .before .before .before .before .before .before .before .before .before .before .before .args .v .now) (c .before .before .before .before .before .before .before .before .before .before .before .before .before .before .before .before .before .before .before .before .shared-slice-known .given)) (c .before .before .before .before .before .before .before .before .before .before .before .before .before .before .before .before .loop-test .taken) _ _ _ _ (c .before .before .before .before .before .before .before .before .before .before .before .before .before .before .copy-name .ensures) (c .before .before .before .before .before .write-type .ensures .0)))
+    (λ c. omega (arith, c .before .before .before .before .before .before .before .before .before .before .before .before .before .before .before .before .before .before .before .before .before .before .good, entry-wrote (c .before .before .before .before .before .before .before .before .before .before .before .before .before .before .before .before .before .before .loop .inv) (bytes-of (c .before .before .before .before .before .before .before .before .before .before .before .before .before .before .before .before .before .before .before .before .before .before .args .v .now) (c .before .before .before .before .before .before .before .before .before .before .before .before .before .before .before .before .before .before .before .before .before .shared-slice-known .given)) (c .before .before .before .before .before .before .before .before .before .before .before .before .before .before .before .before .before .loop-test .taken) _ _ _ _ (c .before .before .before .before .before .before .before .before .before .before .before .before .before .before .before .copy-name .ensures) (c .before .before .before .before .before .before .write-type .ensures .0)))
+    (λ c. search needs)
+    (λ c. omega (arith, c .before .before .before .before .before .before .before .before .before .before .before .before .before .before .before .before .before .loop-test .taken))
+    (λ c. entry-next (c .before .before .before .before .before .before .before .before .before .before .before .before .before .before .before .before .before .before .loop .inv) (bytes-of (c .before .before .before .before .before .before .before .before .before .before .before .before .before .before .before .before .before .before .before .before .before .before .args .v .now) (c .before .before .before .before .before .before .before .before .before .before .before .before .before .before .before .before .before .before .before .before .before .shared-slice-known .given)) (c .before .before .before .before .before .before .before .before .before .before .before .before .before .before .before .before .before .loop-test .taken) _ _ _ _ (c .before .before .before .before .before .before .before .before .before .before .before .before .before .before .before .copy-name .ensures) (c .before .before .before .before .before .before .write-type .ensures .0) _ (c .before .before .before .before .before .before .write-type .ensures .1))
     (λ c. (c .before .loop .inv) .out-len)
     (λ c. (c .before .loop .inv) .spare-len)
     (λ c. (entries-done (c .before .loop .inv) (bytes-of (c .before .before .before .before .before .args .v .now) (c .before .before .before .before .shared-slice-known .given)) (c .loop-test .left), (c .before .loop .inv) .spare-len)))
-    (λ t. write-items-lts.spec (write-type-below t, write-type.Post, join-reads.Asked, join-reads.Learnt)
+    (λ t. write-items-lts.spec (write-type-below t, write-type.Post, leaf-reads.Asked, leaf-reads.Learnt, join-reads.Asked, join-reads.Learnt)
     (write-items-at t)
     write-items.Post
     write-items-Inv-loop
@@ -119,15 +132,27 @@ pub +write-entries+write-items+write-type-spec : {M : Type 1} → statement M
     (λ c. (c .before .loop .inv) .in-v)
     (λ c. omega (arith, (c .before .loop .inv) .in-v))
     (λ c. search needs)
-    (λ c. item-room (c .before .before .loop .inv) (bytes-of (c .before .before .before .before .before .before .before .before .before .before .before .before .before .before .args .v .now) (c .before .before .before .before .before .before .before .before .before .before .before .before .before .shared-slice-known .given)))
-    (λ c. omega (arith, item-room (c .before .before .loop .inv) (bytes-of (c .before .before .before .before .before .before .before .before .before .before .before .before .before .before .args .v .now) (c .before .before .before .before .before .before .before .before .before .before .before .before .before .shared-slice-known .given))))
+    (λ c κs. item-some (c .before .before .loop .inv) (bytes-of (c .before .before .before .before .before .before .before .before .before .before .before .before .before .before .args .v .now) (c .before .before .before .before .before .before .before .before .before .before .before .before .before .shared-slice-known .given)) (c .before .loop-test .taken))
+    (λ c. item-byte (c .before .before .before .before .before .loop .inv) (bytes-of (c .before .before .before .before .before .before .before .before .before .before .before .before .before .before .before .before .before .args .v .now) (c .before .before .before .before .before .before .before .before .before .before .before .before .before .before .before .before .shared-slice-known .given)) (c .before .before .before .before .loop-test .taken))
+    (λ c. omega (arith, item-low (c .before .before .before .before .before .loop .inv) (bytes-of (c .before .before .before .before .before .before .before .before .before .before .before .before .before .before .before .before .before .args .v .now) (c .before .before .before .before .before .before .before .before .before .before .before .before .before .before .before .before .shared-slice-known .given)) (c .before .before .before .before .loop-test .taken) (c .before .before .before .before .before .before .before .before .before .before .before .before .before .before .before .before .before .pre .1 .1) _ (c .before .before .leaf .ensures (omega (arith, c .before .if2 .taken)))))
+    (λ c. item-free (c .before .before .before .before .before .loop .inv) (bytes-of (c .before .before .before .before .before .before .before .before .before .before .before .before .before .before .before .before .before .args .v .now) (c .before .before .before .before .before .before .before .before .before .before .before .before .before .before .before .before .shared-slice-known .given)) (c .before .before .before .before .loop-test .taken))
+    (λ c. omega (arith, c .before .before .before .before .before .before .before .before .before .before .before .before .before .before .before .before .before .good, leaf-read (c .before .before .before .before .before .loop .inv) (bytes-of (c .before .before .before .before .before .before .before .before .before .before .before .before .before .before .before .before .before .args .v .now) (c .before .before .before .before .before .before .before .before .before .before .before .before .before .before .before .before .shared-slice-known .given)) (c .before .before .before .before .loop-test .taken) (c .before .before .before .before .before .before .before .before .before .before .before .before .before .before .before .before .before .pre .1 .1) _ (c .before .before .leaf .ensures (omega (arith, c .before .if2 .taken)))))
+    (λ c κs. (leaf-sides (c .before .before .before .before .before .before .before .loop .inv) (bytes-of (c .before .before .before .before .before .before .before .before .before .before .before .before .before .before .before .before .before .before .before .args .v .now) (c .before .before .before .before .before .before .before .before .before .before .before .before .before .before .before .before .before .before .shared-slice-known .given)) (c .before .before .before .before .before .before .loop-test .taken) (c .before .before .before .before .before .before .before .before .before .before .before .before .before .before .before .before .before .before .before .pre .1 .1) _ (c .before .before .before .before .leaf .ensures (omega (arith, c .before .before .before .if2 .taken))), leaf-reduced (c .before .before .before .before .before .before .before .loop .inv) (bytes-of (c .before .before .before .before .before .before .before .before .before .before .before .before .before .before .before .before .before .before .before .args .v .now) (c .before .before .before .before .before .before .before .before .before .before .before .before .before .before .before .before .before .before .shared-slice-known .given)) (c .before .before .before .before .before .before .loop-test .taken) (c .before .before .before .before .before .before .before .before .before .before .before .before .before .before .before .before .before .before .before .pre .1 .1) _ (c .before .before .before .before .leaf .ensures (omega (arith, c .before .before .before .if2 .taken)))))
+    (λ c. omega (arith, c .before .before .before .before .before .before .before .before .before .before .before .before .before .before .before .before .before .before .before .before .before .before .before .before .good, c .before .before .before .before .before .before .before .before .before .before .before .loop-test .taken))
+    (λ c. omega (arith, c .before .before .before .before .before .before .before .before .before .before .before .loop-test .taken))
+    (λ c. leaf-next (c .before .before .before .before .before .before .before .before .before .before .before .before .loop .inv) (bytes-of (c .before .before .before .before .before .before .before .before .before .before .before .before .before .before .before .before .before .before .before .before .before .before .before .before .args .v .now) (c .before .before .before .before .before .before .before .before .before .before .before .before .before .before .before .before .before .before .before .before .before .before .before .shared-slice-known .given)) (c .before .before .before .before .before .before .before .before .before .before .before .loop-test .taken) (c .before .before .before .before .before .before .before .before .before .before .before .before .before .before .before .before .before .before .before .before .before .before .before .before .pre .1 .1) _ (c .before .before .before .before .before .before .before .before .before .leaf .ensures (omega (arith, c .before .before .before .before .before .before .before .before .if2 .taken))) _ _ _ (c .before .before .before .before .join .ensures .0) (c .before .before .before .before .join .ensures .1))
+    (λ c. (c .before .before .before .before .loop .inv) .in-v)
+    (λ c. omega (arith, (c .before .before .before .before .loop .inv) .in-v))
     (λ c. search needs)
-    (λ c κs. (omega (arith, c .before .before .before .before .before .before .before .before .before .before .before .before .before .before .before .before .pre .0), (item-fits (c .before .before .before .before .loop .inv) (bytes-of (c .before .before .before .before .before .before .before .before .before .before .before .before .before .before .before .before .args .v .now) (c .before .before .before .before .before .before .before .before .before .before .before .before .before .before .before .shared-slice-known .given)) (c .before .before .before .loop-test .taken), c .before .before .before .before .before .before .before .before .before .before .before .before .before .before .before .before .pre .1 .1)))
-    (λ c. omega (arith, c .before .before .before .before .before .before .before .before .before .before .before .before .before .before .before .before .before .before .before .before .before .before .good, item-read (c .before .before .before .before .before .before .before .before .before .before .loop .inv) (bytes-of (c .before .before .before .before .before .before .before .before .before .before .before .before .before .before .before .before .before .before .before .before .before .before .args .v .now) (c .before .before .before .before .before .before .before .before .before .before .before .before .before .before .before .before .before .before .before .before .before .shared-slice-known .given)) (c .before .before .before .before .before .before .before .before .before .loop-test .taken) (c .before .before .before .before .before .before .before .before .before .before .before .before .before .before .before .before .before .before .before .before .before .before .pre .1 .1) _ (c .before .before .before .before .before .write-type2 .last .1 .1 .1 .0) _ _ (c .before .before .before .before .before .write-type2 .ensures .0) (c .before .before .before .before .before .write-type2 .ensures .1)))
-    (λ c κs. item-sides (c .before .before .before .before .before .before .before .before .before .before .before .before .loop .inv) (bytes-of (c .before .before .before .before .before .before .before .before .before .before .before .before .before .before .before .before .before .before .before .before .before .before .before .before .args .v .now) (c .before .before .before .before .before .before .before .before .before .before .before .before .before .before .before .before .before .before .before .before .before .before .before .shared-slice-known .given)) (c .before .before .before .before .before .before .before .before .before .before .before .loop-test .taken) (c .before .before .before .before .before .before .before .before .before .before .before .before .before .before .before .before .before .before .before .before .before .before .before .before .pre .1 .1) _ (c .before .before .before .before .before .before .before .write-type2 .last .1 .1 .1 .0) _ _ (c .before .before .before .before .before .before .before .write-type2 .ensures .0) (c .before .before .before .before .before .before .before .write-type2 .ensures .1))
-    (λ c. omega (arith, c .before .before .before .before .before .before .before .before .before .before .before .before .before .before .before .before .before .before .before .before .before .before .before .before .before .before .before .before .before .good, c .before .before .before .before .before .before .before .before .before .before .before .before .before .before .before .before .loop-test .taken))
-    (λ c. omega (arith, c .before .before .before .before .before .before .before .before .before .before .before .before .before .before .before .before .loop-test .taken))
-    (λ c. item-next (c .before .before .before .before .before .before .before .before .before .before .before .before .before .before .before .before .before .loop .inv) (bytes-of (c .before .before .before .before .before .before .before .before .before .before .before .before .before .before .before .before .before .before .before .before .before .before .before .before .before .before .before .before .before .args .v .now) (c .before .before .before .before .before .before .before .before .before .before .before .before .before .before .before .before .before .before .before .before .before .before .before .before .before .before .before .before .shared-slice-known .given)) (c .before .before .before .before .before .before .before .before .before .before .before .before .before .before .before .before .loop-test .taken) (c .before .before .before .before .before .before .before .before .before .before .before .before .before .before .before .before .before .before .before .before .before .before .before .before .before .before .before .before .before .pre .1 .1) _ (c .before .before .before .before .before .before .before .before .before .before .before .before .write-type2 .last .1 .1 .1 .0) _ _ (c .before .before .before .before .before .before .before .before .before .before .before .before .write-type2 .ensures .0) (c .before .before .before .before .before .before .before .before .before .before .before .before .write-type2 .ensures .1) _ _ _ (c .before .before .before .before .join .ensures .0) (c .before .before .before .before .join .ensures .1))
+    (λ c. item-room (c .before .before .before .before .before .loop .inv) (bytes-of (c .before .before .before .before .before .before .before .before .before .before .before .before .before .before .before .before .before .args .v .now) (c .before .before .before .before .before .before .before .before .before .before .before .before .before .before .before .before .shared-slice-known .given)))
+    (λ c. omega (arith, item-room (c .before .before .before .before .before .loop .inv) (bytes-of (c .before .before .before .before .before .before .before .before .before .before .before .before .before .before .before .before .before .args .v .now) (c .before .before .before .before .before .before .before .before .before .before .before .before .before .before .before .before .shared-slice-known .given))))
+    (λ c. search needs)
+    (λ c κs. (omega (arith, c .before .before .before .before .before .before .before .before .before .before .before .before .before .before .before .before .before .before .before .pre .0), (item-fits (c .before .before .before .before .before .before .before .loop .inv) (bytes-of (c .before .before .before .before .before .before .before .before .before .before .before .before .before .before .before .before .before .before .before .args .v .now) (c .before .before .before .before .before .before .before .before .before .before .before .before .before .before .before .before .before .before .shared-slice-known .given)) (c .before .before .before .before .before .before .loop-test .taken), c .before .before .before .before .before .before .before .before .before .before .before .before .before .before .before .before .before .before .before .pre .1 .1)))
+    (λ c. omega (arith, c .before .before .before .before .before .before .before .before .before .before .before .before .before .before .before .before .before .before .before .before .before .before .before .before .before .good, item-read (c .before .before .before .before .before .before .before .before .before .before .before .before .before .loop .inv) (bytes-of (c .before .before .before .before .before .before .before .before .before .before .before .before .before .before .before .before .before .before .before .before .before .before .before .before .before .args .v .now) (c .before .before .before .before .before .before .before .before .before .before .before .before .before .before .before .before .before .before .before .before .before .before .before .before .shared-slice-known .given)) (c .before .before .before .before .before .before .before .before .before .before .before .before .loop-test .taken) (c .before .before .before .before .before .before .before .before .before .before .before .before .before .before .before .before .before .before .before .before .before .before .before .before .before .pre .1 .1) _ (c .before .before .before .before .before .write-type2 .last .1 .1 .1 .0) _ _ (c .before .before .before .before .before .write-type2 .ensures .0) (c .before .before .before .before .before .write-type2 .ensures .1)))
+    (λ c κs. (item-sides (c .before .before .before .before .before .before .before .before .before .before .before .before .before .before .before .loop .inv) (bytes-of (c .before .before .before .before .before .before .before .before .before .before .before .before .before .before .before .before .before .before .before .before .before .before .before .before .before .before .before .args .v .now) (c .before .before .before .before .before .before .before .before .before .before .before .before .before .before .before .before .before .before .before .before .before .before .before .before .before .before .shared-slice-known .given)) (c .before .before .before .before .before .before .before .before .before .before .before .before .before .before .loop-test .taken) (c .before .before .before .before .before .before .before .before .before .before .before .before .before .before .before .before .before .before .before .before .before .before .before .before .before .before .before .pre .1 .1) _ (c .before .before .before .before .before .before .before .write-type2 .last .1 .1 .1 .0) _ _ (c .before .before .before .before .before .before .before .write-type2 .ensures .0) (c .before .before .before .before .before .before .before .write-type2 .ensures .1), item-reduced (c .before .before .before .before .before .before .before .before .before .before .before .before .before .before .before .loop .inv) (bytes-of (c .before .before .before .before .before .before .before .before .before .before .before .before .before .before .before .before .before .before .before .before .before .before .before .before .before .before .before .args .v .now) (c .before .before .before .before .before .before .before .before .before .before .before .before .before .before .before .before .before .before .before .before .before .before .before .before .before .before .shared-slice-known .given)) (c .before .before .before .before .before .before .before .before .before .before .before .before .before .before .loop-test .taken) (c .before .before .before .before .before .before .before .before .before .before .before .before .before .before .before .before .before .before .before .before .before .before .before .before .before .before .before .pre .1 .1) _ (c .before .before .before .before .before .before .before .write-type2 .last .1 .1 .1 .0) _ _ (c .before .before .before .before .before .before .before .write-type2 .ensures .0) (c .before .before .before .before .before .before .before .write-type2 .ensures .1)))
+    (λ c. omega (arith, c .before .before .before .before .before .before .before .before .before .before .before .before .before .before .before .before .before .before .before .before .before .before .before .before .before .before .before .before .before .before .before .before .good, c .before .before .before .before .before .before .before .before .before .before .before .before .before .before .before .before .before .before .before .loop-test .taken))
+    (λ c. omega (arith, c .before .before .before .before .before .before .before .before .before .before .before .before .before .before .before .before .before .before .before .loop-test .taken))
+    (λ c. item-next (c .before .before .before .before .before .before .before .before .before .before .before .before .before .before .before .before .before .before .before .before .loop .inv) (bytes-of (c .before .before .before .before .before .before .before .before .before .before .before .before .before .before .before .before .before .before .before .before .before .before .before .before .before .before .before .before .before .before .before .before .args .v .now) (c .before .before .before .before .before .before .before .before .before .before .before .before .before .before .before .before .before .before .before .before .before .before .before .before .before .before .before .before .before .before .before .shared-slice-known .given)) (c .before .before .before .before .before .before .before .before .before .before .before .before .before .before .before .before .before .before .before .loop-test .taken) (c .before .before .before .before .before .before .before .before .before .before .before .before .before .before .before .before .before .before .before .before .before .before .before .before .before .before .before .before .before .before .before .before .pre .1 .1) _ (c .before .before .before .before .before .before .before .before .before .before .before .before .write-type2 .last .1 .1 .1 .0) _ _ (c .before .before .before .before .before .before .before .before .before .before .before .before .write-type2 .ensures .0) (c .before .before .before .before .before .before .before .before .before .before .before .before .write-type2 .ensures .1) _ _ _ (c .before .before .before .before .join2 .ensures .0) (c .before .before .before .before .join2 .ensures .1))
     (λ c. (c .before .loop .inv) .out-len ∙ (items-kept (c .before .before .before .before .before .before .before .before .before .before .before .before .before .args .least) (c .before .before .before .before .before .before .before .before .before .before .before .before .before .args .equal) (c .before .before .before .before .before .before .before .before .before .before .before .before .before .args .left) (c .before .before .before .before .before .before .before .before .before .before .before .before .before .args .v .now) (c .before .before .before .before .before .before .before .before .before .before .before .before .before .args .n) (c .before .before .before .before .before .before .before .before .before .before .before .before .before .args .out .now) (c .before .before .before .before .before .before .before .before .before .before .before .before .before .args .spare .now) (c .before .before .before .before .before .before .before .before .before .before .before .before .before .pre .1 .0) (bytes-of (c .before .before .before .before .before .before .before .before .before .before .before .before .before .args .v .now) (c .before .before .before .before .before .before .before .before .before .before .before .before .shared-slice-known .given)) (c .before .before .before .before .before .before .before .before .before .before .before .before .before .pre .1 .1) (c .before .before .before .before .before .before .before .before .before .if1 .left) _ _ _ (c .before .before .before .before .before .before .write-type .ensures .0)))
     (λ c. (c .before .loop .inv) .spare-len ∙ c .before .before .before .before .before .before .write-type .ensures .1)
     (λ c. (items-done (c .before .loop .inv) (bytes-of (c .before .before .before .before .before .before .before .before .before .before .before .before .before .args .v .now) (c .before .before .before .before .before .before .before .before .before .before .before .before .shared-slice-known .given)) (c .loop-test .left) _ (items-kept (c .before .before .before .before .before .before .before .before .before .before .before .before .before .args .least) (c .before .before .before .before .before .before .before .before .before .before .before .before .before .args .equal) (c .before .before .before .before .before .before .before .before .before .before .before .before .before .args .left) (c .before .before .before .before .before .before .before .before .before .before .before .before .before .args .v .now) (c .before .before .before .before .before .before .before .before .before .before .before .before .before .args .n) (c .before .before .before .before .before .before .before .before .before .before .before .before .before .args .out .now) (c .before .before .before .before .before .before .before .before .before .before .before .before .before .args .spare .now) (c .before .before .before .before .before .before .before .before .before .before .before .before .before .pre .1 .0) (bytes-of (c .before .before .before .before .before .before .before .before .before .before .before .before .before .args .v .now) (c .before .before .before .before .before .before .before .before .before .before .before .before .shared-slice-known .given)) (c .before .before .before .before .before .before .before .before .before .before .before .before .before .pre .1 .1) (c .before .before .before .before .before .before .before .before .before .if1 .left) _ _ _ (c .before .before .before .before .before .before .write-type .ensures .0)), (c .before .loop .inv) .spare-len ∙ c .before .before .before .before .before .before .write-type .ensures .1)))

@@ -1,0 +1,22 @@
+-- `infer::leaf` meets its contract.
+-- Assumes nothing.
+use borrow.Author.Needs.{needs}
+use Rattle.infer.proofs.leaf.Statement.{statement}
+use Rattle.infer.proofs.leaf.Tie as tie
+use Rattle.infer.proofs.leaf.Reads as reads
+use Rattle.infer.proofs.leaf.Lts as lts
+use native.Mathlib.Omega.{arith}
+use Rattle.infer.proofs.OnlyData.{plain-boolean, plain-number, plain-string, plain-temporal}
+
+pub leaf-spec : {M : Type 1} → statement M
+leaf-spec =
+    tie.close
+    (tie.spec
+    (λ c. search needs)
+    (λ c. search needs)
+    (λ c h. plain-boolean _ (c .match .keys1))
+    (λ c h. plain-number _ (c .match .keys2))
+    (λ c h. plain-string _ (c .match .keys3))
+    (λ c h. plain-temporal _ (omega arith) (omega arith))
+    (λ c. search needs)
+    (λ c. search needs))
