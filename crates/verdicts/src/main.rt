@@ -1,24 +1,25 @@
 // Answers questions: each line of the input asks one of the calls with its arguments in hexadecimal, and gets one line of answer.
 // `verdicts --help` tells how to ask.
 ghost use mathlib.Core.Path.{_≡_};
-ghost use Prim.Native.Nat.{_<_};
+ghost use Prim.Native.Nat.{_<_, _≤_};
 ghost use lib.ListN.{length};
 
-mod ask;
-mod fault;
 mod help;
-mod line;
 mod say;
-mod words;
 
-use ask::Answer;
 use libc::STDIN_FILENO;
-use line::Cut;
-use line::Line;
+use questions::ask;
+use questions::ask::Answer;
+use questions::line;
+use questions::line::Line;
+use questions::text;
 use say::Out;
 
 // Room for the longest answer: the text of a type has fewer than 100 bytes for each byte of the type.
 const BUILT: usize = 1638400;
+
+// Room for the last line.
+const TOTAL: usize = 256;
 
 // How many lines were answered, refused and not read, and how many files could not be opened or read.
 struct Tally {
@@ -71,13 +72,6 @@ fn begin() -> State {
 
 // ---- a line
 
-// One line more that could not be read.
-fn unread(t: Tally) -> Tally {
-    let mut r = t;
-    r.unread = more(t.unread);
-    r
-}
-
 // One answer more.
 fn told(t: Tally, a: Answer) -> Tally {
     let mut r = t;
@@ -88,74 +82,30 @@ fn told(t: Tally, a: Answer) -> Tally {
     r
 }
 
-// An answer: its line, and one more of its kind.
-fn tell(s: State, a: Answer, name: &[u8], data: &[u8], built: &[u8], buf: &mut [u8]) -> State {
-    let line = s.line;
-    let o = s.out;
-    match a {
-        Answer::Wrong(n) => {
-            let out = say::wrong(o, name, s.number, n, buf);
-            let tally = unread(s.tally);
-            State {
-                line,
-                number: s.number,
-                tally,
-                out,
-            }
-        }
-        _ => {
-            let out = say::answer(o, a, data, built, buf);
-            let tally = told(s.tally, a);
-            State {
-                line,
-                number: s.number,
-                tally,
-                out,
-            }
-        }
-    }
+// One line more that could not be read: what is wrong with it.
+fn unread(s: State, a: Answer, name: &[u8], buf: &mut [u8]) -> State {
+    let mut r = s;
+    let mut tally = s.tally;
+    let out = say::wrong(s.out, a, name, s.number, buf);
+    tally.unread = more(tally.unread);
+    r.out = out;
+    r.tally = tally;
+    r
 }
 
-// Asks what a whole line asks.
-fn ask_line(
-    s: State,
-    l: Line,
-    name: &[u8],
-    data: &[u8],
-    scratch: &mut [u8],
-    built: &mut [u8],
-    buf: &mut [u8],
-) -> State {
-    if l.fault != 0 {
-        return tell(s, Answer::Wrong(l.fault), name, data, built, buf);
-    }
-    match line::cut_line(l) {
-        Cut::At { one, two, three } => {
-            let a = ask::ask(l.call, data, one, two, three, scratch, built);
-            tell(s, a, name, data, built, buf)
-        }
-        Cut::Wrong {
-            wanted,
-            found,
-            commas,
-        } => {
-            let line = s.line;
-            let out = say::wrong_count(
-                s.out,
-                name,
-                s.number,
-                wanted as u64,
-                found as u64,
-                commas,
-                buf,
-            );
-            let tally = unread(s.tally);
-            State {
-                line,
-                number: s.number,
-                tally,
-                out,
-            }
+// An answer: its line, and one more of its kind.
+fn tell(s: State, a: Answer, name: &[u8], data: &[u8], built: &[u8], buf: &mut [u8]) -> State {
+    match a {
+        Answer::Nothing => s,
+        Answer::Wrong(_) => unread(s, a, name, buf),
+        Answer::Count { .. } => unread(s, a, name, buf),
+        _ => {
+            let mut r = s;
+            let out = say::answer(s.out, a, data, built, buf);
+            let tally = told(s.tally, a);
+            r.out = out;
+            r.tally = tally;
+            r
         }
     }
 }
@@ -170,13 +120,8 @@ fn end_line(
     built: &mut [u8],
     buf: &mut [u8],
 ) -> State {
-    let l = line::close(s.line, word);
-    if l.call == 0 {
-        if l.fault == 0 {
-            return next_line(s);
-        }
-    }
-    next_line(ask_line(s, l, name, data, scratch, built, buf))
+    let a = ask::ask_line(s.line, word, data, scratch, built);
+    next_line(tell(s, a, name, data, built, buf))
 }
 
 // The next line begins.
@@ -365,7 +310,7 @@ fn open_file(
     built: &mut [u8],
     buf: &mut [u8],
 ) -> State {
-    if words::same(name, b"-") {
+    if check::same(name, b"-") {
         return read_file(
             s,
             STDIN_FILENO,
@@ -437,42 +382,39 @@ fn read_named(
 }
 
 // The last line: what was counted.
-fn total(s: State, buf: &mut [u8]) -> Out {
-    let t = s.tally;
-    let a = say::counted(
-        s.out,
-        plus(plus(t.answered, t.refused), t.unread),
-        b" question",
-        buf,
-    );
-    let b = total_lines(a, t, buf);
-    let c = total_files(b, t.unopened, b" not opened", buf);
-    let d = total_files(c, t.broken, b" not read to the end", buf);
-    say::put(d, b"\n", buf)
+fn total(t: Tally, out: &mut [u8]) -> usize
+    ensures { λ r. ⌜ r ≤ length (now (out .entry)) ⌝ }
+{
+    let all = plus(plus(t.answered, t.refused), t.unread);
+    let a = text::counted(all, b" question", out, 0);
+    let b = total_lines(t, out, a);
+    let c = total_files(t.unopened, b" not opened", out, b);
+    let d = total_files(t.broken, b" not read to the end", out, c);
+    text::put(b"\n", out, d)
 }
 
 // How many lines of each kind.
-fn total_lines(o: Out, t: Tally, buf: &mut [u8]) -> Out {
-    let a = total_kind(o, b": ", t.answered, b" answered, ", buf);
-    let b = total_kind(a, b"", t.refused, b" refused, ", buf);
-    total_kind(b, b"", t.unread, b" not read", buf)
+fn total_lines(t: Tally, out: &mut [u8], at: usize) -> usize {
+    let a = total_kind(b": ", t.answered, b" answered, ", out, at);
+    let b = total_kind(b"", t.refused, b" refused, ", out, a);
+    total_kind(b"", t.unread, b" not read", out, b)
 }
 
 // How many lines of one kind.
-fn total_kind(o: Out, front: &[u8], n: u64, what: &[u8], buf: &mut [u8]) -> Out {
-    let a = say::put(o, front, buf);
-    let b = say::put_number(a, n, buf);
-    say::put(b, what, buf)
+fn total_kind(front: &[u8], n: u64, what: &[u8], out: &mut [u8], at: usize) -> usize {
+    let a = text::put(front, out, at);
+    let b = text::put_number(n, out, a);
+    text::put(what, out, b)
 }
 
 // How many files something happened to, where it did.
-fn total_files(o: Out, n: u64, what: &[u8], buf: &mut [u8]) -> Out {
+fn total_files(n: u64, what: &[u8], out: &mut [u8], at: usize) -> usize {
     if n == 0 {
-        return o;
+        return at;
     }
-    let a = say::put(o, b", ", buf);
-    let b = say::counted(a, n, b" file", buf);
-    say::put(b, what, buf)
+    let a = text::put(b", ", out, at);
+    let b = text::counted(n, b" file", out, a);
+    text::put(what, out, b)
 }
 
 // Reads all there is to read.
@@ -504,7 +446,9 @@ fn work(
 
 // Tells what was counted, and writes what is left.
 fn finish(s: State, buf: &mut [u8; 65536]) {
-    let o = total(s, buf);
+    let mut text = [0u8; TOTAL];
+    let n = total(s.tally, &mut text);
+    let o = say::put(s.out, &text[0..n], buf);
     say::flush(o, buf);
 }
 
@@ -512,10 +456,10 @@ fn finish(s: State, buf: &mut [u8; 65536]) {
 fn wants_help() -> bool {
     let mut first = [0u8; 8];
     let n = os::arg(1, &mut first);
-    if words::same(&first[..n], b"--help") {
+    if check::same(&first[..n], b"--help") {
         return true;
     }
-    words::same(&first[..n], b"-h")
+    check::same(&first[..n], b"-h")
 }
 
 // Room for an answer.

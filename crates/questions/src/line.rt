@@ -28,19 +28,19 @@ const POINT: u8 = 3;
 // What was read of a line so far: the number of its question; the letters of its word; the bytes of its arguments; how many words and
 // commas stand among these, and how many bytes in front of the ends of the first two; the high digit of half a byte; what is wrong.
 pub struct Line {
-    pub part: u8,
-    pub state: u8,
-    pub high: u8,
-    pub fault: u8,
-    pub call: usize,
-    pub size: usize,
-    pub used: usize,
-    pub words: usize,
-    pub word_one: usize,
-    pub word_two: usize,
-    pub commas: usize,
-    pub comma_one: usize,
-    pub comma_two: usize,
+    pub(crate) part: u8,
+    pub(crate) state: u8,
+    pub(crate) high: u8,
+    pub(crate) fault: u8,
+    pub(crate) call: usize,
+    pub(crate) size: usize,
+    pub(crate) used: usize,
+    pub(crate) words: usize,
+    pub(crate) word_one: usize,
+    pub(crate) word_two: usize,
+    pub(crate) commas: usize,
+    pub(crate) comma_one: usize,
+    pub(crate) comma_two: usize,
 }
 
 // A line, and where its next byte stands.
@@ -51,7 +51,7 @@ pub struct Step {
 
 // Where the arguments end: the first, the second, the third; those that the question does not want are empty. Or how many were found
 // in place of those wanted, and whether there are commas.
-pub enum Cut {
+pub(crate) enum Cut {
     At {
         one: usize,
         two: usize,
@@ -179,7 +179,7 @@ fn digit(b: u8) -> u8 {
 }
 
 // How many bytes `a` digits make, two for each byte, where `b` bytes have room.
-pub fn pairs(a: usize, b: usize) -> usize
+pub(crate) fn pairs(a: usize, b: usize) -> usize
     ensures { λ r. ⌜ (r + r ≤ a) × (r ≤ b) ⌝ }
 {
     let n = a / 2;
@@ -332,11 +332,11 @@ fn read_arguments(l: Line, text: &[u8], at: usize, data: &mut [u8]) -> Step
 
 // ---- the line
 
-// Where the line ends, from `from` on.
-fn line_end(text: &[u8], from: usize) -> usize
-    ensures { λ r. ⌜ from ≤ r ⌝ }
+// How many bytes stand in front of the first line end.
+pub(crate) fn line_end(text: &[u8]) -> usize
+    ensures { λ r. ⌜ r ≤ length (now (text .entry)) ⌝ }
 {
-    let mut at = from;
+    let mut at = 0;
     while at < text.len() {
         if text[at] == b'\n' {
             return at;
@@ -356,7 +356,7 @@ fn read_some(l: Line, text: &[u8], at: usize, data: &mut [u8], word: &mut [u8]) 
     }
     if l.part == OVER {
         return Step {
-            at: line_end(text, at + 1),
+            at: at + 1 + line_end(&text[at + 1..]),
             line: l,
         };
     }
@@ -384,7 +384,7 @@ pub fn read(l: Line, text: &[u8], from: usize, data: &mut [u8], word: &mut [u8])
 }
 
 // The line is whole.
-pub fn close(l: Line, word: &[u8]) -> Line {
+pub(crate) fn close(l: Line, word: &[u8]) -> Line {
     if l.part == WORD {
         return end_word(l, word);
     }
@@ -419,7 +419,7 @@ fn ends(wanted: usize, one: usize, two: usize, used: usize) -> Cut {
 
 // Cuts the bytes of a whole line into arguments: at the commas, or where there is none at the blanks. Where one is wanted and no comma
 // stands, all words are one.
-pub fn cut_line(l: Line) -> Cut {
+pub(crate) fn cut_line(l: Line) -> Cut {
     let wanted = words::wanted(l.call);
     if l.commas == 0 {
         if wanted != 1 {

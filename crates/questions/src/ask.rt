@@ -2,6 +2,9 @@
 ghost use Prim.Native.Nat.{_≤_};
 ghost use lib.ListN.{length};
 use crate::fault;
+use crate::line;
+use crate::line::Cut;
+use crate::line::Line;
 use form::Checked;
 use form::Verdict;
 use form::Written;
@@ -13,18 +16,28 @@ use paths::Found;
 const NAMES: usize = 64;
 
 // What is answered: yes or no; bytes at the front of the output; a part of the first argument; a number; a byte; nothing; no such type;
-// the number of a refusal; or what is wrong with an argument.
+// the number of a refusal; what is wrong with the line; how many arguments are wanted and how many were found, and whether there are
+// commas; or that nothing is asked.
 pub enum Answer {
     Yes,
     No,
     Bytes(usize),
-    Part { place: usize, size: usize },
+    Part {
+        place: usize,
+        size: usize,
+    },
     Number(usize),
     Byte(u8),
     None,
     Unknown,
     Refused(u8),
     Wrong(u8),
+    Count {
+        wanted: usize,
+        found: usize,
+        commas: bool,
+    },
+    Nothing,
 }
 
 // ---- answers
@@ -88,7 +101,7 @@ fn name_of(low: u8, high: u8) -> u16 {
 fn read_path(s: &[u8], names: &mut [u16]) -> usize
     ensures { λ r. ⌜ r ≤ length (now (names .exit)) ⌝ }
 {
-    let n = crate::line::pairs(s.len(), names.len());
+    let n = line::pairs(s.len(), names.len());
     let mut k = 0;
     while k < n {
         names[k] = name_of(s[k + k], s[k + k + 1]);
@@ -136,21 +149,28 @@ fn ask_text(call: usize, s: &[u8], out: &mut [u8]) -> Answer {
     }
 }
 
-fn ask_one(call: usize, a: &[u8], scratch: &mut [u8], out: &mut [u8]) -> Answer {
+// Questions that build nothing.
+fn judge_one(call: usize, a: &[u8]) -> Answer {
     match call {
         1 => level_of(form::check_value(a)),
         2 => level_of(form::check_type(a)),
-        7 => wrote(bounds::reduced(a, out)),
         8 => judged(types::is_simple_built_in_type(a)),
         9 => judged(types::is_null(a)),
-        11 => wrote(infer::least_type(a, scratch, out)),
-        12 => wrote(infer::type_of(a, scratch, out)),
-        16..=24 => ask_kind(call, a),
-        25..=28 => ask_byte(call, a, out),
         31 => part_of(paths::first_place(a)),
         35 => judged(paths::is_empty(a)),
         36 => count_of(paths::len(a)),
-        _ => ask_text(call, a, out),
+        _ => ask_kind(call, a),
+    }
+}
+
+fn ask_one(call: usize, a: &[u8], scratch: &mut [u8], out: &mut [u8]) -> Answer {
+    match call {
+        7 => wrote(bounds::reduced(a, out)),
+        11 => wrote(infer::least_type(a, scratch, out)),
+        12 => wrote(infer::type_of(a, scratch, out)),
+        25..=28 => ask_byte(call, a, out),
+        46..=49 => ask_text(call, a, out),
+        _ => judge_one(call, a),
     }
 }
 
@@ -182,21 +202,35 @@ fn ask_path(call: usize, c: &[u8], a: &[u8]) -> Answer {
     }
 }
 
-fn ask_two(call: usize, a: &[u8], b: &[u8], scratch: &mut [u8], out: &mut [u8]) -> Answer {
+// Questions that build nothing.
+fn judge_two(call: usize, a: &[u8], b: &[u8]) -> Answer {
     match call {
         3 => judged(types::is_conformant(a, b)),
         4 => judged(types::instance_of(a, b)),
+        10 => judged(values::is_conformant(a, b)),
+        _ => ask_path(call, a, b),
+    }
+}
+
+// What a context or a type becomes with another, or a value with a type.
+fn build_two(call: usize, a: &[u8], b: &[u8], scratch: &mut [u8], out: &mut [u8]) -> Answer {
+    match call {
         5 => wrote(bounds::common_supertype(a, b, scratch, out)),
         6 => wrote(bounds::common_subtype(a, b, scratch, out)),
-        10 => judged(values::is_conformant(a, b)),
         13 => wrote(retrieval::get_value_checked(a, b, out)),
         14 => wrote(retrieval::get_conformant_value(a, b, out)),
         15 => wrote(coercion::coerced(a, b, out)),
-        30 | 33 => ask_path(call, a, b),
         39 => wrote(context::zip(a, b, out)),
         40 => wrote(context::overwrite(a, b, out)),
-        45 => wrote(names::display(a, b, out)),
-        _ => ask_name(call, a, b, out),
+        _ => wrote(names::display(a, b, out)),
+    }
+}
+
+fn ask_two(call: usize, a: &[u8], b: &[u8], scratch: &mut [u8], out: &mut [u8]) -> Answer {
+    match call {
+        3 | 4 | 10 | 30 | 33 => judge_two(call, a, b),
+        29 | 32 | 34 | 43 | 44 => ask_name(call, a, b, out),
+        _ => build_two(call, a, b, scratch, out),
     }
 }
 
@@ -240,7 +274,7 @@ fn ask_three(call: usize, a: &[u8], b: &[u8], c: &[u8], out: &mut [u8]) -> Answe
 }
 
 // Asks the question with this number; `all` has the arguments, which end at `one`, `two` and `three`.
-pub fn ask(
+fn ask(
     call: usize,
     all: &[u8],
     one: usize,
@@ -262,5 +296,28 @@ pub fn ask(
         1 => ask_one(call, &all[0..one], scratch, out),
         2 => ask_two(call, &all[0..one], &all[one..two], scratch, out),
         _ => ask_three(call, &all[0..one], &all[one..two], &all[two..three], out),
+    }
+}
+
+// Asks what a line asks that is whole. `word` and `data` have its word and the bytes of its arguments.
+pub fn ask_line(l: Line, word: &[u8], data: &[u8], scratch: &mut [u8], built: &mut [u8]) -> Answer {
+    let whole = line::close(l, word);
+    if whole.fault != 0 {
+        return Answer::Wrong(whole.fault);
+    }
+    if whole.call == 0 {
+        return Answer::Nothing;
+    }
+    match line::cut_line(whole) {
+        Cut::At { one, two, three } => ask(whole.call, data, one, two, three, scratch, built),
+        Cut::Wrong {
+            wanted,
+            found,
+            commas,
+        } => Answer::Count {
+            wanted,
+            found,
+            commas,
+        },
     }
 }

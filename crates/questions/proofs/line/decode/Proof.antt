@@ -1,7 +1,7 @@
--- `verdicts::line::decode` meets its contract: the output keeps its length. Assumes nothing.
+-- `questions::line::decode` meets its contract: the output keeps its length. Assumes nothing.
 use borrow.Author.Needs.{needs}
-use Rattle.verdicts.proofs.line.decode.Statement.{statement}
-use Rattle.verdicts.proofs.line.decode.Tie as tie
+use Rattle.questions.proofs.line.decode.Statement.{statement}
+use Rattle.questions.proofs.line.decode.Tie as tie
 use Prim.Native.Nat.{_≤_, _-_}
 use lib.ListN.{length}
 use mathlib.Core.Path.{_≡_}

@@ -131,21 +131,6 @@ fn start(k: usize) -> usize {
     }
 }
 
-// All bytes are equal.
-pub fn same(a: &[u8], b: &[u8]) -> bool {
-    if a.len() != b.len() {
-        return false;
-    }
-    let mut i = 0;
-    while i < a.len() {
-        if a[i] != b[i] {
-            return false;
-        }
-        i += 1;
-    }
-    true
-}
-
 // Whether this is the k-th word, from 0 on.
 fn is_word(word: &[u8], k: usize) -> bool
     requires { ⌜ k < 49 ⌝ }
@@ -158,11 +143,11 @@ fn is_word(word: &[u8], k: usize) -> bool
     if SIZE < to {
         return false;
     }
-    same(word, &LETTERS[from..to])
+    check::same(word, &LETTERS[from..to])
 }
 
 // The question with this word.
-pub fn find(word: &[u8]) -> usize {
+pub(crate) fn find(word: &[u8]) -> usize {
     let mut k: usize = 0;
     while k < QUESTIONS {
         if is_word(word, k) {
@@ -174,7 +159,7 @@ pub fn find(word: &[u8]) -> usize {
 }
 
 // How many arguments a question wants.
-pub fn wanted(call: usize) -> usize {
+pub(crate) fn wanted(call: usize) -> usize {
     if call == 0 {
         return 0;
     }

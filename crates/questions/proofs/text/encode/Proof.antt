@@ -1,20 +1,20 @@
--- `verdicts::ask::read_path` meets its contract: the measure is the number of names left. Assumes nothing.
+-- `questions::text::encode` meets its contract: the output keeps its length. Assumes nothing.
 use borrow.Author.Needs.{needs}
-use Rattle.verdicts.proofs.ask.read_path.Statement.{statement}
-use Rattle.verdicts.proofs.ask.read_path.Tie as tie
+use Rattle.questions.proofs.text.encode.Statement.{statement}
+use Rattle.questions.proofs.text.encode.Tie as tie
 use Prim.Native.Nat.{_≤_, _-_}
-use lib.ListN.{length}
+use lib.ListN.{length, length-set}
 use mathlib.Core.Path.{_≡_}
 use native.Mathlib.Omega.{arith}
 
 abbrev Inv-loop : tie.InvT-loop
-Inv-loop s names₀ n k₀ names k = (k ≤ n) × (length names ≡ length names₀)
+Inv-loop bytes out₀ n k₀ out k = (k ≤ n) × (length out ≡ length out₀)
 
 abbrev μ-loop : tie.MeasureT-loop
-μ-loop s names₀ n k₀ names k = n - k
+μ-loop bytes out₀ n k₀ out k = n - k
 
-pub read-path-spec : {M : Type 1} → statement M
-read-path-spec =
+pub encode-spec : {M : Type 1} → statement M
+encode-spec =
     tie.close
     (tie.spec
     Inv-loop
@@ -22,12 +22,13 @@ read-path-spec =
     (λ c κs. search needs)
     (λ c. search needs)
     (λ c. search needs)
-    (λ c. search needs)
-    (λ c. search needs)
+    (λ c κs. search needs)
     (λ c. search needs)
     (λ c. search needs)
     (λ c κs. search needs)
     (λ c. search needs)
+    (λ c. search needs)
+    (λ c. simp length-set (omega arith))
     (λ c. search needs)
     (λ c. search needs)
     (λ c. search needs)

@@ -1,7 +1,7 @@
--- `verdicts::words::find` is safe and ends: the measure is the number of words left. Assumes nothing.
+-- `questions::words::find` is safe and ends: the measure is the number of words left. Assumes nothing.
 use borrow.Author.Needs.{needs}
-use Rattle.verdicts.proofs.words.find.Statement.{statement}
-use Rattle.verdicts.proofs.words.find.Tie as tie
+use Rattle.questions.proofs.words.find.Statement.{statement}
+use Rattle.questions.proofs.words.find.Tie as tie
 use Prim.Native.Nat.{_≤_, _-_}
 
 abbrev Inv-loop : tie.InvT-loop

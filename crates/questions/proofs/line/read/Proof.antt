@@ -1,7 +1,7 @@
--- `verdicts::line::read` meets its contract: each turn goes on; the data and the word keep their lengths. Assumes nothing.
+-- `questions::line::read` meets its contract: each turn goes on; the data and the word keep their lengths. Assumes nothing.
 use borrow.Author.Needs.{needs}
-use Rattle.verdicts.proofs.line.read.Statement.{statement}
-use Rattle.verdicts.proofs.line.read.Tie as tie
+use Rattle.questions.proofs.line.read.Statement.{statement}
+use Rattle.questions.proofs.line.read.Tie as tie
 use Prim.Native.Nat.{_≤_, _-_}
 use lib.ListN.{length}
 use mathlib.Core.Path.{_≡_}

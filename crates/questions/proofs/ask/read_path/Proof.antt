@@ -1,20 +1,20 @@
--- `verdicts::say::encode` meets its contract: the output keeps its length. Assumes nothing.
+-- `questions::ask::read_path` meets its contract: the measure is the number of names left. Assumes nothing.
 use borrow.Author.Needs.{needs}
-use Rattle.verdicts.proofs.say.encode.Statement.{statement}
-use Rattle.verdicts.proofs.say.encode.Tie as tie
+use Rattle.questions.proofs.ask.read_path.Statement.{statement}
+use Rattle.questions.proofs.ask.read_path.Tie as tie
 use Prim.Native.Nat.{_≤_, _-_}
-use lib.ListN.{length, length-set}
+use lib.ListN.{length}
 use mathlib.Core.Path.{_≡_}
 use native.Mathlib.Omega.{arith}
 
 abbrev Inv-loop : tie.InvT-loop
-Inv-loop bytes out₀ n k₀ out k = (k ≤ n) × (length out ≡ length out₀)
+Inv-loop s names₀ n k₀ names k = (k ≤ n) × (length names ≡ length names₀)
 
 abbrev μ-loop : tie.MeasureT-loop
-μ-loop bytes out₀ n k₀ out k = n - k
+μ-loop s names₀ n k₀ names k = n - k
 
-pub encode-spec : {M : Type 1} → statement M
-encode-spec =
+pub read-path-spec : {M : Type 1} → statement M
+read-path-spec =
     tie.close
     (tie.spec
     Inv-loop
@@ -22,13 +22,12 @@ encode-spec =
     (λ c κs. search needs)
     (λ c. search needs)
     (λ c. search needs)
-    (λ c κs. search needs)
+    (λ c. search needs)
+    (λ c. search needs)
     (λ c. search needs)
     (λ c. search needs)
     (λ c κs. search needs)
     (λ c. search needs)
-    (λ c. search needs)
-    (λ c. simp length-set (omega arith))
     (λ c. search needs)
     (λ c. search needs)
     (λ c. search needs)
