@@ -1,6 +1,6 @@
 -- The calls: refusals in their order, and the answer.
 -- Assumes nothing.
-use Prim.Native.Nat.{ℕ, zero, suc, _+_, _-_, _<_, _≤_}
+use Prim.Native.Nat.{ℕ, zero, suc, _+_, _-_, _<_, _≤_, max, min}
 use native.Mathlib.Omega.{arith}
 use mathlib.Core.Path.{_≡_, refl, sym, ap, ap₂, subst, _∙_}
 use mathlib.Core.Bool.{Bool, true, false, _&&_, false≢true}
@@ -12,7 +12,7 @@ use lib.Dec.{leb}
 use borrow.Author.Tests.{le-leb, lt-leb, leb-true, leb-false}
 use Rattle.form.specs.Limits.{nameWidth, mostBytes, valueLevels}
 use Rattle.form.specs.Trees.{Val, v-context, Entries}
-use Rattle.form.specs.Form.{Bytes, bytes, numAt, countEntries, encLeaf, encV, levelV, WfLeaf, WfV}
+use Rattle.form.specs.Form.{Bytes, bytes, numAt, countEntries, encLeaf, encV, levelV, levelEntries, WfLeaf, WfV}
 use Rattle.form.specs.Outcome.{Outcome, done, refused, _>>=_, _>>_, check, orRefuse, fits, pick}
 use Rattle.form.specs.Read.{got, readV, readValue, checkValue}
 use Rattle.form.specs.Answers.{onto, Built, checked}
@@ -20,11 +20,11 @@ use Rattle.form.specs.declared.Checked.{Checked}
 use Rattle.form.specs.declared.Checked.the-variants as checked-is
 use Rattle.form.specs.declared.Written.{Written}
 use Rattle.form.specs.declared.Written.the-variants as written-is
-use Rattle.form.proofs.Accepted.{Accepted, refused-done}
+use Rattle.form.proofs.Accepted.{Accepted, refused-done, level-told, level-refused}
 use Rattle.form.proofs.ExactValues.{enc-readV, read-encV}
 use Rattle.form.proofs.Exact.{bytes-drop}
-use Rattle.form.proofs.Values.{read-upV, value-accepted, value-accepts, value-told, encV-same, encV-some}
-use Rattle.order.specs.Size.{size-val, size-entries}
+use Rattle.form.proofs.Values.{read-upV, value-accepted, value-accepts, ValueTold, value-told, encV-same, encV-some}
+use Rattle.order.specs.Size.{size-val}
 use Rattle.order.proofs.LeastSize.{length-encV}
 use Rattle.types.specs.At.{Ok}
 use Rattle.types.proofs.Reading.{is-ok, ok-got}
@@ -35,23 +35,25 @@ use Rattle.retrieval.specs.Retrieve.{mapped, nothing}
 use Rattle.retrieval.specs.Filling.{fill, Filled}
 use Rattle.retrieval.specs.Calls.{small, result}
 use Rattle.retrieval.proofs.Pieces.{length-fill}
+use Rattle.retrieval.proofs.Contexts.{size-context}
 use Rattle.retrieval.proofs.Theorems.{none-some, some-same, mapped-is}
 use Rattle.paths.specs.Paths.{value-of, entries-of}
 use Rattle.paths.specs.Places.{wholeAt, contextAt, lentCode}
 use Rattle.paths.specs.Calls.{mostNames, contextOf}
 use Rattle.paths.proofs.Whole.{whole-is, is-whole, of-context, context-read, read-context, Ctx, ctx-of}
 use Rattle.paths.proofs.Searching.{at-context, WholeContext, whole-context, whole-other, Hit, hit-whole, hit-inside, hit-start, Miss}
-use Rattle.paths.proofs.Calling.{Opened, read-refused, read-whole}
+use Rattle.paths.proofs.Calling.{Opened, opened, read-whole}
 use Rattle.paths.proofs.Splitting.{Around, well-context, well-entries, text-context, count-context, around-some}
 use Rattle.updates.specs.Update.{create, apply, zip, overwrite, remove, moved, moveEntry, setEntry, setNull, removeEntry}
 use Rattle.updates.specs.Writing.{updated, made, Wrote, Small, begun, closed, Updates, merged, Merges}
 use Rattle.context.specs.Calls.{Given, givenOf, Two, twoOf, createEntriesCall, applyEntriesCall, setEntryCall, setNullCall, joinedCall, removeEntryCall, moveEntryCall}
-use Rattle.context.specs.Answering.{Holds, answered}
+use Rattle.context.specs.Answering.{Holds, answered, levelOf, depthOf, valueIn}
 use Rattle.updates.specs.declared.Made.{Made}
 use Rattle.updates.specs.declared.Made.the-variants as made-is
 use Rattle.updates.proofs.Entering.{Some, wrote-bytes, wrote-not, updates-is}
 use Rattle.updates.proofs.Formed.{Names, well-updated, well-joined, well-removed, level-removed}
 use Rattle.updates.proofs.Inserting.{remove-absent}
+use Rattle.updates.proofs.Levels.{level-value, level-updated, level-merged, size-merged}
 use Rattle.updates.proofs.Pieces.{length-begun}
 use Rattle.updates.proofs.Updating.{count-less, text-remove}
 
@@ -79,6 +81,10 @@ above-not a b h = by (leb a b) refl
 module _ (spare : List ℕ) (n : ℕ) (w : Val) (H : Holds spare n w) where
   pub finish-long : (old : List ℕ) → mostBytes < n → Built (result (length old) w) old old (written-is.Refused 17)
   finish-long old h = built-refused (result (length old) w) 17 old (result-long (length old) w (omega (arith, H .long)))
+
+  -- `give_within`
+  pub within-done : n ≤ mostBytes → levelV w ≤ valueLevels → (old new : List ℕ) (a : Written) → Built (fits (length old) (take n spare)) old new a → Built (result (length old) w) old new a
+  within-done k l old new a B = subst (λ o. Built o old new a) (ap (fits (length old)) (H .text k) ∙ result-small (length old) w (omega (arith, H .long)) l) B
 
   module _ (k : n ≤ mostBytes) (s : List ℕ) (es : s ≡ take n spare) (b : Bytes s) (r : Checked) (c : checked r ≡ checkValue s) where
     is-text : s ≡ encV w
@@ -113,12 +119,25 @@ unfolding fill onto
 fill-front bs old n e k =
     ap (λ (z : List ℕ). take n (z ++ drop (length z) old)) (take-all (length old) bs (omega arith)) ∙ take-at bs (drop (length bs) old) n (sym e)
 
+-- what was accepted has a level of at most 31
+context-low : (c : List ℕ) (es : Entries) → contextAt valueLevels c ≡ some es → Bytes c → levelV (v-context es) ≤ valueLevels
+context-low c es ec bc = enc-readV valueLevels c bc (v-context es) (length c) (context-read valueLevels c es ec) .low
+
+pub value-low : (v : List ℕ) → Bytes v → (x : Val) → wholeAt valueLevels v ≡ some x → levelV x ≤ valueLevels
+value-low v bv x ex = enc-readV valueLevels v bv x (length v) (whole-is valueLevels v x ex) .low
+
+-- a spare place of 512 bytes for what has at most so many, or one for everything
+pub few-room : (g n : ℕ) → g ≤ 512 → 512 ≡ n → min g mostBytes ≤ n
+few-room g n h e = omega arith
+
+pub all-room : (g n : ℕ) → mostBytes ≡ n → min g mostBytes ≤ n
+all-room g n e = omega arith
+
 -- a copy of an accepted context
 pub copied-is : (c : List ℕ) (es : Entries) (room : ℕ) → contextAt valueLevels c ≡ some es → Bytes c → length c ≤ mostBytes → fits room c ≡ result room (v-context es)
 copied-is c es room ec bc kc =
     let text = text-context valueLevels c es bc (ctx-of valueLevels c es ec) in
-    let low = enc-readV valueLevels c bc (v-context es) (length c) (context-read valueLevels c es ec) .low in
-    ap (fits room) text ∙ result-small room (v-context es) (omega (arith, ap length text)) low
+    ap (fits room) text ∙ result-small room (v-context es) (omega (arith, ap length text)) (context-low c es ec bc)
 
 none-of : (o : Option Entries) → mapped v-context o ≡ none → o ≡ none
 none-of none e = refl
@@ -145,7 +164,7 @@ module _ (strict : Bool) (c p v old : List ℕ) (es : Entries) (x : Val) (ec : c
     unfolding _>>=_
     build-not e = built-refused (answered (length old) (updated strict p x es)) 16 old (ap (answered (length old)) (none-of (updated strict p x es) (wrote-not (mapped v-context (updated strict p x es)) spare mid m r wrote e .0)))
 
-    pub build-done : (n : ℕ) → r ≡ made-is.Bytes n → length spare ≡ mostBytes → Names p → (new : List ℕ) (a : Written) → ((w : Val) → Holds mid n w → Built (result (length old) w) old new a) → Built (answered (length old) (updated strict p x es)) old new a
+    pub build-done : (n : ℕ) → r ≡ made-is.Bytes n → min m mostBytes ≤ length spare → Names p → (new : List ℕ) (a : Written) → ((w : Val) → Holds mid n w → levelV w ≤ max valueLevels (length p + levelV x) → Built (result (length old) w) old new a) → Built (answered (length old) (updated strict p x es)) old new a
     unfolding _>>=_
     build-done n e k ns new a F = go (mapped-is v-context (updated strict p x es) (S .w) (S .is))
       where
@@ -159,24 +178,34 @@ module _ (strict : Bool) (c p v old : List ℕ) (es : Entries) (x : Val) (ec : c
             record {
               well = well-updated strict p x es fs ns wx (well-entries valueLevels c es bc C) (omega (arith, C .all)) u;
               long = S .long ∙ ap (λ w. length (encV w)) q;
-              text = λ l. ap (take n) (S .out) ∙ fill-front (encV (S .w)) spare n (S .long) (omega (arith, k)) ∙ ap encV q;
+              text = λ l. ap (take n) (S .out) ∙ fill-front (encV (S .w)) spare n (S .long) (omega (arith, k, wrote .short n e)) ∙ ap encV q;
             } in
-            subst (λ o. Built (answered (length old) o) old new a) (sym u) (F (v-context fs) H)
+            subst (λ o. Built (answered (length old) o) old new a) (sym u) (F (v-context fs) H (omega (arith, level-updated strict p x es fs u, context-low c es ec bc)))
+
+-- the spare place holds what was built
+pub build-room : (strict : Bool) (c p v spare mid : List ℕ) (m : ℕ) (r : Made) (n : ℕ) → Ok (contextAt valueLevels c) → Ok (wholeAt valueLevels v) → Updates strict (contextAt valueLevels c) p (wholeAt valueLevels v) spare mid m r → r ≡ made-is.Bytes n → min m mostBytes ≤ length spare → n ≤ mostBytes → n ≤ length mid
+build-room strict c p v spare mid m r n oc ov U e k l =
+    let A = ok-got (contextAt valueLevels c) oc in
+    let B = ok-got (wholeAt valueLevels v) ov in
+    let W = updates-is strict (contextAt valueLevels c) (A .0) p (wholeAt valueLevels v) (B .0) spare mid m r (A .1) (B .1) U in
+    let S = wrote-bytes (mapped v-context (updated strict p (B .0) (A .0))) spare mid m n r W e in
+    omega (arith, W .short n e, ap length (S .out), length-fill (encV (S .w)) spare)
 
 -- ---- the arguments of create_entries and apply_entries
-pub record Ready (c : List ℕ) (k : ℕ) (v : List ℕ) : Type 0 where
+pub record Ready (c : List ℕ) (k : ℕ) (v : List ℕ) (d : ℕ) : Type 0 where
   pub given : Given
   pub is : givenOf c k v ≡ done given
   pub read-c : readValue c ≡ done (v-context (given .entries))
   pub read-v : readValue v ≡ done (given .value)
   pub names : k ≤ mostNames
+  pub deep : levelV (given .value) ≡ d
 
-pub ready : (c : List ℕ) (k : ℕ) (v : List ℕ) (n : ℕ) → n ≡ lentCode (givenOf c k v) → n ≡ 0 → Ready c k v
+pub ready : (c : List ℕ) (k : ℕ) (v : List ℕ) (r : Checked) (d : ℕ) → checked r ≡ levelOf (givenOf c k v) → r ≡ checked-is.Accepted d → Ready c k v d
 unfolding givenOf _>>=_ _>>_
-ready c k v n e z = go (readValue c) refl (leb k mostNames) refl (readValue v) refl (e)
+ready c k v r d e z = go (readValue c) refl (leb k mostNames) refl (readValue v) refl (sym e ∙ ap checked z)
   where
-    last : (self x : Val) → readValue c ≡ done self → leb k mostNames ≡ true → readValue v ≡ done x → (o : Option Entries) → entries-of self ≡ o → n ≡ lentCode {X = Given} (do es ← orRefuse 12 o; done (record { entries = es; value = x })) → Ready c k v
-    last self x rc l rv none q h = absurd (omega (arith, h))
+    last : (self x : Val) → readValue c ≡ done self → leb k mostNames ≡ true → readValue v ≡ done x → (o : Option Entries) → entries-of self ≡ o → levelOf (do es ← orRefuse 12 o; done (record { entries = es; value = x })) ≡ done d → Ready c k v d
+    last self x rc l rv none q h = absurd (refused-done h)
     last self x rc l rv (some es) q h =
         record {
           given = record { entries = es; value = x };
@@ -184,46 +213,57 @@ ready c k v n e z = go (readValue c) refl (leb k mostNames) refl (readValue v) r
           read-c = rc ∙ ap done (of-context self es q);
           read-v = rv;
           names = leb-true k mostNames l;
+          deep = (cc);
         }
 
-    go : (a : Outcome Val) → readValue c ≡ a → (b : Bool) → leb k mostNames ≡ b → (d : Outcome Val) → readValue v ≡ d
-        → n ≡ lentCode {X = Given} (do self ← a; check 11 b; x ← d; es ← orRefuse 12 (entries-of self); done (record { entries = es; value = x })) → Ready c k v
-    go (refused m) rc b l d rv h = absurd (omega (arith, h, read-refused c m rc))
-    go (done self) rc false l d rv h = absurd (omega (arith, h))
-    go (done self) rc true l (refused m) rv h = absurd (omega (arith, h, read-refused v m rv))
-    go (done self) rc true l (done x) rv h = last self x rc l rv (entries-of self) refl h
+    go : (a : Outcome Val) → readValue c ≡ a → (b : Bool) → leb k mostNames ≡ b → (x : Outcome Val) → readValue v ≡ x
+        → levelOf (do self ← a; check 11 b; y ← x; es ← orRefuse 12 (entries-of self); done (record { entries = es; value = y })) ≡ done d → Ready c k v d
+    go (refused m) rc b l x rv h = absurd (refused-done h)
+    go (done self) rc false l x rv h = absurd (refused-done h)
+    go (done self) rc true l (refused m) rv h = absurd (refused-done h)
+    go (done self) rc true l (done y) rv h = last self y rc l rv (entries-of self) refl h
+
+pub given-refused : (c : List ℕ) (k : ℕ) (v : List ℕ) (r : Checked) (n : ℕ) → checked r ≡ levelOf (givenOf c k v) → r ≡ checked-is.Refused n → givenOf c k v ≡ refused n
+given-refused c k v r n e z = level-refused (λ g. levelV (g .value)) (givenOf c k v) n (sym e ∙ ap checked z)
+
+-- an accepted value and its level
+pub told : (s : List ℕ) → Bytes s → (r : Checked) (d : ℕ) → r ≡ checked-is.Accepted d → checked r ≡ checkValue s → ValueTold s d
+told s b r d e c = value-told s b d (sym c ∙ ap checked e)
 
 module _ (c : List ℕ) (k : ℕ) (v : List ℕ) where
-  pub given-value : (n : ℕ) → readValue c ≡ refused n → n ≡ lentCode (givenOf c k v)
+  pub given-value : (n : ℕ) → readValue c ≡ refused n → refused n ≡ levelOf (givenOf c k v)
   unfolding givenOf _>>=_
   given-value n e = rw e
 
   module _ (A : held.Holds c) where
-    pub given-names : mostNames < k → 11 ≡ lentCode (givenOf c k v)
+    pub given-names : mostNames < k → refused 11 ≡ levelOf (givenOf c k v)
     unfolding givenOf _>>=_ _>>_
     given-names h = rw (A .whole, lt-leb k mostNames h)
 
     module _ (h : k ≤ mostNames) where
-      pub given-second : (n : ℕ) → readValue v ≡ refused n → n ≡ lentCode (givenOf c k v)
+      pub given-second : (n : ℕ) → readValue v ≡ refused n → refused n ≡ levelOf (givenOf c k v)
       unfolding givenOf _>>=_ _>>_
       given-second n e = rw (A .whole, le-leb k mostNames h, e)
 
-      module _ (B : held.Holds v) where
-        pub given-other : (getD c 0 0 ≡ 11 → ⊥) → 12 ≡ lentCode (givenOf c k v)
+      module _ (d : ℕ) (B : ValueTold v d) where
+        pub given-other : (getD c 0 0 ≡ 11 → ⊥) → refused 12 ≡ levelOf (givenOf c k v)
         unfolding givenOf _>>=_ _>>_
-        given-other d = rw (A .whole, le-leb k mostNames h, B .whole, whole-other valueLevels c (A .v) (read-whole c (A .v) (A .whole)) d)
+        given-other f = rw (A .whole, le-leb k mostNames h, B .reads, whole-other valueLevels c (A .v) (read-whole c (A .v) (A .whole)) f)
 
-        pub given-not : getD c 0 0 ≡ 11 → 0 ≡ lentCode (givenOf c k v)
+        pub given-level : getD c 0 0 ≡ 11 → done d ≡ levelOf (givenOf c k v)
         unfolding givenOf _>>=_ _>>_
-        given-not e = let K = whole-context valueLevels c (A .v) (read-whole c (A .v) (A .whole)) e in rw (A .whole, le-leb k mostNames h, B .whole, K .is)
+        given-level e = let K = whole-context valueLevels c (A .v) (read-whole c (A .v) (A .whole)) e in rw (A .whole, le-leb k mostNames h, B .reads, K .is) (ap done (sym (B .deep)))
 
 -- ---- create_entries and apply_entries
-module _ {c : List ℕ} {k : ℕ} {v : List ℕ} (R : Ready c k v) (bc : Bytes c) (bv : Bytes v) where
+module _ {c : List ℕ} {k : ℕ} {v : List ℕ} {d : ℕ} (R : Ready c k v d) (bc : Bytes c) (bv : Bytes v) where
   pub ready-context : contextAt valueLevels c ≡ some (R .given .entries)
   ready-context = at-context valueLevels c (v-context (R .given .entries)) (R .given .entries) (read-whole c (v-context (R .given .entries)) (R .read-c)) refl
 
   pub ready-value : wholeAt valueLevels v ≡ some (R .given .value)
   ready-value = read-whole v (R .given .value) (R .read-v)
+
+  pub ready-level : (x : Val) → wholeAt valueLevels v ≡ some x → levelV x ≤ d
+  ready-level x e = omega (arith, R .deep, ap levelV (some-same (sym ready-value ∙ e)))
 
   pub ready-small : (p : List ℕ) → k ≡ length p → Small c p v
   ready-small p e = record { bytes-c = value-accepted c bc (v-context (R .given .entries)) (R .read-c) .short; names = omega (arith, R .names); bytes-v = value-accepted v bv (R .given .value) (R .read-v) .short }
@@ -236,11 +276,11 @@ apply-is : (c p v : List ℕ) (room : ℕ) (g : Given) → givenOf c (length p) 
 unfolding _>>=_
 apply-is c p v room g e = rw e
 
-module _ (c p v old new : List ℕ) (a : Written) where
-  pub create-done : (R : Ready c (length p) v) → Built (answered (length old) (updated false p (R .given .value) (R .given .entries))) old new a → Built (createEntriesCall c p v (length old)) old new a
+module _ (c p v old new : List ℕ) (d : ℕ) (a : Written) where
+  pub create-done : (R : Ready c (length p) v d) → Built (answered (length old) (updated false p (R .given .value) (R .given .entries))) old new a → Built (createEntriesCall c p v (length old)) old new a
   create-done R B = subst (λ o. Built o old new a) (create-is c p v (length old) (R .given) (R .is)) B
 
-  pub apply-done : (R : Ready c (length p) v) → Built (answered (length old) (updated true p (R .given .value) (R .given .entries))) old new a → Built (applyEntriesCall c p v (length old)) old new a
+  pub apply-done : (R : Ready c (length p) v d) → Built (answered (length old) (updated true p (R .given .value) (R .given .entries))) old new a → Built (applyEntriesCall c p v (length old)) old new a
   apply-done R B = subst (λ o. Built o old new a) (apply-is c p v (length old) (R .given) (R .is)) B
 
 -- a call whose arguments are refused
@@ -358,21 +398,41 @@ module _ (all : Bool) (c o old : List ℕ) where
             pub join-small : (length c ≤ mostBytes) × (length o ≤ mostBytes)
             join-small = (short-c, short-o)
 
-            pub join-done : (spare mid : List ℕ) (n : ℕ) → length spare ≡ mostBytes → Merges all (contextAt valueLevels c) (contextAt valueLevels o) spare mid n → (new : List ℕ) (a : Written) → ((w : Val) → Holds mid n w → Built (result (length old) w) old new a) → Built (joinedCall all c o (length old)) old new a
-            join-done spare mid n k M new a F =
-                let m = merges-is all (contextAt valueLevels c) (contextAt valueLevels o) (K .es) (L .es) spare mid n (K .read) (L .read) M in
-                let w = v-context (merged all (K .es) (L .es)) in
-                let C = ctx-of valueLevels c (K .es) (K .read) in
-                let D = ctx-of valueLevels o (L .es) (L .read) in
-                let sc : size-entries (K .es) ≤ mostBytes = omega (arith, C .all, short-c) in
-                let so : size-entries (L .es) ≤ mostBytes = omega (arith, D .all, short-o) in
-                let H : Holds mid n w =
-                record {
-                  well = well-joined all (K .es) (L .es) (well-entries valueLevels c (K .es) bc C) (well-entries valueLevels o (L .es) bo D) sc so;
-                  long = m .0;
-                  text = λ l. ap (take n) (m .1) ∙ fill-front (encV w) spare n (m .0) (omega (arith, k));
-                } in
-                subst (λ q. Built q old new a) (joined-is all c o (length old) (record { entries = K .es; others = L .es }) (two-done c o (A .v) (B .v) (K .es) (L .es) (A .whole) (B .whole) (ap entries-of (K .is)) (ap entries-of (L .is)))) (F w H)
+            pub join-done : (new : List ℕ) (a : Written) → ((es gs : Entries) → contextAt valueLevels c ≡ some es → contextAt valueLevels o ≡ some gs → Built (result (length old) (v-context (merged all es gs))) old new a) → Built (joinedCall all c o (length old)) old new a
+            join-done new a F =
+                subst (λ q. Built q old new a) (joined-is all c o (length old) (record { entries = K .es; others = L .es }) (two-done c o (A .v) (B .v) (K .es) (L .es) (A .whole) (B .whole) (ap entries-of (K .is)) (ap entries-of (L .is)))) (F (K .es) (L .es) (K .read) (L .read))
+
+-- `join_in`
+module _ (all : Bool) (c o : List ℕ) (es gs : Entries) (ec : contextAt valueLevels c ≡ some es) (eo : contextAt valueLevels o ≡ some gs) (spare mid : List ℕ) (n : ℕ) (M : Merges all (contextAt valueLevels c) (contextAt valueLevels o) spare mid n) (k : min (length c + length o) mostBytes ≤ length spare) where
+  abbrev both : Val
+  both = v-context (merged all es gs)
+
+  wrote-both : (n ≡ length (encV both)) × (mid ≡ fill (encV both) spare)
+  wrote-both = merges-is all (contextAt valueLevels c) (contextAt valueLevels o) es gs spare mid n ec eo M
+
+  merge-short : n ≤ length c + length o
+  merge-short = omega (arith, wrote-both .0, length-encV both, size-context (merged all es gs), size-merged all es gs, ctx-of valueLevels c es ec .all, ctx-of valueLevels o gs eo .all)
+
+  merge-inside : n ≤ mostBytes → n ≤ length mid
+  merge-inside l = omega (arith, merge-short, k, ap length (wrote-both .1), length-fill (encV both) spare)
+
+  pub merge-done : Bytes c → Bytes o → length c ≤ mostBytes → length o ≤ mostBytes → (old new : List ℕ) (a : Written) → ((w : Val) → Holds mid n w → levelV w ≤ valueLevels → Built (result (length old) w) old new a) → Built (result (length old) both) old new a
+  merge-done bc bo kc ko old new a F =
+      let C = ctx-of valueLevels c es ec in
+      let D = ctx-of valueLevels o gs eo in
+      let H : Holds mid n both =
+      record {
+        well = well-joined all es gs (well-entries valueLevels c es bc C) (well-entries valueLevels o gs bo D) (omega (arith, C .all)) (omega (arith, D .all));
+        long = wrote-both .0;
+        text = λ l. ap (take n) (wrote-both .1) ∙ fill-front (encV both) spare n (wrote-both .0) (omega (arith, merge-short, k));
+      } in
+      F both H (omega (arith, level-merged all es gs, context-low c es ec bc, context-low o gs eo bo))
+
+pub merge-room : (all : Bool) (c o spare mid : List ℕ) (n : ℕ) → Ok (contextAt valueLevels c) → Ok (contextAt valueLevels o) → Merges all (contextAt valueLevels c) (contextAt valueLevels o) spare mid n → min (length c + length o) mostBytes ≤ length spare → n ≤ mostBytes → n ≤ length mid
+merge-room all c o spare mid n oc oo M k =
+    let A = ok-got (contextAt valueLevels c) oc in
+    let B = ok-got (contextAt valueLevels o) oo in
+    merge-inside all c o (A .0) (B .0) (A .1) (B .1) spare mid n M k
 
 -- ---- remove_entry and move_entry
 closed-remove : (l n : ℕ) (c : List ℕ) (es : Entries) (at to count : ℕ) → Bytes c → Ctx l c es → Around n c es at to → count ≡ countEntries (remove n es) → closed count c at to ≡ encV (v-context (remove n es))
@@ -383,9 +443,20 @@ closed-remove l n c es at to count b C A e =
     ∙ ap₂ (λ (f g : List ℕ). (0x0B ∷ bytes 2 (countEntries (remove n es))) ++ (f ++ g)) (A .front) (A .back)
     ∙ sym (text-remove n 0 es (well-entries l c es b C))
 
-length-closed : (count : ℕ) (c : List ℕ) (at to : ℕ) → 3 ≤ at → at ≤ to → to ≤ length c → length (closed count c at to) ≤ length c
+length-closed : (count : ℕ) (c : List ℕ) (at to : ℕ) → 3 ≤ at → at ≤ to → to ≤ length c → length (closed count c at to) + to ≡ length c + at
 unfolding closed
 length-closed count c at to l h k = omega (arith, length-append (begun count c at) (drop to c), length-begun count c at l (omega arith), length-drop to c)
+
+-- `give_without`
+module _ (count : ℕ) (c : List ℕ) (at to : ℕ) (old : List ℕ) (l : 3 ≤ at) (h : at ≤ to) (k : to ≤ length c) where
+  pub without-short : length old < length c - (to - at) → Built (fits (length old) (closed count c at to)) old old (written-is.Refused 18)
+  without-short s = built-short (fits (length old) (closed count c at to)) (closed count c at to) old refl (omega (arith, length-closed count c at to l h k))
+
+  pub without-done : length c - (to - at) ≤ length old → (new : List ℕ) (n : ℕ) → n ≡ length (closed count c at to) → new ≡ fill (closed count c at to) old → Built (fits (length old) (closed count c at to)) old new (written-is.Bytes n)
+  unfolding fill
+  without-done s new n e f =
+      let z : length (closed count c at to) ≤ length old = omega (arith, length-closed count c at to l h k) in
+      built-wrote (fits (length old) (closed count c at to)) (closed count c at to) old new n refl e z (f ∙ ap (λ (b : List ℕ). onto b old) (take-all (length old) (closed count c at to) z))
 
 changed : (c : List ℕ) (f : Entries → Entries) (room : ℕ) (es : Entries) → contextOf c 0 ≡ done es → (do x ← contextOf c 0; result room (v-context (f x))) ≡ result room (v-context (f es))
 unfolding _>>=_
@@ -409,8 +480,11 @@ bytes-take (suc n) [] b = tt
 bytes-take (suc n) (x ∷ s) b = (b .0, bytes-take n s (b .1))
 
 module _ (c old : List ℕ) (n : ℕ) (O : Opened c 0) (bc : Bytes c) where
-  short : length c ≤ mostBytes
+  pub short : length c ≤ mostBytes
   short = opened-short c 0 (O .es) (O .is) bc
+
+  pub move-small : (p : List ℕ) → length p ≡ 2 → Small c p c
+  move-small p e = record { bytes-c = short; names = omega (arith, e); bytes-v = short }
 
   pub remove-copy : (at : ℕ) → Miss valueLevels c n at → (new : List ℕ) (a : Written) → Built (fits (length old) c) old new a → Built (removeEntryCall c n (length old)) old new a
   unfolding _>>=_
@@ -423,7 +497,7 @@ module _ (c old : List ℕ) (n : ℕ) (O : Opened c 0) (bc : Bytes c) where
       let v : value-of n (O .es) ≡ none = ap (value-of n) (ctx-same valueLevels c (O .es) (M .es) (O .ctx) (M .ctx)) ∙ M .value in
       subst (λ o. Built o old new a) (copied-is c (O .es) (length old) (O .ctx .read) bc short ∙ ap (λ x. result (length old) (v-context (moved n parent (O .es) x))) (sym v) ∙ sym (changed c (moveEntry n parent) (length old) (O .es) (O .is))) B
 
-  module _ (at to : ℕ) (H : Hit valueLevels c n at to) (count : ℕ) (ec : count + 1 ≡ numAt 2 1 c) (spare mid : List ℕ) (k : ℕ) (ek : k ≡ length (closed count c at to)) (em : mid ≡ fill (closed count c at to) spare) (full : length spare ≡ mostBytes) where
+  module _ (at to : ℕ) (H : Hit valueLevels c n at to) (count : ℕ) (ec : count + 1 ≡ numAt 2 1 c) where
     abbrev left : Entries
     left = remove n (H .es)
 
@@ -436,53 +510,107 @@ module _ (c old : List ℕ) (n : ℕ) (O : Opened c 0) (bc : Bytes c) where
         (subst (λ (z : ℕ). Around n c (H .es) at z) (sym (H .end)) (subst (λ (z : ℕ). Around n c (H .es) z (z + nameWidth + size-val (H .x))) (sym (H .start)) (around-some valueLevels n c (H .es) (H .x) bc (H .ctx) (H .value))))
         (omega (arith, ec, count-context valueLevels c (H .es) bc (H .ctx), count-less n 0 (H .es) (well-entries valueLevels c (H .es) bc (H .ctx)) (H .x) (H .value)))
 
-    long : k ≡ length (encV (v-context left))
-    long = ek ∙ ap length text
+    closed-short : length (closed count c at to) ≤ length c
+    closed-short = omega (arith, length-closed count c at to (omega (arith, H .start)) (omega (arith, hit-start H bc)) (hit-inside H bc), hit-start H bc)
 
-    pub cut-short : k ≤ mostBytes
-    cut-short = omega (arith, ek, length-closed count c at to (omega (arith, H .start)) (omega (arith, hit-start H bc)) (hit-inside H bc), short)
-
-    pub cut-inside : k ≤ length mid
-    cut-inside = omega (arith, cut-short, full, ap length em, length-fill (closed count c at to) spare)
-
-    pub cut-bytes : take k mid ≡ encV (v-context left)
-    cut-bytes = ap (take k) em ∙ fill-front (closed count c at to) spare k ek (omega (arith, cut-short)) ∙ text
+    rest-level : levelV (v-context left) ≤ valueLevels
+    rest-level = omega (arith, level-removed n (H .es), context-low c (H .es) (H .ctx .read) bc)
 
     same-es : O .es ≡ H .es
     same-es = ctx-same valueLevels c (O .es) (H .es) (O .ctx) (H .ctx)
 
-    pub remove-done : (new : List ℕ) (a : Written) → ((w : Val) → Holds mid k w → Built (result (length old) w) old new a) → Built (removeEntryCall c n (length old)) old new a
-    remove-done new a F =
-        subst (λ o. Built o old new a) (ap (λ x. result (length old) (v-context (remove n x))) (sym same-es) ∙ sym (changed c (removeEntry n) (length old) (O .es) (O .is)))
-        (F (v-context left) (record { well = well-removed n (H .es) well; long = long; text = λ l. cut-bytes }))
+    pub remove-done : (new : List ℕ) (a : Written) → Built (fits (length old) (closed count c at to)) old new a → Built (removeEntryCall c n (length old)) old new a
+    remove-done new a B =
+        subst (λ o. Built o old new a)
+        (ap (fits (length old)) text
+        ∙ result-small (length old) (v-context left) (omega (arith, closed-short, short, ap length text)) rest-level
+        ∙ ap (λ x. result (length old) (v-context (remove n x))) (sym same-es)
+        ∙ sym (changed c (removeEntry n) (length old) (O .es) (O .is))) B
 
     -- ---- the rest of the context, and the value
-    rest-level : levelV (v-context left) ≤ valueLevels
-    rest-level = omega (arith, level-removed n (H .es), enc-readV valueLevels c bc (v-context (H .es)) (length c) (context-read valueLevels c (H .es) (H .ctx .read)) .low)
-
-    pub cut-read : contextAt valueLevels (take k mid) ≡ some left
-    cut-read =
-        ap (contextAt valueLevels) (cut-bytes ∙ sym (append-nil (encV (v-context left))))
+    rest-read : contextAt valueLevels (closed count c at to) ≡ some left
+    rest-read =
+        ap (contextAt valueLevels) (text ∙ sym (append-nil (encV (v-context left))))
         ∙ read-context valueLevels (encV (v-context left) ++ []) left
         (read-encV (v-context left) valueLevels [] (well-removed n (H .es) well) rest-level ∙ ap (λ (z : ℕ). got (v-context left) z) (ap length (sym (append-nil (encV (v-context left))))))
 
-    abbrev piece : List ℕ
-    piece = take (to - (at + nameWidth)) (drop (at + nameWidth) c)
-
-    pub part-read : wholeAt valueLevels piece ≡ some (H .x)
+    part-read : wholeAt valueLevels (valueIn c at to) ≡ some (H .x)
     part-read =
-        is-whole valueLevels piece (H .x) (read-upV (valueLevels - 1) valueLevels piece (bytes-take (to - (at + nameWidth)) (drop (at + nameWidth) c) (bytes-drop (at + nameWidth) c bc)) (H .x) (length piece) (omega arith) (whole-is (valueLevels - 1) piece (H .x) (hit-whole H bc)))
+        is-whole valueLevels (valueIn c at to) (H .x) (read-upV (valueLevels - 1) valueLevels (valueIn c at to) (bytes-take (to - (at + nameWidth)) (drop (at + nameWidth) c) (bytes-drop (at + nameWidth) c bc)) (H .x) (length (valueIn c at to)) (omega arith) (whole-is (valueLevels - 1) (valueIn c at to) (H .x) (hit-whole H bc)))
 
-    pub move-small : (p : List ℕ) → length p ≡ 2 → Small (take k mid) p piece
-    move-small p e = record { bytes-c = omega (arith, ap length cut-bytes, long, cut-short); names = omega (arith, e); bytes-v = omega (arith, length-take (to - (at + nameWidth)) (drop (at + nameWidth) c), length-drop (at + nameWidth) c, short) }
+    pub rest-ok : Ok (contextAt valueLevels (closed count c at to))
+    rest-ok = is-ok (contextAt valueLevels (closed count c at to)) left rest-read
 
-    pub move-done : (parent : ℕ) (new : List ℕ) (a : Written) → ((es : Entries) (x : Val) → contextAt valueLevels (take k mid) ≡ some es → wholeAt valueLevels piece ≡ some x → Built (answered (length old) (updated false (parent ∷ n ∷ []) x es)) old new a) → Built (moveEntryCall c n parent (length old)) old new a
+    pub part-ok : Ok (wholeAt valueLevels (valueIn c at to))
+    part-ok = is-ok (wholeAt valueLevels (valueIn c at to)) (H .x) part-read
+
+    pub part-level : (d : ℕ) → levelV (v-context (O .es)) ≡ d → (x : Val) → wholeAt valueLevels (valueIn c at to) ≡ some x → levelV x ≤ d - 1
+    unfolding levelV
+    part-level d e x ex = omega (arith, e, ap levelEntries same-es, ap levelV (some-same (sym part-read ∙ ex)), level-value n (H .x) (H .es) (H .value))
+
+    pub move-done : (parent : ℕ) (new : List ℕ) (a : Written) → ((es : Entries) (x : Val) → contextAt valueLevels (closed count c at to) ≡ some es → wholeAt valueLevels (valueIn c at to) ≡ some x → Built (answered (length old) (updated false (parent ∷ n ∷ []) x es)) old new a) → Built (moveEntryCall c n parent (length old)) old new a
     unfolding _>>=_
     move-done parent new a F =
         subst (λ o. Built o old new a)
         (sym (ap (λ x. result (length old) (v-context (moved n parent (H .es) x))) (H .value))
         ∙ ap (λ x. result (length old) (v-context (moveEntry n parent x))) (sym same-es)
-        ∙ sym (changed c (moveEntry n parent) (length old) (O .es) (O .is))) (F left (H .x) cut-read part-read)
+        ∙ sym (changed c (moveEntry n parent) (length old) (O .es) (O .is))) (F left (H .x) rest-read part-read)
+
+-- `move_in`: the rest of the context in a spare place
+module _ (count : ℕ) (c : List ℕ) (at to : ℕ) (l : 3 ≤ at) (h : at + nameWidth ≤ to) (k : to ≤ length c) (spare mid : List ℕ) (n : ℕ) (en : n ≡ length (closed count c at to)) (em : mid ≡ fill (closed count c at to) spare) (room : length c ≤ length spare) where
+  cut-short : n ≤ length c
+  cut-short = omega (arith, en, length-closed count c at to l (omega arith) k)
+
+  pub cut-inside : n ≤ length mid
+  cut-inside = omega (arith, cut-short, ap length em, length-fill (closed count c at to) spare)
+
+  pub cut-is : take n mid ≡ closed count c at to
+  cut-is = ap (take n) em ∙ fill-front (closed count c at to) spare n en (omega (arith, cut-short))
+
+  pub cut-ok : Ok (contextAt valueLevels (closed count c at to)) → Ok (contextAt valueLevels (take n mid))
+  cut-ok o = rw cut-is o
+
+  pub cut-small : (p : List ℕ) → Small c p c → Small (take n mid) p (valueIn c at to)
+  cut-small p S = record { bytes-c = omega (arith, S .bytes-c, cut-short, length-take n mid); names = S .names; bytes-v = omega (arith, S .bytes-c, length-take (to - (at + nameWidth)) (drop (at + nameWidth) c), length-drop (at + nameWidth) c) }
+
+-- `open`
+pub record Deep (c : List ℕ) (d : ℕ) : Type 0 where
+  pub opened : Opened c 0
+  pub level : levelV (v-context (opened .es)) ≡ d
+
+pub deep : (c : List ℕ) (r : Checked) (d : ℕ) → checked r ≡ depthOf (contextOf c 0) → r ≡ checked-is.Accepted d → Deep c d
+deep c r d e z = level-told (λ es. levelV (v-context es)) (contextOf c 0) d (sym e ∙ ap checked z) by
+  where
+    by : (es : Entries) → contextOf c 0 ≡ done es → levelV (v-context es) ≡ d → Deep c d
+    by es q y =
+        let O = opened c 0 0 (sym (ap lentCode q)) refl in
+        let f : done (O .es) ≡ done es = sym (O .is) ∙ q in
+        let g : O .es ≡ es = cc in
+        record { opened = O; level = ap (λ x. levelV (v-context x)) g ∙ y }
+
+pub deep-some : {c : List ℕ} {d : ℕ} → Deep c d → 1 ≤ d
+unfolding levelV
+deep-some D = omega (arith, D .level)
+
+pub deep-refused : (c : List ℕ) (r : Checked) (n : ℕ) → checked r ≡ depthOf (contextOf c 0) → r ≡ checked-is.Refused n → contextOf c 0 ≡ refused n
+deep-refused c r n e z = level-refused (λ es. levelV (v-context es)) (contextOf c 0) n (sym e ∙ ap checked z)
+
+module _ (c : List ℕ) where
+  pub open-value : (n : ℕ) → readValue c ≡ refused n → refused n ≡ depthOf (contextOf c 0)
+  unfolding contextOf _>>=_
+  open-value n e = rw e
+
+  module _ (d : ℕ) (B : ValueTold c d) where
+    pub open-byte : 0 < length c
+    open-byte = omega (arith, encV-some (B .tree), ap length (B .accepted .bytes))
+
+    pub open-other : (getD c 0 0 ≡ 11 → ⊥) → refused 12 ≡ depthOf (contextOf c 0)
+    unfolding contextOf _>>=_ _>>_
+    open-other f = rw (B .reads, whole-other valueLevels c (B .tree) (read-whole c (B .tree) (B .reads)) f)
+
+    pub open-level : getD c 0 0 ≡ 11 → done d ≡ depthOf (contextOf c 0)
+    unfolding contextOf _>>=_ _>>_
+    open-level e = let K = whole-context valueLevels c (B .tree) (read-whole c (B .tree) (B .reads)) e in rw (B .reads, K .is) (ap done (sym (ap levelV (sym (K .is)) ∙ B .deep)))
 
 -- a name that is there is one of the entries
 pub some-entry : {l : ℕ} {c : List ℕ} {n at to : ℕ} (H : Hit l c n at to) → Bytes c → 1 ≤ numAt 2 1 c

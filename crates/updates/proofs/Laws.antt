@@ -1,13 +1,14 @@
--- What is proved of updates, in one place: what stands at every path behind an update, when apply refuses, and that results are well-formed.
+-- What is proved of updates, in one place: what stands at every path behind an update, when apply refuses, that results are well-formed, and their levels.
 -- Assumes nothing.
-use Prim.Native.Nat.{ℕ, _≤_}
+use Prim.Native.Nat.{ℕ, _+_, _≤_, max}
 use mathlib.Core.Path.{_≡_}
 use mathlib.Core.Bool.{Bool}
 use mathlib.Core.Option.{Option, none, some}
 use mathlib.Core.List.{List, [], _∷_, _++_}
+use lib.ListN.{length}
 use Rattle.form.specs.Limits.{mostBytes}
 use Rattle.form.specs.Trees.{Val, v-context, Entries, no-entries, entry}
-use Rattle.form.specs.Form.{WfV, WfEntries}
+use Rattle.form.specs.Form.{levelV, WfV, WfEntries}
 use Rattle.order.specs.Size.{size-entries}
 use Rattle.retrieval.specs.Retrieve.{nothing}
 use Rattle.paths.specs.Paths.{value-of, entries-of, given, or-empty, search}
@@ -15,7 +16,8 @@ use Rattle.updates.specs.Update.{insert, create, apply, zip, overwrite, 
 use Rattle.updates.specs.Writing.{updated, merged}
 use Rattle.updates.proofs.Theorems.{Apart, Blocked, created-found, created-other, created-inside, created-way, apply-create, apply-refuses, refuses-apply, set-create, null-create, move-absent, move-nests, move-found, move-gone, move-other, removed-gone, removed-other}
 use Rattle.updates.proofs.Merging.{or-else, only-if, zip-name, overwrite-name}
-use Rattle.updates.proofs.Formed.{Names, well-updated, well-joined, well-removed}
+use Rattle.updates.proofs.Formed.{Names, well-updated, well-joined, well-removed, level-removed}
+use Rattle.updates.proofs.Levels.{level-updated, level-merged, size-merged}
 
 pub record ContextUpdates : Type 0 where
   -- create_entries: the value is found at the path
@@ -58,6 +60,12 @@ pub record ContextUpdates : Type 0 where
   pub created-well : (strict : Bool) (p : List ℕ) (x : Val) (es fs : Entries) → Names p → WfV x → WfEntries es 0 → size-entries es ≤ mostBytes → updated strict p x es ≡ some fs → WfV (v-context fs)
   pub merged-well : (all : Bool) (es gs : Entries) → WfEntries es 0 → WfEntries gs 0 → size-entries es ≤ mostBytes → size-entries gs ≤ mostBytes → WfV (v-context (merged all es gs))
   pub removed-well : (n : ℕ) (es : Entries) → WfV (v-context es) → WfV (v-context (removeEntry n es))
+  -- levels: every name of the path adds at most one to the value's; a merge and a removal add none
+  pub updated-level : (strict : Bool) (p : List ℕ) (x : Val) (es fs : Entries) → updated strict p x es ≡ some fs → levelV (v-context fs) ≤ max (levelV (v-context es)) (length p + levelV x)
+  pub merged-level : (all : Bool) (es gs : Entries) → levelV (v-context (merged all es gs)) ≤ max (levelV (v-context es)) (levelV (v-context gs))
+  pub removed-level : (n : ℕ) (es : Entries) → levelV (v-context (removeEntry n es)) ≤ levelV (v-context es)
+  -- a merge is not longer than both together
+  pub merged-short : (all : Bool) (es gs : Entries) → size-entries (merged all es gs) ≤ size-entries es + size-entries gs
 
 pub contextUpdates : ContextUpdates
 contextUpdates =
@@ -83,4 +91,8 @@ contextUpdates =
       created-well = well-updated;
       merged-well = well-joined;
       removed-well = well-removed;
+      updated-level = level-updated;
+      merged-level = level-merged;
+      removed-level = level-removed;
+      merged-short = size-merged;
     }

@@ -6,4 +6,5 @@ pub mod Merging
 pub mod Joining
 pub mod Theorems
 pub mod Formed
+pub mod Levels
 pub mod Laws

@@ -53,11 +53,11 @@ insert-first n x no-entries f = refl
 insert-first n x (entry m v es) f = ap₂ (λ q r. cond q (entry n x es) (cond r (entry n x (entry m v es)) (entry m v (insert n x es)))) (ne-eqb n m (λ e. omega (arith, f .0))) (lt-ltb n m (omega (arith, f .0)))
 
 -- ---- one entry of the other
-abbrev merged-one : Bool → ℕ → Val → Entries → Entries
+abbrev pub merged-one : Bool → ℕ → Val → Entries → Entries
 merged-one true n x es = insert n x es
 merged-one false n x es = cond (containsEntry n es) (insert n x es) es
 
-merged-next : (all : Bool) (n : ℕ) (x : Val) (es gs : Entries) → merged all es (entry n x gs) ≡ merged all (merged-one all n x es) gs
+pub merged-next : (all : Bool) (n : ℕ) (x : Val) (es gs : Entries) → merged all es (entry n x gs) ≡ merged all (merged-one all n x es) gs
 unfolding zip overwrite
 merged-next true n x es gs = refl
 merged-next false n x es gs = refl
