@@ -1,4 +1,5 @@
 // A question with its arguments: the call, and its answer.
+ghost use mathlib.Core.Path.{_≡_};
 ghost use Prim.Native.Nat.{_≤_};
 ghost use lib.ListN.{length};
 use crate::fault;
@@ -299,8 +300,10 @@ fn ask(
     }
 }
 
-// Asks what a line asks that is whole. `word` and `data` have its word and the bytes of its arguments.
-pub fn ask_line(l: Line, word: &[u8], data: &[u8], scratch: &mut [u8], built: &mut [u8]) -> Answer {
+// Asks what a line asks that is whole. `word` and `data` have its word and the bytes of its arguments. Where no word stands, nothing is asked.
+pub fn ask_line(l: Line, word: &[u8], data: &[u8], scratch: &mut [u8], built: &mut [u8]) -> Answer
+    ensures { λ r. ⌜ (l .part ≡ 0 → l .fault ≡ 0 → l .call ≡ 0 → r ≡ Answer.Nothing) ⌝ }
+{
     let whole = line::close(l, word);
     if whole.fault != 0 {
         return Answer::Wrong(whole.fault);

@@ -1,4 +1,5 @@
 // A line of the input: its question and the bytes of its arguments, read as they come.
+ghost use mathlib.Core.Path.{_≡_};
 ghost use Prim.Native.Nat.{_+_, _<_, _≤_, _^_};
 ghost use lib.ListN.{length};
 use crate::fault;
@@ -65,7 +66,9 @@ pub(crate) enum Cut {
 }
 
 // Nothing is read yet.
-pub fn fresh() -> Line {
+pub fn fresh() -> Line
+    ensures { λ r. ⌜ (r .part ≡ 0) × (r .fault ≡ 0) × (r .call ≡ 0) × (r .size ≡ 0) × (r .used ≡ 0) ⌝ }
+{
     Line {
         part: BEFORE,
         state: BLANK,
@@ -384,7 +387,9 @@ pub fn read(l: Line, text: &[u8], from: usize, data: &mut [u8], word: &mut [u8])
 }
 
 // The line is whole.
-pub(crate) fn close(l: Line, word: &[u8]) -> Line {
+pub(crate) fn close(l: Line, word: &[u8]) -> Line
+    ensures { λ r. ⌜ (l .part ≡ 0 → (r .fault ≡ l .fault) × (r .call ≡ l .call)) ⌝ }
+{
     if l.part == WORD {
         return end_word(l, word);
     }

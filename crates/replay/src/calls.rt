@@ -115,7 +115,7 @@ fn told(yes: bool) -> Answer {
 }
 
 // There is an answer.
-pub fn is_known(a: Answer) -> bool {
+pub(crate) fn is_known(a: Answer) -> bool {
     match a {
         Answer::Accepted(_) => true,
         Answer::Refused(_) => true,
@@ -238,7 +238,7 @@ fn ask_path(call: usize, c: &[u8], a: &[u8]) -> Answer {
 }
 
 // Runs a call of one argument.
-pub fn run(call: usize, a: &[u8]) -> Answer {
+pub(crate) fn run(call: usize, a: &[u8]) -> Answer {
     match call {
         1 => answer_of(form::check_value(a)),
         2 => answer_of(form::check_type(a)),
@@ -254,7 +254,7 @@ pub fn run(call: usize, a: &[u8]) -> Answer {
 }
 
 // Runs a call that judges two arguments, or finds a part of the first one.
-pub fn run_two(call: usize, a: &[u8], b: &[u8]) -> Answer {
+pub(crate) fn run_two(call: usize, a: &[u8], b: &[u8]) -> Answer {
     match call {
         3 => judged(types::is_conformant(a, b)),
         4 => judged(types::instance_of(a, b)),
@@ -305,7 +305,7 @@ fn write_text(call: usize, a: &[u8], b: &[u8], out: &mut [u8]) -> Answer {
 }
 
 // Runs a call that builds, of one argument or two, with the scratch and the output that are lent.
-pub fn build(call: usize, a: &[u8], b: &[u8], scratch: &mut [u8], out: &mut [u8]) -> Answer {
+pub(crate) fn build(call: usize, a: &[u8], b: &[u8], scratch: &mut [u8], out: &mut [u8]) -> Answer {
     match call {
         5 => wrote(bounds::common_supertype(a, b, scratch, out)),
         6 => wrote(bounds::common_subtype(a, b, scratch, out)),
@@ -366,7 +366,7 @@ fn update_name(call: usize, c: &[u8], a: &[u8], b: &[u8], out: &mut [u8]) -> Ans
 }
 
 // Runs a call that updates a context, of one argument more or two, with the output that is lent.
-pub fn update(call: usize, c: &[u8], a: &[u8], b: &[u8], out: &mut [u8]) -> Answer {
+pub(crate) fn update(call: usize, c: &[u8], a: &[u8], b: &[u8], out: &mut [u8]) -> Answer {
     match call {
         37 | 38 => update_path(call, c, a, b, out),
         39 | 40 => join(call, c, a, out),

@@ -359,6 +359,6 @@ pub fn take_output(line: &[u8], done: Taken, room: &mut [u8]) -> Taken
 }
 
 // All fields could be read, and the line has no more.
-pub fn is_whole(line: &[u8], t: Taken) -> bool {
+pub(crate) fn is_whole(line: &[u8], t: Taken) -> bool {
     if t.good { t.end == line.len() } else { false }
 }

@@ -290,7 +290,7 @@ fn update_two(line: &[u8], call: usize, room: &mut [u8]) -> Verdict {
 // ---- all kinds
 
 // A case, by its call.
-pub fn case(line: &[u8], call: usize, room: &mut [u8]) -> Verdict {
+pub(crate) fn case(line: &[u8], call: usize, room: &mut [u8]) -> Verdict {
     match call {
         1 | 2 | 8 | 9 | 16..=27 | 31 | 35 | 36 | 46 | 47 => one(line, call, room),
         3 | 4 | 10 | 29 | 30 | 32..=34 => two(line, call, room),

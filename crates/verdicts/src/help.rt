@@ -83,6 +83,6 @@ const HELP: [u8; 3725] = *b"\
 ";
 
 // Writes it.
-pub fn print() {
+pub(crate) fn print() {
     io::write_all(STDOUT_FILENO, &HELP);
 }

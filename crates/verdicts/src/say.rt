@@ -20,7 +20,7 @@ pub struct Out {
 // ---- the buffer
 
 // Writes what the buffer holds.
-pub fn flush(o: Out, buf: &[u8]) -> Out {
+pub(crate) fn flush(o: Out, buf: &[u8]) -> Out {
     let n = o.at;
     if o.broken {
         return Out {
@@ -55,7 +55,7 @@ fn room(o: Out, n: usize, buf: &[u8]) -> Out {
 }
 
 // Puts a text of at most as many bytes as the buffer has.
-pub fn put(o: Out, text: &[u8], buf: &mut [u8]) -> Out {
+pub(crate) fn put(o: Out, text: &[u8], buf: &mut [u8]) -> Out {
     let r = room(o, text.len(), buf);
     let at = r.at;
     if buf.len() < at {
@@ -148,7 +148,7 @@ fn file_front(o: Out, name: &[u8], buf: &mut [u8]) -> Out {
 }
 
 // A line that tells what is wrong with a line of the input.
-pub fn wrong(o: Out, a: Answer, name: &[u8], line: u64, buf: &mut [u8]) -> Out {
+pub(crate) fn wrong(o: Out, a: Answer, name: &[u8], line: u64, buf: &mut [u8]) -> Out {
     let b = line_front(o, name, line, buf);
     let c = put_words(b, a, buf);
     put(c, b"\n", buf)
@@ -162,7 +162,7 @@ fn file_line(o: Out, name: &[u8], what: &[u8], buf: &mut [u8]) -> Out {
 }
 
 // A line on a whole file, which is called `other` where it has no name.
-pub fn whole_file(o: Out, name: &[u8], other: &[u8], what: &[u8], buf: &mut [u8]) -> Out {
+pub(crate) fn whole_file(o: Out, name: &[u8], other: &[u8], what: &[u8], buf: &mut [u8]) -> Out {
     if name.len() == 0 {
         return file_line(o, other, what, buf);
     }
@@ -179,7 +179,7 @@ fn put_answer(o: Out, a: Answer, all: &[u8], built: &[u8], buf: &mut [u8]) -> Ou
 }
 
 // An answer's line.
-pub fn answer(o: Out, a: Answer, all: &[u8], built: &[u8], buf: &mut [u8]) -> Out {
+pub(crate) fn answer(o: Out, a: Answer, all: &[u8], built: &[u8], buf: &mut [u8]) -> Out {
     let r = put_answer(o, a, all, built, buf);
     put(r, b"\n", buf)
 }
