@@ -7,7 +7,8 @@ use mathlib.Core.Option.{Option, some}
 use mathlib.Core.List.{List, [], append-nil}
 use native.Mathlib.Omega.{arith}
 use lib.ListN.{length, take}
-use borrow.Author.Tests.{le-leb, lt-leb}
+use lib.Dec.{leb}
+use borrow.Author.Tests.{le-leb, lt-leb, leb-true, leb-false}
 use Rattle.form.specs.Trees.{Ty}
 use Rattle.form.specs.Limits.{mostBytes, typeLevels}
 use Rattle.form.specs.Outcome.{Outcome, done, refused, _>>=_, _>>_, fits}
@@ -24,12 +25,11 @@ use Rattle.order.specs.Size.{size}
 use Rattle.order.proofs.Size.{length-enc, size-bound, size-reduce}
 use Rattle.types.specs.At.{typeAt, Ok}
 use Rattle.types.proofs.Reading.{got-seen, is-ok, t-good}
-use Rattle.bounds.specs.Writing.{toward, answer, ofTypes, mostAnswer, Ready, Wrote, Combined, Measured}
+use Rattle.bounds.specs.Writing.{toward, answer, ofTypes, mostAnswer, Ready, Wrote, Combined, Roomy}
 use Rattle.bounds.specs.Calls.{combined, reducedCall}
 use Rattle.bounds.proofs.Laws.{onto-front}
 use Rattle.bounds.proofs.Trees.{self}
 use Rattle.bounds.proofs.Building.{ready, combined-is}
-use Rattle.bounds.proofs.Measuring.{measured-is}
 use Rattle.bounds.proofs.Outcomes.{built-refused, built-short, built-wrote}
 
 -- ---- an argument that was accepted
@@ -142,23 +142,27 @@ module _ (s old : List ℕ) where
     pub reduced-there : Ok (typeAt typeLevels s)
     reduced-there = is-ok (typeAt typeLevels s) (A .t) (A .there)
 
-    module _ (r w : ℕ) (m : Measured (reduce fixed) size (typeAt typeLevels s) r w) where
-      reduced-size : w ≡ size (reduce fixed (A .t))
-      reduced-size = measured-is (reduce fixed) size (typeAt typeLevels s) (A .t) r w (A .there) m .1
+    module _ (r : Bool) (m : Roomy (typeAt typeLevels s) (length old) r) where
+      roomy : r ≡ leb (size (reduce fixed (A .t))) (length old)
+      unfolding Roomy
+      roomy = rw (A .there) at m
 
-      pub reduced-short : length old < w → Built (reducedCall s (length old)) old old (written-is.Refused 18)
-      reduced-short l = built-short (reducedCall s (length old)) (enc (reduce fixed (A .t))) old reduced-is (omega (arith, reduced-size, length-enc (reduce fixed (A .t))))
+      pub reduced-short : r ≡ false → Built (reducedCall s (length old)) old old (written-is.Refused 18)
+      reduced-short e = built-short (reducedCall s (length old)) (enc (reduce fixed (A .t))) old reduced-is (omega (arith, leb-false (size (reduce fixed (A .t))) (length old) (sym roomy ∙ e), length-enc (reduce fixed (A .t))))
 
-      module _ (l : w ≤ length old) where
+      module _ (e : r ≡ true) where
+        room : size (reduce fixed (A .t)) ≤ length old
+        room = leb-true (size (reduce fixed (A .t))) (length old) (sym roomy ∙ e)
+
         pub reduced-ready : Ready (ofTypes up) (typeAt typeLevels s) (typeAt typeLevels s) (length old)
         reduced-ready =
             let e = ap size (self up (A .t) (A .asc)) in
             let k = size-reduce fixed (A .t) in
-            ready (ofTypes up) (typeAt typeLevels s) (typeAt typeLevels s) (A .t) (A .t) (length old) (A .there) (A .there) (omega (arith, reduced-size, e)) (omega (arith, e, k, A .sized, A .short))
+            ready (ofTypes up) (typeAt typeLevels s) (typeAt typeLevels s) (A .t) (A .t) (length old) (A .there) (A .there) (omega (arith, room, e)) (omega (arith, e, k, A .sized, A .short))
 
         pub reduced-done : (new : List ℕ) (i j n : ℕ) → Combined (ofTypes up) (typeAt typeLevels s) (typeAt typeLevels s) old new i j n → Built (reducedCall s (length old)) old new (written-is.Bytes n)
         reduced-done new i j n c =
             let g = combined-is (ofTypes up) (typeAt typeLevels s) (typeAt typeLevels s) (A .t) (A .t) old new i j n (A .there) (A .there) c in
             let e = self up (A .t) (A .asc) in
             let le = length-enc (reduce fixed (A .t)) in
-            built-wrote (reducedCall s (length old)) (enc (reduce fixed (A .t))) old new n reduced-is (g .long ∙ ap size e ∙ sym le) (omega (arith, le, reduced-size)) (g .out ∙ ap (λ (z : Ty). onto (enc z) old) e)
+            built-wrote (reducedCall s (length old)) (enc (reduce fixed (A .t))) old new n reduced-is (g .long ∙ ap size e ∙ sym le) (omega (arith, le, room)) (g .out ∙ ap (λ (z : Ty). onto (enc z) old) e)

@@ -3,6 +3,9 @@
 use Prim.Native.Nat.{ℕ, zero, suc, _+_, _-_, _<_, _≤_}
 use mathlib.Core.Path.{_≡_, refl, sym, ap, ap₂, _∙_}
 use mathlib.Core.Option.{Option, some}
+use mathlib.Core.Bool.{Bool, true}
+use lib.Dec.{leb}
+use borrow.Author.Tests.{le-leb}
 use mathlib.Core.List.{List}
 use native.Mathlib.Omega.{arith}
 use lib.ListN.{length, getD, drop}
@@ -16,7 +19,7 @@ use Rattle.order.proofs.Size.{size-reduce}
 use Rattle.types.specs.At.{typeAt, fieldsAt, Sig, sig, cons, funOf, size-sig, sigAt, Ok, sizeAt}
 use Rattle.types.proofs.Reading.{rest, is-ok, ok-got, cmd-is, some-byte, some-level, is-list, is-range, is-ctx, is-fun, t-good, size-fun, size-cons}
 use Rattle.types.proofs.Entries.{Here, here, gone, size-entry, size-got}
-use Rattle.bounds.specs.Writing.{reduceSig, Measured}
+use Rattle.bounds.specs.Writing.{reduceSig, Measured, Roomy}
 use Rattle.bounds.proofs.Trees.{size-field, size-none, size-result, countSig, sig-count}
 use Rattle.bounds.proofs.Building.{behind, leaf-of, last-cmd, size-list, size-range, size-ctx}
 use Rattle.bounds.proofs.Signing.{Next, next, Last, last}
@@ -314,3 +317,19 @@ module _ {l : ℕ} {a : List ℕ} {n at to i : ℕ} (v : ParametersInv l a n at 
           let g = result-is in
           let shorter = ap (λ (z : Sig). size-sig (reduceSig z)) (R .is) ∙ ap size-sig (reduce-result (R .t)) ∙ size-result (reduce fixed (R .t)) in
           is-measured reduceSig size-sig (sigAt l n a) (v .all) (at + r) (to + s) (v .whole) (omega (arith, v .sizes, R .sized, g .0)) (omega (arith, v .short, shorter, g .1))
+
+-- ---- room
+module _ (l : ℕ) (s : List ℕ) (room : ℕ) (p : Ok (typeAt l s)) where
+  is-roomy : (q : Bool) → ((t : Ty) → typeAt l s ≡ some t → q ≡ leb (size (reduce fixed t)) room) → Roomy (typeAt l s) room q
+  unfolding Roomy
+  is-roomy q k = go (ok-got (typeAt l s) p)
+    where
+      go : (t : Ty) × (typeAt l s ≡ some t) → Roomy (typeAt l s) room q
+      go (t, e) = rw e (k t e)
+
+  -- the type itself has room
+  pub room-enough : length s ≤ room → Roomy (typeAt l s) room true
+  room-enough h = is-roomy true λ t e. sym (le-leb (size (reduce fixed t)) room (omega (arith, h, size-reduce fixed t, t-good l s t e .1)))
+
+  pub room-measured : (i j : ℕ) → Measured (reduce fixed) size (typeAt l s) i j → (q : Bool) → q ≡ leb j room → Roomy (typeAt l s) room q
+  room-measured i j m q e = is-roomy q λ t f. e ∙ ap (λ (k : ℕ). leb k room) (measured-is (reduce fixed) size (typeAt l s) t i j f m .1)

@@ -7,6 +7,7 @@ use mathlib.Core.Option.{Option, none, some}
 use mathlib.Core.List.{List, _++_}
 use Prim.Native.Nat.{ℕ, _≤_}
 use lib.ListN.{take, drop}
+use lib.Dec.{leb}
 use Rattle.form.specs.Trees.{Ty, Fields}
 use Rattle.form.specs.Form.{enc, encFields, encTys, countFields}
 use Rattle.form.specs.Answers.{onto}
@@ -88,3 +89,8 @@ reduceSig (sig ps r) = sig (reduce-tys fixed ps) (reduce fixed r)
 unfoldable pub Measured : {X : Type 0} → (X → X) → (X → ℕ) → Option X → ℕ → ℕ → Type 0
 Measured red sized (some x) read short = (read ≡ sized x) × (short ≡ sized (red x))
 Measured red sized none read short = Unit {0}
+
+-- whether its reduced form has room
+unfoldable pub Roomy : Option Ty → ℕ → Bool → Type 0
+Roomy (some t) room r = r ≡ leb (size (reduce fixed t)) room
+Roomy none room r = Unit {0}

@@ -9,7 +9,7 @@ ghost use Rattle.order.specs.Order.{up, down, fixed};
 ghost use Rattle.order.specs.Types.{reduce, reduce-fields};
 ghost use Rattle.order.specs.Size.{size, size-fields};
 ghost use Rattle.types.specs.At.{typeAt, fieldsAt, sigAt, size-sig, Ok};
-ghost use Rattle.bounds.specs.Writing.{answer, toward, ofTypes, ofFields, ofSigs, Ready, Combined, Counted, over, reduceSig, Measured};
+ghost use Rattle.bounds.specs.Writing.{answer, toward, ofTypes, ofFields, ofSigs, Ready, Combined, Counted, over, reduceSig, Measured, Roomy};
 ghost use Rattle.bounds.specs.Calls.{combined, commonSupertype, commonSubtype, reducedCall};
 use form::Checked;
 use form::NAME_WIDTH;
@@ -569,6 +569,18 @@ pub fn common_subtype(a: &[u8], b: &[u8], scratch: &mut [u8], out: &mut [u8]) ->
     combine(false, a, b, scratch, out)
 }
 
+// Whether the reduced form has room. It is never longer than the type, so it is measured only where the type itself has none.
+fn has_room(t: &[u8], room: usize, left: usize) -> bool
+    requires { ⌜ Ok (typeAt left (now t)) ⌝ }
+    ensures { λ r. ⌜ Roomy (typeAt left (now (t .entry))) room r ⌝ }
+{
+    if t.len() <= room {
+        return true;
+    }
+    let m = measure(t, left);
+    m.short <= room
+}
+
 // The reduced form: the result of every function type without parameters becomes Any. Refusals 6 to 10 and 18.
 pub fn reduced(t: &[u8], out: &mut [u8]) -> Written
     ensures { λ r. ⌜ Built (reducedCall (now (t .entry)) (length (now (out .entry)))) (now (out .entry)) (now (out .exit)) r ⌝ }
@@ -576,8 +588,7 @@ pub fn reduced(t: &[u8], out: &mut [u8]) -> Written
     match form::check_type(t) {
         Checked::Refused(n) => Written::Refused(n),
         Checked::Accepted { level: _ } => {
-            let m = measure(t, TYPE_LEVELS);
-            if out.len() < m.short {
+            if !has_room(t, out.len(), TYPE_LEVELS) {
                 return Written::Refused(18);
             }
             let e = same_super(t, t, out, TYPE_LEVELS);

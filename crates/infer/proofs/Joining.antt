@@ -17,6 +17,8 @@ use Rattle.order.specs.Order.{up, fixed}
 use Rattle.order.specs.Types.{reduce}
 use Rattle.order.specs.Size.{size}
 use Rattle.order.specs.Document.{conformsTo, eqTy, supertype}
+use Rattle.order.proofs.Simple.{fixed-laws}
+use Rattle.order.proofs.Laws.{le-refl}
 use Rattle.order.proofs.Equal.{eq-ty-same, eq-ty-self}
 use Rattle.order.proofs.Size.{length-enc, size-positive, size-sup}
 use Rattle.order.proofs.WellFormed.{asc-of}
@@ -68,6 +70,12 @@ two none y s n m spare h = absurd h
 is-sides : (x y : Option Ty) (t u : Ty) (s : List ℕ) (n m spare : ℕ) → x ≡ some t → y ≡ some u → Side t u s n m spare → Sides x y s n m spare
 unfolding Sides
 is-sides x y t u s n m spare p q h = rw (p, q) h
+
+-- a type with itself: its supertype is its reduced form, and it conforms to itself
+joined-twice : (a b : Bool) (t : Ty) → Wf t → (a ≡ true → reduce fixed t ≡ t) → joined a b t t ≡ t
+joined-twice true b t w h = self up t (asc-of t w) ∙ h refl
+joined-twice false true t w h = ap (λ x. cond x t (leaf any)) (eq-ty-self t)
+joined-twice false false t w h = ap (λ x. cond x t (leaf any)) (le-refl fixed fixed-laws t (asc-of t w))
 
 is-kept : (x y : Option Ty) (t u : Ty) (q r : Bool) → x ≡ some t → y ≡ some u → r ≡ keepsFirst q t u → Kept q x y r
 unfolding Kept
@@ -183,12 +191,11 @@ module _ (s : List ℕ) (n m spare : ℕ) (h : Sides (typeAt typeLevels s) (type
   pub joined-first : Bytes s → (a b r : Bool) → a ≡ false → Kept b (typeAt typeLevels s) (typeAt typeLevels (drop n s)) r → r ≡ true → Joined a b (typeAt typeLevels s) (typeAt typeLevels (drop n s)) s s n
   joined-first bs a b r e k y = stays bs a b (joined-by a b r e k ∙ ap (λ x. cond x (T .t) (leaf any)) y)
 
-  -- the supertype of a reduced type with itself is the type
-  pub joined-same : Bytes s → (a b r : Bool) → a ≡ true → Reduced a (typeAt typeLevels s) → Kept true (typeAt typeLevels s) (typeAt typeLevels (drop n s)) r → r ≡ true → Joined a b (typeAt typeLevels s) (typeAt typeLevels (drop n s)) s s n
-  joined-same bs a b r e h k y =
+  -- equal types stay as they are
+  pub joined-same : Bytes s → (a b r : Bool) → Reduced a (typeAt typeLevels s) → Kept true (typeAt typeLevels s) (typeAt typeLevels (drop n s)) r → r ≡ true → Joined a b (typeAt typeLevels s) (typeAt typeLevels (drop n s)) s s n
+  joined-same bs a b r h k y =
       let same : T .t ≡ T .u = eq-ty-same (T .t) (T .u) (sym (kept-is (typeAt typeLevels s) (typeAt typeLevels (drop n s)) (T .t) (T .u) true r (T .read-t) (T .read-u) k) ∙ y) in
-      stays bs a b
-      (ap (λ x. joined x b (T .t) (T .u)) e ∙ ap (supertype (T .t)) (sym same) ∙ self up (T .t) (asc-of (T .t) (T .side .wf-first)) ∙ reduced-is (typeAt typeLevels s) (T .t) a (T .read-t) h e)
+      stays bs a b (ap (joined a b (T .t)) (sym same) ∙ joined-twice a b (T .t) (T .side .wf-first) (reduced-is (typeAt typeLevels s) (T .t) a (T .read-t) h))
 
   pub joined-any : (a b r : Bool) → a ≡ false → Kept b (typeAt typeLevels s) (typeAt typeLevels (drop n s)) r → r ≡ false → Joined a b (typeAt typeLevels s) (typeAt typeLevels (drop n s)) s (set s 0 32) 1
   unfolding enc

@@ -148,17 +148,17 @@ fn keeps(equal: bool, s: &[u8], n: usize, m: usize) -> bool
     }
 }
 
-// The type at the front, n bytes, and the one behind it, m bytes, become one at the front; answers its length. Equal least types stay as they are.
+// The type at the front, n bytes, and the one behind it, m bytes, become one at the front; answers its length. Of equal ones the first stays as it is.
 fn join(least: bool, equal: bool, out: &mut [u8], n: usize, m: usize, spare: &mut [u8]) -> usize
     requires { ⌜ Sides (typeAt typeLevels (now out)) (typeAt typeLevels (drop n (now out))) (now out) n m (length (now spare)) ⌝ }
     requires { ⌜ Reduced least (typeAt typeLevels (now out)) ⌝ }
     ensures { λ r. ⌜ Joined least equal (typeAt typeLevels (now (out .entry))) (typeAt typeLevels (drop n (now (out .entry)))) (now (out .entry)) (now (out .exit)) r ⌝ }
     ensures { λ _. ⌜ length (now (spare .exit)) ≡ length (now (spare .entry)) ⌝ }
 {
+    if keeps(true, &out[..], n, m) {
+        return n;
+    }
     if least {
-        if keeps(true, &out[..], n, m) {
-            return n;
-        }
         let w = &out[..];
         let e = bounds::write_super(w, &w[n..], spare, TYPE_LEVELS);
         let k = e.wrote;

@@ -1,4 +1,4 @@
--- The names of the simple types: equal texts, the loop that looks a name up, and whether there is one.
+-- The names of the simple types: equal texts, the one name that a text can be, and whether it is one.
 -- Assumes nothing.
 use Prim.Native.Nat.{ℕ, zero, suc, _+_, _-_, _<_, _≤_}
 use native.Mathlib.Omega.{arith}
@@ -7,18 +7,18 @@ use mathlib.Core.Path.{_≡_, refl, sym, ap, ap₂, subst, _∙_}
 use mathlib.Core.Bool.{Bool, true, false, cond, _&&_, _||_, false≢true}
 use mathlib.Core.Option.{Option, none, some}
 use mathlib.Core.List.{List, [], _∷_}
-use lib.ListN.{length, take, drop, drop-of-length-le}
+use lib.ListN.{length, take, drop, getD, drop-of-length-le}
 use lib.Dec.{eqb}
-use borrow.Author.Tests.{eq-eqb, eqb-true}
+use borrow.Author.Tests.{eq-eqb, ne-eqb, eqb-true, eqb-false}
 use Rattle.form.specs.Trees.{Simple, decode}
 use Rattle.form.proofs.ExactTypes.{code-decode}
 use Rattle.retrieval.specs.Retrieve.{mapped}
-use Rattle.names.specs.Texts.{nameOf, Passes, simples, command, sameText, oneNamed, fromStr, isNamed, isBuiltInTypeName, letters, startOf}
+use Rattle.names.specs.Texts.{nameOf, simples, command, sameText, Only, oneNamed, fromStr, isNamed, isBuiltInTypeName, letters, startOf}
 use Rattle.names.specs.Tables.{isRead}
 use Rattle.names.specs.Calls.{fromStrCall, known}
 use Rattle.names.specs.declared.Known.{Known}
 use Rattle.names.specs.declared.Known.the-variants as known-is
-use Rattle.names.proofs.Letters.{name-cut, other-length}
+use Rattle.names.proofs.Letters.{name-cut, pick, pick-name}
 use Rattle.names.proofs.Tabling.{is-mapped}
 
 -- ---- equal byte for byte
@@ -55,7 +55,7 @@ pub has-named : (k from to : ℕ) → k < 10 → from ≡ startOf k → to ≡ s
     → (r ≡ true → s ≡ take (to - from) (drop from letters)) × (s ≡ take (to - from) (drop from letters) → r ≡ true) → r ≡ sameText s (nameOf (decode k))
 has-named k from to h ef et s r f = same-is r s (take (to - from) (drop from letters)) f ∙ ap (sameText s) (name-cut k from to h ef et .1)
 
--- ---- the loop
+-- ---- one name behind the other
 simples-at : (k : ℕ) → k < 10 → drop k simples ≡ decode k ∷ drop (suc k) simples
 simples-at zero h = refl
 simples-at (suc zero) h = refl
@@ -78,27 +78,75 @@ unfolding oneNamed
 named-cons s x xs = refl
 
 -- the first k names are others
-pub record Looking (s : List ℕ) (k : ℕ) : Type 0 where
-  pub same : fromStr s ≡ oneNamed s (drop k simples)
+record Looking (s : List ℕ) (k : ℕ) : Type 0 where
+  same : fromStr s ≡ oneNamed s (drop k simples)
 
-pub looking : (s : List ℕ) → Looking s 0
+looking : (s : List ℕ) → Looking s 0
 looking s = record { same = refl }
 
 module _ {s : List ℕ} {k : ℕ} (Q : Looking s k) where
-  pub looking-ended : 10 ≤ k → none ≡ fromStrCall s
+  looking-ended : 10 ≤ k → none ≡ fromStrCall s
   looking-ended h = sym (ap (mapped command) (Q .same ∙ ap (oneNamed s) (drop-of-length-le simples h) ∙ named-none s))
 
   module _ (h : k < 10) (q : Bool) (eq : q ≡ sameText s (nameOf (decode k))) where
     here : fromStr s ≡ cond q (some (decode k)) (oneNamed s (drop (suc k) simples))
     here = Q .same ∙ ap (oneNamed s) (simples-at k h) ∙ named-cons s (decode k) (drop (suc k) simples) ∙ ap (λ b. cond b (some (decode k)) (oneNamed s (drop (suc k) simples))) (sym eq)
 
-    pub looking-hit : q ≡ true → (r : ℕ) → r ≡ 0x20 + k → some r ≡ fromStrCall s
+    looking-hit : q ≡ true → (r : ℕ) → r ≡ 0x20 + k → some r ≡ fromStrCall s
     looking-hit t r er =
         let z : r ≡ command (decode k) = omega (arith, code-decode k h) in
         ap some z ∙ sym (ap (mapped command) (here ∙ ap (λ b. cond b (some (decode k)) (oneNamed s (drop (suc k) simples))) t))
 
-    pub looking-next : q ≡ false → Looking s (k + 1)
+    looking-next : q ≡ false → Looking s (k + 1)
     looking-next t = record { same = here ∙ ap (λ b. cond b (some (decode k)) (oneNamed s (drop (suc k) simples))) t ∙ ap (λ (j : ℕ). oneNamed s (drop j simples)) (sym (add-one k)) }
+
+-- the names that are passed by are others
+looking-up : (s : List ℕ) (r : ℕ) → r ≤ 10 → ((j : ℕ) → j < r → sameText s (nameOf (decode j)) ≡ false) → Looking s r
+looking-up s zero w f = looking s
+looking-up s (suc j) w f = subst (Looking s) (add-one j) (looking-next (looking-up s j (omega arith) (λ i h. f i (omega arith))) (omega arith) false (sym (f j (omega arith))) refl)
+
+-- ---- the one name that s can be
+only : (s : List ℕ) (k : ℕ) → k ≡ pick (length s) (getD s 0 0) → k ≤ 10 → Only s k
+only s k e w = record { within = w; others = λ j h d. go j h d (sameText s (nameOf (decode j))) refl }
+  where
+    go : (j : ℕ) → j < 10 → (j ≡ k → ⊥) → (q : Bool) → sameText s (nameOf (decode j)) ≡ q → q ≡ false
+    go j h d true t = absurd (d (sym (e ∙ ap (λ (z : List ℕ). pick (length z) (getD z 0 0)) (same-text s (nameOf (decode j)) t) ∙ pick-name j h)))
+    go j h d false t = refl
+
+-- by its length alone, or with its first letter
+pub only-long : (s : List ℕ) (k n : ℕ) → length s ≡ n → k ≡ pick n (getD s 0 0) → k ≤ 10 → Only s k
+only-long s k n l e w = only s k (e ∙ ap (λ (m : ℕ). pick m (getD s 0 0)) (sym l)) w
+
+pub only-first : (s : List ℕ) (k n b : ℕ) → length s ≡ n → getD s 0 0 ≡ b → k ≡ pick n b → k ≤ 10 → Only s k
+only-first s k n b l f e w = only-long s k n l (e ∙ ap (pick n) (sym f)) w
+
+pub only-null : (s : List ℕ) → length s ≡ 4 → (getD s 0 0 ≡ 0x64 → ⊥) → (getD s 0 0 ≡ 0x74 → ⊥) → Only s 9
+only-null s l d t = only-long s 9 4 l (rw (ne-eqb (getD s 0 0) 0x64 d, ne-eqb (getD s 0 0) 0x74 t)) (omega arith)
+
+pub only-string : (s : List ℕ) → length s ≡ 6 → (getD s 0 0 ≡ 0x6E → ⊥) → Only s 3
+only-string s l d = only-long s 3 6 l (rw (ne-eqb (getD s 0 0) 0x6E d)) (omega arith)
+
+pub only-none : (s : List ℕ) → (length s ≡ 3 → ⊥) → (length s ≡ 4 → ⊥) → (length s ≡ 6 → ⊥) → (length s ≡ 7 → ⊥) → (length s ≡ 13 → ⊥) → (length s ≡ 22 → ⊥) → (length s ≡ 25 → ⊥) → Only s 10
+only-none s n3 n4 n6 n7 n13 n22 n25 = only s 10 (rw (ne-eqb (length s) 3 n3, ne-eqb (length s) 4 n4, ne-eqb (length s) 6 n6, ne-eqb (length s) 7 n7, ne-eqb (length s) 13 n13, ne-eqb (length s) 22 n22, ne-eqb (length s) 25 n25)) (omega arith)
+
+-- ---- the call
+module _ (s : List ℕ) (k : ℕ) (O : Only s k) where
+  pub no-candidate : k ≡ 10 → none ≡ fromStrCall s
+  no-candidate e = looking-ended (looking-up s 10 (omega arith) (λ j h. O .others j h (λ z. omega arith))) (omega arith)
+
+  module _ (h : k ≡ 10 → ⊥) (q : Bool) (eq : q ≡ sameText s (nameOf (decode k))) where
+    candidate-below : k < 10
+    candidate-below = omega (arith, O .within)
+
+    pub candidate-hit : q ≡ true → (r : ℕ) → r ≡ 0x20 + k → some r ≡ fromStrCall s
+    candidate-hit t r er = looking-hit (looking-up s k (O .within) (λ j l. O .others j (omega (arith, O .within)) (λ z. omega arith))) candidate-below q eq t r er
+
+    pub candidate-missed : q ≡ false → none ≡ fromStrCall s
+    candidate-missed t = looking-ended (looking-up s 10 (omega arith) (λ j l. go j l (eqb j k) refl)) (omega arith)
+      where
+        go : (j : ℕ) → j < 10 → (b : Bool) → eqb j k ≡ b → sameText s (nameOf (decode j)) ≡ false
+        go j l true e = ap (λ (i : ℕ). sameText s (nameOf (decode i))) (eqb-true j k e) ∙ sym eq ∙ t
+        go j l false e = O .others j l (eqb-false j k e)
 
 -- ---- whether there is one
 either-read : (p q : Bool) (x : Simple) (o : Option Simple) → q ≡ isRead o → (p || q) ≡ isRead (cond p (some x) o)
@@ -119,11 +167,3 @@ module _ (s : List ℕ) (r : Known) (e : known r ≡ fromStrCall s) where
 
   pub built-in-no : r ≡ known-is.Unknown → false ≡ isBuiltInTypeName s
   built-in-no p = sym (ap (λ x. isRead (known x)) p) ∙ known-is-read
-
--- the names in front of the first with as many letters are others
-looking-up : (s : List ℕ) (r : ℕ) → r ≤ 10 → ((j : ℕ) → j < r → length (nameOf (decode j)) ≡ length s → ⊥) → Looking s r
-looking-up s zero w f = looking s
-looking-up s (suc j) w f = subst (Looking s) (add-one j) (looking-next (looking-up s j (omega arith) (λ i h. f i (omega arith))) (omega arith) false (other-length s (nameOf (decode j)) (λ e. f j (omega arith) (sym e))) refl)
-
-pub looking-from : (s : List ℕ) (r : ℕ) → Passes (length s) r → Looking s r
-looking-from s r p = looking-up s r (p .within) (p .others)

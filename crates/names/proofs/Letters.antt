@@ -1,17 +1,16 @@
 -- The rule of the constant table of the ten names: the k-th name stands among the letters from its start to the next one's.
 -- Assumes nothing.
 use Prim.Native.Nat.{ℕ, zero, suc, _+_, _-_, _<_, _≤_}
-use mathlib.Core.Path.{_≡_, refl, sym, ap, ap₂, _∙_}
-use mathlib.Core.Bool.{Bool, true, false, not, cond, _&&_}
+use mathlib.Core.Path.{_≡_, refl, ap, ap₂, _∙_}
+use mathlib.Core.Bool.{Bool, true, false, cond, _&&_}
 use mathlib.Core.List.{List, [], _∷_}
 use native.Mathlib.Omega.{arith}
 use native.Mathlib.Numerals.{add-one}
 use lib.ListN.{length, take, drop, getD}
-use lib.Dec.{T, eqb, leb, ltb, eqb→eq, leb→le}
-use borrow.Author.Tests.{lt-ltb, eq-eqb}
+use lib.Dec.{eqb, leb, eqb→eq, leb→le}
 use Rattle.form.specs.Trees.{decode}
-use Rattle.form.proofs.Table.{every, at}
-use Rattle.names.specs.Texts.{nameOf, Passes, sameText, lettersOf, letters, startOf}
+use Rattle.form.proofs.Table.{at}
+use Rattle.names.specs.Texts.{nameOf, sameText, lettersOf, letters, startOf}
 
 -- the starts, as the code has them
 abbrev pub starts : List ℕ
@@ -27,10 +26,6 @@ start-small k h = leb→le (getD starts k 0) 94 (at (λ i x. leb x 94) starts tt
 pub start-next : (k : ℕ) → startOf (k + 1) ≡ startOf k + length (nameOf (decode k))
 unfolding startOf
 start-next k = ap startOf (add-one k)
-
-pub letters-long : length letters ≡ 94
-unfolding lettersOf
-letters-long = refl
 
 -- the k-th name
 pub name-there : (k : ℕ) → k < 10 → take (length (nameOf (decode k))) (drop (startOf k) letters) ≡ nameOf (decode k)
@@ -72,35 +67,10 @@ other-length (a ∷ s) (b ∷ t) n = step (eqb a b) (other-length s t (λ e. n (
     step true e = e
     step false e = refl
 
--- ---- by how many letters a name has
-abbrev lengths : List ℕ
-lengths = 3 ∷ 7 ∷ 6 ∷ 6 ∷ 4 ∷ 4 ∷ 13 ∷ 22 ∷ 25 ∷ 4 ∷ []
+-- ---- by its length and its first letter
+-- the one name that a text of n letters, the first of them b, can be; 10 where it can be none
+abbrev pub pick : ℕ → ℕ → ℕ
+pick n b = cond (eqb n 3) 0 (cond (eqb n 4) (cond (eqb b 0x64) 4 (cond (eqb b 0x74) 5 9)) (cond (eqb n 6) (cond (eqb b 0x6E) 2 3) (cond (eqb n 7) 1 (cond (eqb n 13) 6 (cond (eqb n 22) 7 (cond (eqb n 25) 8 10))))))
 
-length-is : (j : ℕ) → j < 10 → getD lengths j 0 ≡ length (nameOf (decode j))
-length-is j h = eqb→eq (getD lengths j 0) (length (nameOf (decode j))) (at (λ i x. eqb x (length (nameOf (decode i)))) lengths tt j (omega arith))
-
--- an entry before r is not n
-abbrev apart : ℕ → ℕ → ℕ → ℕ → Bool
-apart n r j x = cond (ltb j r) (not (eqb x n)) true
-
-pub passes-to : (n m r : ℕ) → n ≡ m → r ≤ 10 → T (every (apart m r) 0 lengths) → Passes n r
-passes-to n m r e w t = record { within = w; others = λ j h l. clash j h (length-is j (omega arith) ∙ l ∙ e) (at (apart m r) lengths t j (omega arith)) }
-  where
-    clash : (j : ℕ) → j < r → getD lengths j 0 ≡ m → T (apart m r j (getD lengths j 0)) → ⊥
-    clash j h l t = rw (lt-ltb j r h, l, eq-eqb m) at t
-
-pub passes-all : (n : ℕ) → (n ≡ 3 → ⊥) → (n ≡ 4 → ⊥) → (n ≡ 6 → ⊥) → (n ≡ 7 → ⊥) → (n ≡ 13 → ⊥) → (n ≡ 22 → ⊥) → (n ≡ 25 → ⊥) → Passes n 10
-passes-all n n3 n4 n6 n7 n13 n22 n25 = record { within = omega arith; others = clash }
-  where
-    clash : (j : ℕ) → j < 10 → length (nameOf (decode j)) ≡ n → ⊥
-    clash zero h l = n3 (sym l)
-    clash (suc zero) h l = n7 (sym l)
-    clash (suc (suc zero)) h l = n6 (sym l)
-    clash (suc (suc (suc zero))) h l = n6 (sym l)
-    clash (suc (suc (suc (suc zero)))) h l = n4 (sym l)
-    clash (suc (suc (suc (suc (suc zero))))) h l = n4 (sym l)
-    clash (suc (suc (suc (suc (suc (suc zero)))))) h l = n13 (sym l)
-    clash (suc (suc (suc (suc (suc (suc (suc zero))))))) h l = n22 (sym l)
-    clash (suc (suc (suc (suc (suc (suc (suc (suc zero)))))))) h l = n25 (sym l)
-    clash (suc (suc (suc (suc (suc (suc (suc (suc (suc zero))))))))) h l = n4 (sym l)
-    clash (suc (suc (suc (suc (suc (suc (suc (suc (suc (suc j)))))))))) h l = absurd (omega arith)
+pub pick-name : (j : ℕ) → j < 10 → pick (length (nameOf (decode j))) (getD (nameOf (decode j)) 0 0) ≡ j
+pick-name j h = eqb→eq (pick (length (nameOf (decode j))) (getD (nameOf (decode j)) 0 0)) j (at (λ i x. eqb (pick (length (nameOf (decode i))) (getD (nameOf (decode i)) 0 0)) i) (take 10 starts) tt j (omega arith))

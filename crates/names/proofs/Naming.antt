@@ -1,26 +1,27 @@
 -- `Name::new`: what a part adds, the loop over the parts, and the call.
 -- Assumes nothing.
-use Prim.Native.Nat.{ℕ, zero, suc, _+_, _-_, _*_, _<_, _≤_}
+use Prim.Native.Nat.{ℕ, zero, suc, _+_, _-_, _<_, _≤_}
 use native.Mathlib.Omega.{arith}
 use native.Mathlib.Numerals.{add-one}
-use mathlib.Core.Path.{_≡_, refl, sym, ap, ap₂, subst, _∙_}
+use mathlib.Core.Path.{_≡_, refl, sym, ap, ap₂, _∙_}
 use mathlib.Core.Bool.{Bool, true, false, cond, not, false≢true}
 use mathlib.Core.Option.{Option, none, some}
 use mathlib.Core.List.{List, [], _∷_, _++_, append-assoc}
 use lib.ListN.{length, take, drop, getD, length-append, length-drop}
-use lib.Seq.{take-all, drop-drop, length-take-le}
+use lib.Seq.{drop-drop, length-take-le}
 use lib.Dec.{leb}
 use borrow.Author.Tests.{leb-true, not-true, not-false}
 use Rattle.form.specs.Limits.{mostBytes}
-use Rattle.form.specs.Outcome.{Outcome, done, refused, _>>=_, fits}
+use Rattle.form.specs.Outcome.{refused, _>>=_, fits}
 use Rattle.form.specs.Answers.{onto, Built}
+use Rattle.form.specs.declared.Written.{Written}
 use Rattle.form.specs.declared.Written.the-variants as written-is
 use Rattle.types.specs.At.{Ok}
 use Rattle.types.proofs.Reading.{never, is-ok, ok-got}
-use Rattle.bounds.proofs.Outcomes.{built-refused, built-short, built-wrote}
+use Rattle.bounds.proofs.Outcomes.{built-refused}
 use Rattle.retrieval.specs.Retrieve.{mapped}
 use Rattle.retrieval.specs.Filling.{fill, puts}
-use Rattle.retrieval.proofs.Pieces.{length-fill, put-then}
+use Rattle.retrieval.proofs.Pieces.{length-fill, put-then, handed}
 use Rattle.names.specs.Names.{blank, trimStart, keep, trimEnd, trim, isMark, parted, space, added, pushed, nameNew}
 use Rattle.names.specs.Tables.{inParts, countedParts, readTexts, readParts, isRead}
 use Rattle.names.specs.Writing.{Writes}
@@ -138,7 +139,7 @@ pub record Naming (parts old : List ℕ) (count : ℕ) (out : List ℕ) (prev : 
   pub same : nameNew whole ≡ pushed index prev said ps
   pub long : to ≡ length said
   pub wrote : out ≡ fill said old
-  pub small : to ≤ 2 * at
+  pub small : to ≤ at
 
 pub naming-byte : (parts : List ℕ) → Ok (readParts parts) → 0 < length parts
 naming-byte parts h = let G = ok-got (readParts parts) h in got-byte parts (G .0) (G .1)
@@ -168,6 +169,10 @@ module _ {parts old : List ℕ} {count : ℕ} {out : List ℕ} {prev : Bool} {to
 
   pub naming-kept : length out ≡ length old
   naming-kept = ap length (Q .wrote) ∙ length-fill (Q .said) old
+
+  -- the name is not longer than its parts
+  pub naming-within : to ≤ length parts
+  naming-within = omega (arith, Q .small, Q .inside)
 
   pub naming-ended : count ≤ index → Writes (mapped nameNew (readParts parts)) old out to
   unfolding Writes
@@ -206,7 +211,7 @@ module _ {parts old : List ℕ} {count : ℕ} {out : List ℕ} {prev : Bool} {to
       part-long : length part ≡ n
       part-long = ap length part-is ∙ length-take-le (getD parts at 0) (drop (at + 1) parts) (H .fits) ∙ sym en
 
-      pub naming-room : (k : ℕ) → 3 * mostBytes + 1 < k → to + length part + 1 < k
+      pub naming-room : (k : ℕ) → mostBytes < k → to + length part + 1 < k
       naming-room k l = omega (arith, part-long, naming-most, Q .small)
 
       pub naming-next : (r : ℕ) (m : Bool) (new : List ℕ) → (r ≡ to + length (added index prev (trim part))) × ((m ≡ isMark (trim part)) × (new ≡ puts to (added index prev (trim part)) out))
@@ -253,33 +258,20 @@ module _ (parts : List ℕ) (q : Bool) (eq : q ≡ isRead (readParts parts)) whe
     pub parts-ok : Ok (readParts parts)
     parts-ok = is-ok (readParts parts) (G .0) (G .1)
 
-    abbrev name : List ℕ
-    name = nameNew (G .0)
+    pub parts-most : (k : ℕ) → mostBytes ≤ k → length parts ≤ k
+    parts-most k l = omega (arith, got-short parts (G .0) (G .1))
 
-    call-is : (room : ℕ) → nameNewCall parts room ≡ fits room name
-    call-is room = call-some parts (G .0) room (G .1)
+-- the name stands in a spare place, and is handed on
+module _ (parts was spare : List ℕ) (n : ℕ) (h : Ok (readParts parts)) (w : Writes (mapped nameNew (readParts parts)) was spare n) (k : n ≤ length parts) (l : length parts ≤ length was) where
+  abbrev R : (ps : List (List ℕ)) × (readParts parts ≡ some ps)
+  R = ok-got (readParts parts) h
 
-    wrote : (old new : List ℕ) (n : ℕ) → Writes (mapped nameNew (readParts parts)) old new n → (n ≡ length name) × (new ≡ fill name old)
-    unfolding Writes
-    wrote old new n w = rw (G .1) at w
+  wrote : (n ≡ length (nameNew (R .0))) × (spare ≡ fill (nameNew (R .0)) was)
+  unfolding Writes
+  wrote = rw (R .1) at w
 
-    -- over no output first
-    module _ (old none-old sc : List ℕ) (n : ℕ) (z : length none-old ≡ 0) (w : Writes (mapped nameNew (readParts parts)) none-old sc n) where
-      as-was : sc ++ old ≡ old
-      as-was = go sc (ap length (wrote none-old sc n w .1) ∙ length-fill name none-old ∙ z)
-        where
-          go : (xs : List ℕ) → length xs ≡ 0 → xs ++ old ≡ old
-          go [] p = refl
-          go (x ∷ xs) p = absurd (omega arith)
+  pub name-fits : n ≤ length spare
+  name-fits = omega (arith, ap length (wrote .1), length-fill (nameNew (R .0)) was)
 
-      pub name-short : length (sc ++ old) < n → Built (nameNewCall parts (length old)) old (sc ++ old) (written-is.Refused 18)
-      name-short l =
-          subst (λ x. Built (nameNewCall parts (length old)) old x (written-is.Refused 18)) (sym as-was)
-          (built-short (nameNewCall parts (length old)) name old (call-is (length old)) (omega (arith, wrote none-old sc n w .0, ap length as-was)))
-
-      pub name-done : n ≤ length (sc ++ old) → (new : List ℕ) (m : ℕ) → Writes (mapped nameNew (readParts parts)) (sc ++ old) new m → Built (nameNewCall parts (length old)) old new (written-is.Bytes m)
-      unfolding fill
-      name-done l new m v =
-          let fit : length name ≤ length old = omega (arith, wrote none-old sc n w .0, ap length as-was) in
-          let is : new ≡ onto name old = wrote (sc ++ old) new m v .1 ∙ ap (λ (o : List ℕ). fill name o) as-was ∙ ap (λ (x : List ℕ). onto x old) (take-all (length old) name fit) in
-          built-wrote (nameNewCall parts (length old)) name old new m (call-is (length old)) (wrote (sc ++ old) new m v .0) fit is
+  pub name-handed : (old new : List ℕ) (r : Written) → Built (fits (length old) (take n spare)) old new r → Built (nameNewCall parts (length old)) old new r
+  name-handed old new r b = handed (nameNewCall parts (length old)) (nameNew (R .0)) spare was old new n r (call-some parts (R .0) (length old) (R .1)) (wrote .1) (wrote .0) (omega arith) b

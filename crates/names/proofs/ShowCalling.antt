@@ -2,10 +2,10 @@
 -- Assumes nothing.
 use Prim.Native.Nat.{ℕ, _<_, _≤_}
 use native.Mathlib.Omega.{arith}
-use mathlib.Core.Path.{_≡_, refl, sym, ap, subst, _∙_}
+use mathlib.Core.Path.{_≡_, sym, ap, _∙_}
 use mathlib.Core.Bool.{Bool, true, false, not}
 use mathlib.Core.Option.{Option, none, some}
-use mathlib.Core.List.{List, [], _∷_, _++_}
+use mathlib.Core.List.{List}
 use lib.ListN.{length, take}
 use lib.Seq.{take-all}
 use borrow.Author.Tests.{not-true, not-false}
@@ -15,6 +15,7 @@ use Rattle.form.specs.Form.{Bytes}
 use Rattle.form.specs.Outcome.{done, refused, _>>=_, fits}
 use Rattle.form.specs.Read.{readT, readType}
 use Rattle.form.specs.Answers.{onto, Built}
+use Rattle.form.specs.declared.Written.{Written}
 use Rattle.form.specs.declared.Written.the-variants as written-is
 use Rattle.form.proofs.Accepted.{whole-got}
 use Rattle.form.proofs.Types.{type-accepted}
@@ -22,6 +23,7 @@ use Rattle.types.specs.At.{typeAt, Ok}
 use Rattle.types.proofs.Reading.{got-seen, is-ok}
 use Rattle.bounds.proofs.Outcomes.{built-refused, built-short, built-wrote}
 use Rattle.retrieval.specs.Filling.{fill}
+use Rattle.retrieval.proofs.Pieces.{handed}
 use Rattle.names.specs.declared.Shown.{Shown}
 use Rattle.names.specs.declared.Shown.the-variants.{Yes, No}
 use Rattle.names.specs.Texts.{text}
@@ -56,45 +58,39 @@ module _ (t table : List ℕ) (A : Accepted t table) where
   gave : (old new : List ℕ) (r : Shown) → Shows ofTypes (typeAt typeLevels t) (readTable table) old new r → Gave ofTypes (A .texts) (A .type) old new r
   gave old new r g = shows-is ofTypes (typeAt typeLevels t) (readTable table) (A .type) (A .texts) old new r type-there (A .read-table) g
 
-  -- ---- over no output first
-  module _ (old none-old sc : List ℕ) (r : Shown) (e : length none-old ≡ 0) (g : Shows ofTypes (typeAt typeLevels t) (readTable table) none-old sc r) where
-    as-was : sc ++ old ≡ old
-    as-was = go sc (gave-length ofTypes (A .texts) (A .type) none-old sc r (gave none-old sc r g) ∙ e)
-      where
-        go : (xs : List ℕ) → length xs ≡ 0 → xs ++ old ≡ old
-        go [] p = refl
-        go (x ∷ xs) p = absurd (omega arith)
-
-    pub call-err : r ≡ No → Built (displayCall t table (length old)) old (sc ++ old) (written-is.Refused 20)
-    call-err p =
-        subst (λ z. Built (displayCall t table (length old)) old z (written-is.Refused 20)) (sym as-was)
-        (built-refused (displayCall t table (length old)) 20 old (display-err (length old) (gave-no ofTypes (A .texts) (A .type) none-old sc r (gave none-old sc r g) p)))
+  -- ---- over a spare place first
+  module _ (old was spare : List ℕ) (r : Shown) (g : Shows ofTypes (typeAt typeLevels t) (readTable table) was spare r) where
+    pub call-err : r ≡ No → Built (displayCall t table (length old)) old old (written-is.Refused 20)
+    call-err p = built-refused (displayCall t table (length old)) 20 old (display-err (length old) (gave-no ofTypes (A .texts) (A .type) was spare r (gave was spare r g) p))
 
     module _ (a n : ℕ) (p : r ≡ Yes a n) where
-      F : Got ofTypes (A .texts) (A .type) none-old sc a n
-      F = gave-yes ofTypes (A .texts) (A .type) none-old sc r (gave none-old sc r g) a n p
+      F : Got ofTypes (A .texts) (A .type) was spare a n
+      F = gave-yes ofTypes (A .texts) (A .type) was spare r (gave was spare r g) a n p
 
-      pub call-short : length (sc ++ old) < n → Built (displayCall t table (length old)) old (sc ++ old) (written-is.Refused 18)
-      call-short l =
-          subst (λ z. Built (displayCall t table (length old)) old z (written-is.Refused 18)) (sym as-was)
-          (built-short (displayCall t table (length old)) (F .bs) old (display-is (length old) (F .bs) (F .is)) (omega (arith, F .long, ap length as-was)))
+      -- it stands there whole, and is handed on
+      pub call-handed : n ≤ length spare → (new : List ℕ) (w : Written) → Built (fits (length old) (take n spare)) old new w → Built (displayCall t table (length old)) old new w
+      call-handed l new w b =
+          handed (displayCall t table (length old)) (F .bs) spare was old new n w (display-is (length old) (F .bs) (F .is)) (F .out) (F .long)
+          (omega (arith, gave-length ofTypes (A .texts) (A .type) was spare r (gave was spare r g))) b
 
-      module _ (l : n ≤ length (sc ++ old)) (new : List ℕ) (q : Shown) (h : Shows ofTypes (typeAt typeLevels t) (readTable table) (sc ++ old) new q) where
+      pub call-short : length old < n → Built (displayCall t table (length old)) old old (written-is.Refused 18)
+      call-short l = built-short (displayCall t table (length old)) (F .bs) old (display-is (length old) (F .bs) (F .is)) (omega (arith, F .long))
+
+      module _ (l : n ≤ length old) (new : List ℕ) (q : Shown) (h : Shows ofTypes (typeAt typeLevels t) (readTable table) old new q) where
         -- the second run answers the same
         pub call-again : q ≡ No → Built (displayCall t table (length old)) old new (written-is.Refused 20)
         call-again z =
-            let u : _≡_ {A = Option (List ℕ)} none (some (F .bs)) = sym (gave-no ofTypes (A .texts) (A .type) (sc ++ old) new q (gave (sc ++ old) new q h) z) ∙ F .is in
+            let u : _≡_ {A = Option (List ℕ)} none (some (F .bs)) = sym (gave-no ofTypes (A .texts) (A .type) old new q (gave old new q h) z) ∙ F .is in
             absurd (let y : _≡_ {A = ℕ} 0 1 = cc in omega arith)
 
         pub call-done : (b m : ℕ) → q ≡ Yes b m → Built (displayCall t table (length old)) old new (written-is.Bytes m)
         unfolding fill
         call-done b m z =
-            let G = gave-yes ofTypes (A .texts) (A .type) (sc ++ old) new q (gave (sc ++ old) new q h) b m z in
+            let G = gave-yes ofTypes (A .texts) (A .type) old new q (gave old new q h) b m z in
             let same : F .bs ≡ G .bs = let y : some (F .bs) ≡ some (G .bs) = sym (F .is) ∙ G .is in cc in
-            let fit : length (G .bs) ≤ length old = omega (arith, ap length same, F .long, ap length as-was) in
+            let fit : length (G .bs) ≤ length old = omega (arith, ap length same, F .long) in
             let all : take (length old) (G .bs) ≡ G .bs = take-all (length old) (G .bs) fit in
-            let is : new ≡ onto (G .bs) old = G .out ∙ ap (λ o. fill (G .bs) o) as-was ∙ ap (λ x. onto x old) all in
-            built-wrote (displayCall t table (length old)) (G .bs) old new m (display-is (length old) (G .bs) (G .is)) (G .long) fit is
+            built-wrote (displayCall t table (length old)) (G .bs) old new m (display-is (length old) (G .bs) (G .is)) (G .long) fit (G .out ∙ ap (λ x. onto x old) all)
 
 -- ---- the call
 display-refused : (t table : List ℕ) (n room : ℕ) → readType t ≡ refused n → displayCall t table room ≡ refused n

@@ -56,18 +56,35 @@ plain-cons : (b : ℕ) (s : List ℕ) → plain (b ∷ s) ≡ leb b 0x7F && plai
 unfolding plain
 plain-cons b s = refl
 
-pub plain-ended : (s : List ℕ) (i : ℕ) → plain s ≡ plain (drop i s) → length s ≤ i → true ≡ plain s
-plain-ended s i e h = sym (e ∙ ap plain (drop-of-length-le s h) ∙ plain-nil)
+none-both : (q : Bool) → q && false ≡ false
+none-both true = refl
+none-both false = refl
 
-module _ (s : List ℕ) (i : ℕ) (e : plain s ≡ plain (drop i s)) (h : i < length s) where
-  plain-byte : plain s ≡ leb (getD s i 0) 0x7F && plain (drop (suc i) s)
-  plain-byte = e ∙ ap plain (drop-cons s i 0 h) ∙ plain-cons (getD s i 0) (drop (suc i) s)
+-- the largest byte so far, and the bytes that are left
+pub plain-ended : (s : List ℕ) (m i : ℕ) → plain s ≡ leb m 0x7F && plain (drop i s) → length s ≤ i → leb m 0x7F ≡ plain s
+plain-ended s m i e h = sym (e ∙ ap (λ q. leb m 0x7F && q) (ap plain (drop-of-length-le s h) ∙ plain-nil) ∙ go (leb m 0x7F))
+  where
+    go : (q : Bool) → q && true ≡ q
+    go true = refl
+    go false = refl
 
-  pub plain-above : 0x7F < getD s i 0 → false ≡ plain s
-  plain-above k = sym (plain-byte ∙ ap (λ q. q && plain (drop (suc i) s)) (lt-leb (getD s i 0) 0x7F k))
+module _ (s : List ℕ) (m i : ℕ) (e : plain s ≡ leb m 0x7F && plain (drop i s)) (h : i < length s) where
+  plain-byte : plain s ≡ leb m 0x7F && (leb (getD s i 0) 0x7F && plain (drop (i + 1) s))
+  plain-byte = e ∙ ap (λ q. leb m 0x7F && q) (ap plain (drop-cons s i 0 h) ∙ plain-cons (getD s i 0) (drop (suc i) s) ∙ ap (λ (k : ℕ). leb (getD s i 0) 0x7F && plain (drop k s)) (sym (add-one i)))
 
-  pub plain-next : getD s i 0 ≤ 0x7F → plain s ≡ plain (drop (i + 1) s)
-  plain-next k = plain-byte ∙ ap (λ q. q && plain (drop (suc i) s)) (le-leb (getD s i 0) 0x7F k) ∙ ap (λ (k : ℕ). plain (drop k s)) (sym (add-one i))
+  pub plain-larger : m < getD s i 0 → (n : ℕ) → n ≡ getD s i 0 → plain s ≡ leb n 0x7F && plain (drop (i + 1) s)
+  plain-larger k n z = plain-byte ∙ go (leb (getD s i 0) 0x7F) refl ∙ ap (λ (x : ℕ). leb x 0x7F && plain (drop (i + 1) s)) (sym z)
+    where
+      go : (q : Bool) → leb (getD s i 0) 0x7F ≡ q → leb m 0x7F && (q && plain (drop (i + 1) s)) ≡ q && plain (drop (i + 1) s)
+      go true t = rw (le-leb m 0x7F (omega (arith, leb-true (getD s i 0) 0x7F t)))
+      go false t = none-both (leb m 0x7F)
+
+  pub plain-smaller : getD s i 0 ≤ m → (n : ℕ) → n ≡ m → plain s ≡ leb n 0x7F && plain (drop (i + 1) s)
+  plain-smaller k n z = plain-byte ∙ go (leb m 0x7F) refl ∙ ap (λ (x : ℕ). leb x 0x7F && plain (drop (i + 1) s)) (sym z)
+    where
+      go : (q : Bool) → leb m 0x7F ≡ q → q && (leb (getD s i 0) 0x7F && plain (drop (i + 1) s)) ≡ q && plain (drop (i + 1) s)
+      go true t = rw (le-leb (getD s i 0) 0x7F (omega (arith, leb-true m 0x7F t)))
+      go false t = refl
 
 -- ---- neither first nor last a space
 module _ (s : List ℕ) (p : Bool) (e : p ≡ printable s) where

@@ -42,17 +42,17 @@ simples = any ∷ boolean ∷ number ∷ string ∷ date ∷ time ∷ dateTime �
 abbrev pub command : Simple → ℕ
 command x = 0x20 + code x
 
--- none of the first r names has n letters
-pub record Passes (n r : ℕ) : Type 0 where
-  pub within : r ≤ 10
-  pub others : (j : ℕ) → j < r → length (nameOf (decode j)) ≡ n → ⊥
-
 -- equal byte for byte
 unfoldable pub sameText : List ℕ → List ℕ → Bool
 sameText [] [] = true
 sameText [] (b ∷ t) = false
 sameText (a ∷ s) [] = false
 sameText (a ∷ s) (b ∷ t) = eqb a b && sameText s t
+
+-- s is none of the ten names but the k-th; none at all where k is 10
+pub record Only (s : List ℕ) (k : ℕ) : Type 0 where
+  pub within : k ≤ 10
+  pub others : (j : ℕ) → j < 10 → (j ≡ k → ⊥) → sameText s (nameOf (decode j)) ≡ false
 
 -- the one among them whose name it is
 unfoldable pub oneNamed : List ℕ → List Simple → Option Simple

@@ -9,7 +9,7 @@ ghost use Rattle.form.specs.Answers.{Built};
 ghost use Rattle.types.specs.At.{typeAt, fieldsAt, sigAt, Ok};
 ghost use Rattle.retrieval.specs.Filling.{fill, puts};
 ghost use Rattle.retrieval.specs.Retrieve.{mapped};
-ghost use Rattle.names.specs.Texts.{nameOf, Passes, sameText, isBuiltInTypeName, startOf, arrow};
+ghost use Rattle.names.specs.Texts.{nameOf, sameText, Only, isBuiltInTypeName, startOf, arrow};
 ghost use Rattle.names.specs.Names.{blank, trimStart, trimEnd, trim, isMark, parted, added, nameNew};
 ghost use Rattle.names.specs.Tables.{printable, tidy, plain, lessText, readTable, readParts, isRead};
 ghost use Rattle.names.specs.Writing.{gap, label, Locates, Marked, ofTypes, ofInner, ofFields, ofSigs, Shows, Accepted, Writes};
@@ -37,6 +37,9 @@ pub enum Shown {
     Yes { read: usize, wrote: usize },
     No,
 }
+
+// Parts with so few bytes have a small spare place.
+const FEW: usize = 512;
 
 // The name so far, behind a part: its length, and whether that part is a mark.
 struct Step {
@@ -91,14 +94,21 @@ fn put_simple(k: usize, out: &mut [u8]) -> usize
     to - from
 }
 
-// The first name that has n letters; 10 where none has.
-fn first_of(n: usize) -> usize
-    ensures { λ r. ⌜ Passes n r ⌝ }
+// The one name that s can be, by its length and its first letter; 10 where it can be none.
+fn candidate(s: &[u8]) -> usize
+    ensures { λ r. ⌜ Only (now (s .entry)) r ⌝ }
 {
-    match n {
+    match s.len() {
         3 => 0,
-        4 => 4,
-        6 => 2,
+        4 => match s[0] {
+            0x64 => 4,
+            0x74 => 5,
+            _ => 9,
+        },
+        6 => match s[0] {
+            0x6E => 2,
+            _ => 3,
+        },
         7 => 1,
         13 => 6,
         22 => 7,
@@ -119,12 +129,12 @@ fn command(k: usize) -> u8
 pub fn from_str(s: &[u8]) -> Known
     ensures { λ r. ⌜ known r ≡ fromStrCall (now (s .entry)) ⌝ }
 {
-    let mut k = first_of(s.len());
-    while k < SIMPLES {
-        if has_name(s, k) {
-            return Known::Type(command(k));
-        }
-        k += 1;
+    let k = candidate(s);
+    if k == SIMPLES {
+        return Known::Unknown;
+    }
+    if has_name(s, k) {
+        return Known::Type(command(k));
     }
     Known::Unknown
 }
@@ -226,18 +236,20 @@ fn is_tidy(s: &[u8]) -> bool
     s[n - 1] != 0x20
 }
 
-// A part of a name: bytes 00 to 7F.
+// A part of a name: bytes 00 to 7F. Its largest byte is sought, without a way out between: many bytes are taken at once.
 fn is_plain(s: &[u8]) -> bool
     ensures { λ r. ⌜ r ≡ plain (now (s .entry)) ⌝ }
 {
+    let mut most: u8 = 0;
     let mut i: usize = 0;
     while i < s.len() {
-        if 0x7F < s[i] {
-            return false;
+        let b = s[i];
+        if most < b {
+            most = b;
         }
         i += 1;
     }
-    true
+    most <= 0x7F
 }
 
 // Whether s is below t: by the first byte that differs; a proper beginning is below.
@@ -600,15 +612,19 @@ fn show_sig(
     }
 }
 
-// The text of an accepted type over an accepted table: measured over no output, then written. Refusals 20 and 18.
-fn write_marked(t: &[u8], table: &[u8], marks: &[u16], out: &mut [u8]) -> Written
+// The text of an accepted type over an accepted table by a spare place: handed on from there where all of it has room, otherwise measured by it
+// and written. Refusals 20 and 18.
+fn text_by(t: &[u8], table: &[u8], marks: &[u16], spare: &mut [u8], out: &mut [u8]) -> Written
     requires { ⌜ Accepted (now t) (now table) ⌝ }
     requires { ⌜ Marked (now table) (now marks) ⌝ }
     ensures { λ r. ⌜ Built (displayCall (now (t .entry)) (now (table .entry)) (length (now (out .entry)))) (now (out .entry)) (now (out .exit)) r ⌝ }
 {
-    match show(t, table, marks, &mut out[..0], TYPE_LEVELS) {
+    match show(t, table, marks, spare, TYPE_LEVELS) {
         Shown::No => Written::Refused(20),
         Shown::Yes { read: _, wrote: n } => {
+            if n <= spare.len() {
+                return retrieval::give(&spare[..n], out);
+            }
             if out.len() < n {
                 return Written::Refused(18);
             }
@@ -618,6 +634,24 @@ fn write_marked(t: &[u8], table: &[u8], marks: &[u16], out: &mut [u8]) -> Writte
             }
         }
     }
+}
+
+// The same, over a spare place of its own, by the type's length: small, large, or none.
+fn write_marked(t: &[u8], table: &[u8], marks: &[u16], out: &mut [u8]) -> Written
+    requires { ⌜ Accepted (now t) (now table) ⌝ }
+    requires { ⌜ Marked (now table) (now marks) ⌝ }
+    ensures { λ r. ⌜ Built (displayCall (now (t .entry)) (now (table .entry)) (length (now (out .entry)))) (now (out .entry)) (now (out .exit)) r ⌝ }
+{
+    if t.len() <= 40 {
+        let mut few = [0u8; 512];
+        return text_by(t, table, marks, &mut few, out);
+    }
+    if t.len() <= 1000 {
+        let mut many = [0u8; 16384];
+        return text_by(t, table, marks, &mut many, out);
+    }
+    let mut none = [0u8; 1];
+    text_by(t, table, marks, &mut none, out)
 }
 
 // The same, over marks of its own: few for a short table, otherwise as many as a table can have texts.
@@ -709,10 +743,11 @@ fn add_part(index: usize, prev: bool, part: &[u8], out: &mut [u8], at: usize) ->
     }
 }
 
-// The name of accepted parts, as much as has room; its length.
+// The name of accepted parts, as much as has room; its length, which is not above theirs.
 fn write_name(parts: &[u8], out: &mut [u8]) -> usize
     requires { ⌜ Ok (readParts (now parts)) ⌝ }
     ensures { λ r. ⌜ Writes (mapped nameNew (readParts (now (parts .entry)))) (now (out .entry)) (now (out .exit)) r ⌝ }
+    ensures { λ r. ⌜ r ≤ length (now (parts .entry)) ⌝ }
 {
     let count = form::wide(parts[0]);
     let mut prev = false;
@@ -731,6 +766,16 @@ fn write_name(parts: &[u8], out: &mut [u8]) -> usize
     to
 }
 
+// The name of accepted parts, built in a spare place as long as the parts and handed on. Refusal 18.
+fn name_by(parts: &[u8], spare: &mut [u8], out: &mut [u8]) -> Written
+    requires { ⌜ Ok (readParts (now parts)) ⌝ }
+    requires { ⌜ length (now parts) ≤ length (now spare) ⌝ }
+    ensures { λ r. ⌜ Built (nameNewCall (now (parts .entry)) (length (now (out .entry)))) (now (out .entry)) (now (out .exit)) r ⌝ }
+{
+    let n = write_name(parts, spare);
+    retrieval::give(&spare[..n], out)
+}
+
 // `Name::new`. Refusals 19, 18.
 pub fn name_new(parts: &[u8], out: &mut [u8]) -> Written
     ensures { λ r. ⌜ Built (nameNewCall (now (parts .entry)) (length (now (out .entry)))) (now (out .entry)) (now (out .exit)) r ⌝ }
@@ -738,9 +783,10 @@ pub fn name_new(parts: &[u8], out: &mut [u8]) -> Written
     if !check_parts(parts) {
         return Written::Refused(19);
     }
-    let n = write_name(parts, &mut out[..0]);
-    if out.len() < n {
-        return Written::Refused(18);
+    if parts.len() <= FEW {
+        let mut few = [0u8; 512];
+        return name_by(parts, &mut few, out);
     }
-    Written::Bytes(write_name(parts, out))
+    let mut many = [0u8; 16384];
+    name_by(parts, &mut many, out)
 }

@@ -3,7 +3,7 @@
 use Prim.Native.Nat.{ℕ, _+_, _-_, _<_, _≤_, _^_}
 use native.Mathlib.Omega.{arith}
 use mathlib.Core.Path.{_≡_, refl, sym, ap, subst, _∙_}
-use mathlib.Core.Bool.{Bool, true, false}
+use mathlib.Core.Bool.{Bool, true, false, true≢false}
 use mathlib.Core.Option.{Option, none, some}
 use mathlib.Core.List.{List, [], _∷_}
 use lib.ListN.{length, getD, take, drop}
@@ -16,25 +16,25 @@ use Rattle.form.specs.Outcome.{Outcome, done, refused, _>>=_, _>>_, pick, check
 use Rattle.form.specs.Read.{Got, got, bad, readV, numberOf, all, readWhole, readValue}
 use Rattle.form.specs.declared.Fault.the-variants.{Shape, Names, Level}
 use Rattle.form.proofs.Accepted.{refused-done, whole-got}
-use Rattle.order.specs.Size.{size-val, size-entries}
+use Rattle.order.specs.Size.{size-entries}
 use Rattle.order.proofs.LeastSize.{length-encV}
 use Rattle.types.specs.At.{Ok}
-use Rattle.types.proofs.Reading.{rest, is-ok}
+use Rattle.types.proofs.Reading.{is-ok}
 use Rattle.values.specs.At.{valueAt, entriesAt, sizeAtV}
-use Rattle.values.proofs.Reading.{size-got, some-byte, no-entry}
+use Rattle.values.proofs.Reading.{some-byte, no-entry}
 use Rattle.values.proofs.Calling.{Holds}
 use Rattle.retrieval.specs.Retrieve.{mapped}
 use Rattle.retrieval.proofs.Answering.{behind}
 use Rattle.retrieval.proofs.Contexts.{This, this, size-none}
 use Rattle.paths.specs.Paths.{value-of, entries-of, is-some, isContext, isEmpty, getFirst, given, search, containsDeep, entry-place, place}
-use Rattle.paths.specs.Places.{wholeAt, contextAt, Spot, spot, Piece, piece, extent, found, extentOf, spotIn, Searches, Clear, isFound, lentBytes, lentCode, Lent, Within, pieceBytes, Lends}
+use Rattle.paths.specs.Places.{wholeAt, contextAt, frontAt, Fills, Spot, spot, Piece, piece, extent, found, extentOf, spotIn, Searches, Clear, isFound, lentBytes, lentCode, Lent, Within, pieceBytes, Lends}
 use Rattle.paths.specs.Calls.{mostNames, contextOf, searchDeepCall, getEntryCall, getFirstCall, containsDeepCall, containsEntryCall, isContextCall, isEmptyCall, lenCall}
 use Rattle.paths.specs.declared.Found.{Found}
 use Rattle.paths.specs.declared.Found.the-variants as found-is
-use Rattle.paths.proofs.Whole.{is-whole, of-context, Ctx, ctx-of}
+use Rattle.paths.proofs.Whole.{is-whole, of-context, Ctx, ctx-of, size-behind, whole-ok, whole-fills}
 use Rattle.paths.proofs.Finding.{value-first, below-none}
 use Rattle.paths.proofs.Splitting.{count-context}
-use Rattle.paths.proofs.Searching.{at-context, whole-context, whole-other, contains-deep, Stands, stands-one, stands-at, searches-is, Hit, hit-inside, hit-start, hit-context, hit-flat}
+use Rattle.paths.proofs.Searching.{at-context, whole-context, whole-other, contains-deep, Stands, stands-one, stands-at, searches-is, Sight, sight-inside, sight-context, sight-flat}
 
 -- ---- a part that was found
 pub clear-part : (f : Found) (k p n : ℕ) → f ≡ found-is.Part p n → Clear k (found f) → k + p < 2 ^ 64
@@ -120,6 +120,9 @@ opened c k n e z = go (contextOf c k) refl
 pub opened-ok : {c : List ℕ} {k : ℕ} (O : Opened c k) → Ok (contextAt valueLevels c)
 opened-ok {c} O = is-ok (contextAt valueLevels c) (O .es) (O .ctx .read)
 
+pub opened-whole : {c : List ℕ} {k : ℕ} (O : Opened c k) → Ok (frontAt valueLevels c) × Fills true valueLevels c
+opened-whole {c} O = (whole-ok valueLevels c (opened-ok O), whole-fills valueLevels c true (opened-ok O))
+
 -- ---- `refusal`
 pub refused-value : (c : List ℕ) (k n : ℕ) → readValue c ≡ refused n → n ≡ lentCode (contextOf c k)
 unfolding contextOf _>>=_
@@ -156,8 +159,8 @@ part-done : (o : Outcome Entries) (es : Entries) (f : Entries → Option Spot) �
 unfolding extentOf _>>=_
 part-done o es f e = rw e
 
-pub searched : (c p : List ℕ) (O : Opened c (length p)) (r : Found) → Searches (contextAt valueLevels c) p r → found r ≡ extentOf (searchDeepCall c p)
-searched c p O r f = searches-is valueLevels c p (O .es) r (O .ctx .read) f ∙ part-done (contextOf c (length p)) (O .es) (spotIn p) (O .is)
+pub searched : (c p : List ℕ) (O : Opened c (length p)) (r : Found) → Searches (frontAt valueLevels c) p r → found r ≡ extentOf (searchDeepCall c p)
+searched c p O r f = searches-is p r (O .ctx .front) f ∙ part-done (contextOf c (length p)) (O .es) (spotIn p) (O .is)
 
 -- one name is a path
 pub entry-call : (c : List ℕ) (n : ℕ) → searchDeepCall c (n ∷ []) ≡ getEntryCall c n
@@ -185,7 +188,7 @@ module _ (c : List ℕ) (O : Opened c 0) where
     pub first-done : (k : ℕ) → k ≡ sizeAtV (valueAt 30 (behind 5 c)) → done (some (piece 5 k)) ≡ extentOf (getFirstCall c)
     first-done k e =
         let A = first-entry in
-        let z : k ≡ length (encV (A .v)) = e ∙ ap (λ (r : List ℕ). sizeAtV (valueAt 30 r)) (rest c 5) ∙ size-got (valueAt 30 (drop 5 c)) (A .v) (A .first) ∙ sym (length-encV (A .v)) in
+        let z : k ≡ length (encV (A .v)) = e ∙ size-behind 30 5 c (A .v) (A .first) ∙ sym (length-encV (A .v)) in
         ap (λ (j : ℕ). done (some (piece 5 j))) z ∙ sym (ap (λ x. done (mapped extent (firstSpot x))) (A .is)) ∙ part-done (contextOf c 0) (O .es) firstSpot (O .is)
 
 -- ---- a part that is lent
@@ -293,11 +296,8 @@ module _ (c : List ℕ) (O : Opened c 0) (bs : Bytes c) (n : ℕ) (e : n ≡ num
 
 -- ---- `is_context`
 pub record Entered (c : List ℕ) (n at : ℕ) : Type 0 where
-  pub from : ℕ
-  pub to : ℕ
-  pub hit : Hit valueLevels c n from to
-  pub is : contextOf c 0 ≡ done (hit .es)
-  pub start : at ≡ from + nameWidth
+  pub sight : Sight valueLevels c n at false
+  pub is : contextOf c 0 ≡ done (sight .es)
 
 module _ (c : List ℕ) (n : ℕ) (r : Found) (e : found r ≡ extentOf (getEntryCall c n)) where
   pub entered : (p k : ℕ) → r ≡ found-is.Part p k → Entered c n p
@@ -308,13 +308,7 @@ module _ (c : List ℕ) (n : ℕ) (r : Found) (e : found r ≡ extentOf (getEntr
       there es i none v q = absurd (let z : _≡_ {A = ℕ} 0 1 = cc in omega arith)
       there es i (some x) v q =
           let z : p ≡ entry-place n es + nameWidth = cc in
-          record {
-            from = entry-place n es;
-            to = entry-place n es + nameWidth + size-val x;
-            hit = record { es = es; ctx = context-done c 0 es i; x = x; value = v; start = refl; end = refl };
-            is = i;
-            start = z;
-          }
+          record { sight = record { es = es; front = context-done c 0 es i .front; told = record { x = x; value = v; start = z; end = λ e. absurd (true≢false (sym e)) } }; is = i }
 
       go : (o : Outcome Entries) → contextOf c 0 ≡ o → done (some (piece p k)) ≡ extentOf (do es ← o; done (mapped (spot (entry-place n es + nameWidth)) (value-of n es))) → Entered c n p
       go (done es) i q = there es i (value-of n es) refl q
@@ -340,15 +334,12 @@ module _ (c : List ℕ) (n : ℕ) (r : Found) (e : found r ≡ extentOf (getEntr
       go (done es) i q = absurd (refused-done q)
       go (refused j) i q = let z : m ≡ j = cc in call-refused (contextOf c 0) m (λ es. done (isContext n es)) (i ∙ ap refused (sym z))
 
-module _ {c : List ℕ} {n at : ℕ} (E : Entered c n at) (bs : Bytes c) where
+module _ {c : List ℕ} {n at : ℕ} (E : Entered c n at) where
   pub entered-inside : at < length c
-  entered-inside = omega (arith, E .start, hit-inside (E .hit) bs, hit-start (E .hit) bs)
-
-  first-byte : getD c (E .from + nameWidth) 0 ≡ getD c at 0
-  first-byte = ap (λ (i : ℕ). getD c i 0) (sym (E .start))
+  entered-inside = sight-inside (E .sight)
 
   pub context-yes : getD c at 0 ≡ 11 → done true ≡ isContextCall c n
-  context-yes h = question (contextOf c 0) (E .hit .es) (isContext n) true (E .is) (ap is-some (hit-context (E .hit) bs (first-byte ∙ h)))
+  context-yes h = question (contextOf c 0) (E .sight .es) (isContext n) true (E .is) (ap is-some (sight-context (E .sight) h))
 
   pub context-no : (getD c at 0 ≡ 11 → ⊥) → done false ≡ isContextCall c n
-  context-no h = question (contextOf c 0) (E .hit .es) (isContext n) false (E .is) (ap is-some (hit-flat (E .hit) bs (λ q. h (sym first-byte ∙ q))))
+  context-no h = question (contextOf c 0) (E .sight .es) (isContext n) false (E .is) (ap is-some (sight-flat (E .sight) h))

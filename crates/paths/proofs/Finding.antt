@@ -1,29 +1,29 @@
--- The loop that finds a name in a context: what is left of its entries.
+-- The loops that find a name in a context: what is left of its entries.
 -- Assumes nothing.
 use Prim.Native.Nat.{ℕ, suc, _+_, _-_, _<_, _≤_}
 use native.Mathlib.Omega.{arith}
 use mathlib.Core.Path.{_≡_, refl, sym, ap, ap₂, _∙_}
-use mathlib.Core.Bool.{cond}
+use mathlib.Core.Bool.{Bool, true, cond}
 use mathlib.Core.Option.{none, some}
 use mathlib.Core.List.{List}
 use lib.ListN.{length, drop}
-use borrow.Author.Tests.{eq-eqb, ne-eqb, lt-ltb, le-ltb}
+use lib.Dec.{eqb}
+use borrow.Author.Tests.{eqb-true, eq-eqb, ne-eqb, lt-ltb, le-ltb}
 use Rattle.form.specs.Limits.{nameWidth}
 use Rattle.form.specs.Trees.{Val, Entries, no-entries, entry}
 use Rattle.form.specs.Form.{numAt}
 use Rattle.order.specs.Size.{size-val, size-entries}
 use Rattle.types.specs.At.{Ok}
-use Rattle.types.proofs.Reading.{rest}
 use Rattle.values.specs.At.{valueAt, entriesAt, sizeAtV}
-use Rattle.values.proofs.Reading.{size-got}
 use Rattle.retrieval.proofs.Trees.{From}
 use Rattle.retrieval.proofs.Contexts.{This, this, none-left, size-next, size-none}
 use Rattle.retrieval.proofs.Answering.{behind}
 use Rattle.paths.specs.Paths.{value-of, below, entry-place}
-use Rattle.paths.specs.Places.{contextAt, placed, Finds}
+use Rattle.paths.specs.Places.{contextAt, frontAt, Fills, placed, Finds, Sights, Sees}
 use Rattle.paths.specs.declared.Place.{Place}
 use Rattle.paths.specs.declared.Place.the-variants as place-is
-use Rattle.paths.proofs.Whole.{Ctx, ctx-ok}
+use Rattle.paths.specs.declared.Seen.the-variants as seen-is
+use Rattle.paths.proofs.Whole.{size-behind, fills-behind, Front, front-read, front-ok, ctx-front}
 
 -- ---- on trees
 pub value-first : (n : ℕ) (v : Val) (es : Entries) → value-of n (entry n v es) ≡ some v
@@ -52,7 +52,7 @@ below-empty : (n : ℕ) → below n no-entries ≡ no-entries
 unfolding below
 below-empty n = refl
 
-value-empty : (n : ℕ) → value-of n no-entries ≡ none
+pub value-empty : (n : ℕ) → value-of n no-entries ≡ none
 unfolding value-of
 value-empty n = refl
 
@@ -65,44 +65,66 @@ pub finds-is : (l : ℕ) (s : List ℕ) (n : ℕ) (es : Entries) (r : Place) →
 unfolding Finds
 finds-is l s n es r e h = rw e at h
 
--- ---- the loop
+sees-at : {l : ℕ} {s : List ℕ} {n : ℕ} {es : Entries} {p : ℕ} {last : Bool} → Front l s es → Sights es n p last → Sees (frontAt l s) n (seen-is.At p last)
+unfolding Sees
+sees-at F h = rw (front-read F) h
+
+sees-none : {l : ℕ} {s : List ℕ} {es : Entries} (n : ℕ) → Front l s es → value-of n es ≡ none → Sees (frontAt l s) n seen-is.None
+unfolding Sees
+sees-none n F h = rw (front-read F) h
+
+-- ---- the loops
 pub record Finding (l : ℕ) (s : List ℕ) (name n at i : ℕ) : Type 0 where
-  pub whole : Entries
-  pub ctx : Ctx l s whole
+  pub all : Entries
+  pub front : Front l s all
   pub es : Entries
   pub least : ℕ
   pub upto : i ≤ n
   pub inside : at ≤ length s
   pub read : entriesAt (l - 1) (n - i) least (drop at s) ≡ some es
-  pub place : entry-place name whole ≡ at + size-entries (below name es)
-  pub value : value-of name whole ≡ value-of name es
+  pub place : entry-place name all ≡ at + size-entries (below name es)
+  pub value : value-of name all ≡ value-of name es
+  pub end : at + size-entries es ≡ 3 + size-entries all
 
-pub finding-starts : (l : ℕ) (s : List ℕ) (name n : ℕ) → Ok (contextAt l s) → n ≡ numAt 2 1 s → Finding l s name n 3 0
-finding-starts l s name n h e = go (ctx-ok l s h)
+pub finding-starts : (l : ℕ) (s : List ℕ) (name n : ℕ) → Ok (frontAt l s) → n ≡ numAt 2 1 s → Finding l s name n 3 0
+finding-starts l s name n h e = go (front-ok l s h)
   where
-    go : (es : Entries) × Ctx l s es → Finding l s name n 3 0
-    go (es, C) =
+    go : (es : Entries) × Front l s es → Finding l s name n 3 0
+    go (es, F) =
         let z : n - 0 ≡ numAt 2 1 s = omega arith in
         record {
-          whole = es;
-          ctx = C;
+          all = es;
+          front = F;
           es = es;
           least = 0;
           upto = omega arith;
-          inside = C .three;
-          read = ap (λ (k : ℕ). entriesAt (l - 1) k 0 (drop 3 s)) z ∙ C .entries;
+          inside = F .three;
+          read = ap (λ (k : ℕ). entriesAt (l - 1) k 0 (drop 3 s)) z ∙ F .entries;
           place = refl;
           value = refl;
+          end = refl;
         }
 
+-- a name that is absent, and where it would stand
+pub record Absent (es : Entries) (n at : ℕ) : Type 0 where
+  pub place : entry-place n es ≡ at
+  pub value : value-of n es ≡ none
+
 module _ {l : ℕ} {s : List ℕ} {name n at i : ℕ} (Q : Finding l s name n at i) where
+  pub find-none : Ok (contextAt l s) → Absent (Q .all) name at → Finds (contextAt l s) name (place-is.None at)
+  find-none h M = finds l s name (Q .all) (place-is.None at) (ctx-front l s (Q .all) h (Q .front) .read) (sym (ap₂ placed (M .place) (M .value)))
+
+  pub seek-none : Absent (Q .all) name at → Sees (frontAt l s) name seen-is.None
+  seek-none M = sees-none name (Q .front) (M .value)
+
   -- no entry is left
-  pub finding-ended : n ≤ i → Finds (contextAt l s) name (place-is.None at)
+  pub finding-ended : n ≤ i → Absent (Q .all) name at
   finding-ended h =
       let z = none-left (l - 1) i n at (Q .least) s (Q .es) h (Q .read) in
-      let p : entry-place name (Q .whole) ≡ at = omega (arith, Q .place, ap (λ x. size-entries (below name x)) z ∙ ap size-entries (below-empty name) ∙ size-none) in
-      let v : value-of name (Q .whole) ≡ none = Q .value ∙ ap (value-of name) z ∙ value-empty name in
-      finds l s name (Q .whole) (place-is.None at) (Q .ctx .read) (sym (ap₂ placed p v))
+      record {
+        place = omega (arith, Q .place, ap (λ x. size-entries (below name x)) z ∙ ap size-entries (below-empty name) ∙ size-none);
+        value = Q .value ∙ ap (value-of name) z ∙ value-empty name;
+      }
 
   module _ (h : i < n) where
     abbrev A : This (l - 1) (n - (i + 1)) at (Q .least) s (Q .es)
@@ -111,39 +133,54 @@ module _ {l : ℕ} {s : List ℕ} {name n at i : ℕ} (Q : Finding l s name n at
     pub finding-name : at + nameWidth ≤ length s
     finding-name = A .two
 
+    -- the context ends with its last entry
+    last-ends : eqb (i + 1) n ≡ true → at + nameWidth + size-val (A .v) ≡ 3 + size-entries (Q .all)
+    last-ends e =
+        let z = none-left (l - 1) (i + 1) n (at + nameWidth + size-val (A .v)) (suc (A .name)) s (A .more) (omega (arith, eqb-true (i + 1) n e)) (A .second) in
+        omega (arith, Q .end, A .sized, ap size-entries z, size-none)
+
+    pub finding-fills : Ok (contextAt l s) → Fills (eqb (i + 1) n) (l - 1) (behind (at + nameWidth) s)
+    finding-fills k e = fills-behind (l - 1) (at + nameWidth) s (A .v) (A .first) (last-ends e ∙ ctx-front l s (Q .all) k (Q .front) .all)
+
     module _ (x : ℕ) (ex : x ≡ numAt nameWidth at s) where
       is-name : x ≡ A .name
       is-name = ex ∙ sym (A .named)
 
+      -- it does not stand before this entry
+      here-place : name ≤ x → entry-place name (Q .all) ≡ at
+      here-place b = let m : name ≤ A .name = omega (arith, is-name) in omega (arith, Q .place, ap (λ z. size-entries (below name z)) (A .is) ∙ ap size-entries (below-none name (A .name) (A .v) (A .more) m) ∙ size-none)
+
+      here-value : x ≡ name → value-of name (Q .all) ≡ some (A .v)
+      here-value b = let m : A .name ≡ name = sym is-name ∙ b in Q .value ∙ ap (value-of name) (A .is ∙ ap (λ z. entry z (A .v) (A .more)) m) ∙ value-first name (A .v) (A .more)
+
       -- the name is above the one that is looked for
-      pub finding-passed : name < x → Finds (contextAt l s) name (place-is.None at)
+      pub finding-passed : name < x → Absent (Q .all) name at
       finding-passed b =
           let m : name < A .name = omega (arith, is-name) in
-          let p : entry-place name (Q .whole) ≡ at = omega (arith, Q .place, ap (λ z. size-entries (below name z)) (A .is) ∙ ap size-entries (below-none name (A .name) (A .v) (A .more) (omega arith)) ∙ size-none) in
-          let v : value-of name (Q .whole) ≡ none =
-          Q .value ∙ ap (value-of name) (A .is) ∙ value-later name (A .name) (A .v) (A .more) (λ e. omega arith) ∙ value-absent name (suc (A .name)) (A .more) (A .from) (omega arith) in
-          finds l s name (Q .whole) (place-is.None at) (Q .ctx .read) (sym (ap₂ placed p v))
+          record {
+            place = here-place (omega arith);
+            value = Q .value ∙ ap (value-of name) (A .is) ∙ value-later name (A .name) (A .v) (A .more) (λ e. omega arith) ∙ value-absent name (suc (A .name)) (A .more) (A .from) (omega arith);
+          }
+
+      pub seek-hit : x ≡ name → Sees (frontAt l s) name (seen-is.At (at + nameWidth) (eqb (i + 1) n))
+      seek-hit b = sees-at (Q .front) (record { x = A .v; value = here-value b; start = ap (λ (k : ℕ). k + nameWidth) (sym (here-place (omega arith))); end = last-ends })
 
       module _ (k : ℕ) (ek : k ≡ sizeAtV (valueAt (l - 1) (behind (at + nameWidth) s))) where
         skipped : k ≡ size-val (A .v)
-        skipped = ek ∙ ap (λ (r : List ℕ). sizeAtV (valueAt (l - 1) r)) (rest s (at + nameWidth)) ∙ size-got (valueAt (l - 1) (drop (at + nameWidth) s)) (A .v) (A .first)
+        skipped = ek ∙ size-behind (l - 1) (at + nameWidth) s (A .v) (A .first)
 
         pub finding-end : at + nameWidth + k ≤ length s
         finding-end = omega (arith, A .fits, skipped)
 
-        pub finding-hit : x ≡ name → Finds (contextAt l s) name (place-is.At at (at + nameWidth + k))
-        finding-hit b =
-            let m : A .name ≡ name = sym is-name ∙ b in
-            let p : entry-place name (Q .whole) ≡ at = omega (arith, Q .place, ap (λ z. size-entries (below name z)) (A .is) ∙ ap size-entries (below-none name (A .name) (A .v) (A .more) (omega arith)) ∙ size-none) in
-            let v : value-of name (Q .whole) ≡ some (A .v) = Q .value ∙ ap (value-of name) (A .is ∙ ap (λ z. entry z (A .v) (A .more)) m) ∙ value-first name (A .v) (A .more) in
-            finds l s name (Q .whole) (place-is.At at (at + nameWidth + k)) (Q .ctx .read) (ap (λ z. place-is.At at (at + nameWidth + z)) skipped ∙ sym (ap₂ placed p v))
+        pub find-hit : Ok (contextAt l s) → x ≡ name → Finds (contextAt l s) name (place-is.At at (at + nameWidth + k))
+        find-hit g b = finds l s name (Q .all) (place-is.At at (at + nameWidth + k)) (ctx-front l s (Q .all) g (Q .front) .read) (ap (λ z. place-is.At at (at + nameWidth + z)) skipped ∙ sym (ap₂ placed (here-place (omega arith)) (here-value b)))
 
         pub finding-next : x ≤ name → (x ≡ name → ⊥) → Finding l s name n (at + nameWidth + k) (i + 1)
         finding-next b d =
             let m : A .name < name = omega (arith, is-name) in
             record {
-              whole = Q .whole;
-              ctx = Q .ctx;
+              all = Q .all;
+              front = Q .front;
               es = A .more;
               least = suc (A .name);
               upto = omega arith;
@@ -151,4 +188,5 @@ module _ {l : ℕ} {s : List ℕ} {name n at i : ℕ} (Q : Finding l s name n at
               read = ap (λ (z : ℕ). entriesAt (l - 1) (n - (i + 1)) (suc (A .name)) (drop (at + nameWidth + z) s)) skipped ∙ A .second;
               place = omega (arith, Q .place, ap (λ z. size-entries (below name z)) (A .is) ∙ ap size-entries (below-more name (A .name) (A .v) (A .more) m) ∙ size-next (A .name) (A .v) (below name (A .more)), skipped);
               value = Q .value ∙ ap (value-of name) (A .is) ∙ value-later name (A .name) (A .v) (A .more) (λ e. omega arith);
+              end = omega (arith, Q .end, A .sized, skipped);
             }

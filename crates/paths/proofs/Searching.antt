@@ -4,36 +4,42 @@ use Prim.Native.Nat.{ℕ, zero, suc, _+_, _-_, _<_, _≤_, _^_}
 use native.Mathlib.Omega.{arith}
 use native.Mathlib.Nat.{add-zero}
 use mathlib.Core.Path.{_≡_, refl, sym, ap, ap₂, subst, _∙_}
+use mathlib.Core.Bool.{Bool, true, false, cond}
 use mathlib.Core.Option.{Option, none, some}
 use mathlib.Core.List.{List, [], _∷_}
-use lib.ListN.{length, getD, take, drop, length-take, length-drop}
-use lib.Seq.{take-take, drop-drop, getD-take, getD-drop}
+use lib.ListN.{length, getD, take, drop, length-drop}
+use lib.Seq.{take-take, drop-drop, getD-drop}
+use lib.Dec.{ltb, eqb}
+use borrow.Author.Tests.{eqb-true, eqb-false, ltb-true, ltb-false}
 use Rattle.form.specs.Limits.{nameWidth}
-use Rattle.form.specs.Trees.{Val, v-context, Entries}
-use Rattle.form.specs.Form.{Bytes, encV}
+use Rattle.form.specs.Trees.{Val, v-context, Entries, no-entries, entry}
+use Rattle.form.specs.Form.{numAt, Bytes, encV}
 use Rattle.form.specs.Outcome.{Outcome, done}
 use Rattle.form.specs.Read.{readV}
 use Rattle.form.proofs.Exact.{bytes-drop}
 use Rattle.form.proofs.Numbers.{bytes-take}
 use Rattle.form.proofs.Values.{encV-some}
-use Rattle.order.specs.Size.{size-val}
+use Rattle.order.specs.Size.{size-val, size-entries}
 use Rattle.order.proofs.LeastSize.{length-encV}
 use Rattle.types.specs.At.{Ok}
 use Rattle.types.proofs.Reading.{rest, is-ok, got-seen}
-use Rattle.values.specs.At.{valueAt}
-use Rattle.values.proofs.Reading.{is-val}
+use Rattle.values.specs.At.{valueAt, entriesAt, sizeAtV}
+use Rattle.values.proofs.Reading.{is-val, size-got, some-byte, next-entry, no-entry}
 use Rattle.retrieval.specs.Retrieve.{mapped}
 use Rattle.retrieval.proofs.Answering.{behind}
-use Rattle.retrieval.proofs.Contexts.{context-val}
-use Rattle.retrieval.proofs.Theorems.{none-some}
-use Rattle.paths.specs.Paths.{value-of, entries-of, given, is-some, or-empty, context-at, search, among, containsDeep, entry-place, place}
-use Rattle.paths.specs.Places.{wholeAt, contextAt, placed, Finds, spot, piece, Piece, extent, found, spotIn, Searches, shifted, Clear}
+use Rattle.retrieval.proofs.Contexts.{ContextVal, context-val, size-context, size-next, size-none, from-read}
+use Rattle.retrieval.proofs.Theorems.{none-some, some-same}
+use Rattle.retrieval.proofs.Trees.{From}
+use Rattle.paths.specs.Paths.{value-of, below, entries-of, given, is-some, or-empty, context-at, search, among, containsDeep, entry-place, place}
+use Rattle.paths.specs.Places.{wholeAt, contextAt, frontAt, Fills, Sights, Sees, placed, Finds, spot, piece, Piece, extent, found, spotIn, Searches, shifted, Clear}
 use Rattle.paths.specs.declared.Place.{Place}
 use Rattle.paths.specs.declared.Place.the-variants as place-is
+use Rattle.paths.specs.declared.Seen.{Seen}
+use Rattle.paths.specs.declared.Seen.the-variants as seen-is
 use Rattle.paths.specs.declared.Found.{Found}
 use Rattle.paths.specs.declared.Found.the-variants as found-is
-use Rattle.paths.proofs.Whole.{whole-is, of-context, given-is, Ctx, ctx-of, ctx-ok}
-use Rattle.paths.proofs.Finding.{finds-is}
+use Rattle.paths.proofs.Whole.{whole-is, of-context, given-is, size-behind, fills-behind, Front, front-of, front-read, front-ok, Ctx, ctx-of, ctx-ok}
+use Rattle.paths.proofs.Finding.{value-empty, value-first, value-later, value-absent, below-more, below-none, finds-is}
 use Rattle.paths.proofs.Splitting.{around-some, part-some, child-whole}
 
 -- ---- a whole value and its first byte
@@ -55,12 +61,15 @@ whole-context l s v e h =
     let K = context-val l s v (is-val l s v (whole-value l s v e)) h in
     record { es = K .es; is = K .is; read = at-context l s v (K .es) e (K .is) }
 
-pub whole-other : (l : ℕ) (s : List ℕ) (v : Val) → wholeAt l s ≡ some v → (getD s 0 0 ≡ 11 → ⊥) → entries-of v ≡ none
-whole-other l s v e h = go (entries-of v) refl
+value-other : (l : ℕ) (s : List ℕ) (v : Val) → valueAt l s ≡ some v → (getD s 0 0 ≡ 11 → ⊥) → entries-of v ≡ none
+value-other l s v e h = go (entries-of v) refl
   where
     go : (o : Option Entries) → entries-of v ≡ o → entries-of v ≡ none
     go none q = q
-    go (some es) q = absurd (h (ctx-of l s es (at-context l s v es e (of-context v es q)) .command))
+    go (some es) q = absurd (h (front-of l s v es e q .command))
+
+pub whole-other : (l : ℕ) (s : List ℕ) (v : Val) → wholeAt l s ≡ some v → (getD s 0 0 ≡ 11 → ⊥) → entries-of v ≡ none
+whole-other l s v e h = value-other l s v (whole-value l s v e) h
 
 -- ---- on trees
 -- the first name and the others of a path
@@ -92,6 +101,30 @@ contains-deep (n ∷ m ∷ ns) es = go (λ fs. contains-deep (m ∷ ns) fs) (con
     go : ((fs : Entries) → containsDeep (m ∷ ns) fs ≡ is-some (search (m ∷ ns) fs)) → (o : Option Entries) → among o (λ fs. containsDeep (m ∷ ns) fs) ≡ is-some (given o (λ fs. search (m ∷ ns) fs))
     go ih none = refl
     go ih (some fs) = ih fs
+
+-- a value ends where its context does, or before
+entry-inside : (n : ℕ) (es : Entries) (x : Val) → value-of n es ≡ some x → size-entries (below n es) + nameWidth + size-val x ≤ size-entries es
+unfolding value-of below
+entry-inside n no-entries x e = absurd (none-some e)
+entry-inside n (entry m v es) x e = go (entry-inside n es x) (eqb n m) (ltb m n) refl refl e
+  where
+    go : (value-of n es ≡ some x → size-entries (below n es) + nameWidth + size-val x ≤ size-entries es) → (a b : Bool) → eqb n m ≡ a → ltb m n ≡ b → cond a (some v) (value-of n es) ≡ some x → size-entries (cond b (entry m v (below n es)) no-entries) + nameWidth + size-val x ≤ size-entries (entry m v es)
+    go ih true true p q h = absurd (omega (arith, eqb-true n m p, ltb-true m n q))
+    go ih true false p q h = omega (arith, size-next m v es, size-none, ap size-val (some-same h))
+    go ih false true p q h = omega (arith, ih h, size-next m v es, size-next m v (below n es))
+    go ih false false p q h = omega (arith, ih h, size-next m v es, size-none)
+
+place-inside : (p : List ℕ) (es : Entries) (x : Val) → search p es ≡ some x → place p es + size-val x ≤ 3 + size-entries es
+unfolding search place
+place-inside [] es x e = absurd (none-some e)
+place-inside (n ∷ []) es x e = omega (arith, entry-inside n es x e)
+place-inside (n ∷ m ∷ ns) es x e = go (place-inside (m ∷ ns)) (given-is (context-at n es) (λ fs. search (m ∷ ns) fs) x e)
+  where
+    go : ((fs : Entries) (x : Val) → search (m ∷ ns) fs ≡ some x → place (m ∷ ns) fs + size-val x ≤ 3 + size-entries fs) → (fs : Entries) × (context-at n es ≡ some fs) × (search (m ∷ ns) fs ≡ some x) → entry-place n es + nameWidth + place (m ∷ ns) (or-empty (context-at n es)) + size-val x ≤ 3 + size-entries es
+    go ih (fs, p, q) = under (given-is (value-of n es) entries-of fs p)
+      where
+        under : (y : Val) × (value-of n es ≡ some y) × (entries-of y ≡ some fs) → entry-place n es + nameWidth + place (m ∷ ns) (or-empty (context-at n es)) + size-val x ≤ 3 + size-entries es
+        under (y, a, b) = omega (arith, ih fs x q, entry-inside n es y a, ap size-val (of-context y fs b), size-context fs, ap (λ (o : Option Entries). place (m ∷ ns) (or-empty o)) p)
 
 -- ---- in the bytes
 part-in-part : (q m j : ℕ) (t : List ℕ) → q + m ≤ j → take m (drop q (take j t)) ≡ take m (drop q t)
@@ -133,14 +166,47 @@ stands-at (n ∷ m ∷ ns) l s es x bs C e = go (λ part fs. stands-at (m ∷ ns
             let I = ih part fs (bytes-take (size-val y) (drop k s) (bytes-drop k s bs)) C′ q in
             subst (λ (o : Option Entries). Stands s (k + place (m ∷ ns) (or-empty o)) x) (sym p) (stands-in s k y (place (m ∷ ns) fs) x (stands-one l n s es y bs C a) I)
 
--- ---- in and out
-pub searches : (l : ℕ) (s p : List ℕ) (es : Entries) (r : Found) → contextAt l s ≡ some es → found r ≡ done (mapped extent (spotIn p es)) → Searches (contextAt l s) p r
-unfolding Searches
-searches l s p es r e h = rw e h
+-- the value of a name in the entries that stand at the front of s
+abbrev There : ℕ → List ℕ → ℕ → Val → Entries → Type 0
+There l s n x es = value-of n es ≡ some x → valueAt l (drop (size-entries (below n es) + nameWidth) s) ≡ some x
 
-pub searches-is : (l : ℕ) (s p : List ℕ) (es : Entries) (r : Found) → contextAt l s ≡ some es → Searches (contextAt l s) p r → found r ≡ done (mapped extent (spotIn p es))
+next-there : (l : ℕ) (s : List ℕ) (n : ℕ) (x : Val) (m : ℕ) (v : Val) (es : Entries) → valueAt l (drop nameWidth s) ≡ some v → From (suc m) es → There l (drop (size-val v) (drop nameWidth s)) n x es → There l s n x (entry m v es)
+next-there l s n x m v es first from ih h = go (ltb m n) (eqb n m) refl refl
+  where
+    moved : (i : ℕ) → size-entries (below n (entry m v es)) + nameWidth ≡ i → valueAt l (drop (size-entries (below n (entry m v es)) + nameWidth) s) ≡ valueAt l (drop i s)
+    moved i q = ap (λ (g : ℕ). valueAt l (drop g s)) q
+
+    go : (a b : Bool) → ltb m n ≡ a → eqb n m ≡ b → valueAt l (drop (size-entries (below n (entry m v es)) + nameWidth) s) ≡ some x
+    go true b p q =
+        let c = ltb-true m n p in
+        let j = size-entries (below n es) + nameWidth in
+        moved (nameWidth + (size-val v + j)) (omega (arith, ap size-entries (below-more n m v es c), size-next m v (below n es)))
+        ∙ ap (valueAt l) (sym (drop-drop (size-val v + j) nameWidth s) ∙ sym (drop-drop j (size-val v) (drop nameWidth s)))
+        ∙ ih (sym (value-later n m v es (λ u. omega arith)) ∙ h)
+    go false true p q =
+        let c = eqb-true n m q in
+        moved nameWidth (omega (arith, ap size-entries (below-none n m v es (omega arith)), size-none))
+        ∙ first
+        ∙ sym (ap (λ (g : ℕ). value-of n (entry g v es)) (sym c) ∙ value-first n v es)
+        ∙ h
+    go false false p q = absurd (none-some (sym (value-later n m v es (eqb-false n m q) ∙ value-absent n (suc m) es from (omega (arith, ltb-false m n p))) ∙ h))
+
+value-there : (l k least : ℕ) (s : List ℕ) (n : ℕ) (x : Val) (es : Entries) → entriesAt l k least s ≡ some es → There l s n x es
+value-there l zero least s n x es e = λ h. absurd (none-some (sym (ap (value-of n) (no-entry l least s es e) ∙ value-empty n) ∙ h))
+value-there l (suc k) least s n x es e =
+    let E = next-entry l k least s es e in
+    let r = drop (size-val (E .v)) (drop nameWidth s) in
+    let ih = value-there l k (suc (E .name)) r n x (E .more) (E .second) in
+    subst (There l s n x) (sym (E .is)) (next-there l s n x (E .name) (E .v) (E .more) (E .first) (from-read l k (suc (E .name)) r (E .more) (E .second)) ih)
+
+-- ---- in and out
+pub searches : {l : ℕ} {s : List ℕ} {es : Entries} (p : List ℕ) (r : Found) → Front l s es → found r ≡ done (mapped extent (spotIn p es)) → Searches (frontAt l s) p r
 unfolding Searches
-searches-is l s p es r e h = rw e at h
+searches p r F h = rw (front-read F) h
+
+pub searches-is : {l : ℕ} {s : List ℕ} {es : Entries} (p : List ℕ) (r : Found) → Front l s es → Searches (frontAt l s) p r → found r ≡ done (mapped extent (spotIn p es))
+unfolding Searches
+searches-is p r F h = rw (front-read F) at h
 
 abbrev pieces : ℕ → Option Val → Outcome (Option Piece)
 pieces q o = done (mapped extent (mapped (spot q) o))
@@ -154,15 +220,12 @@ clear-pieces k q none h = tt
 clear-pieces k q (some x) h = h x refl
 
 -- nothing is found
-searched-none : (l : ℕ) (s p : List ℕ) (es : Entries) → contextAt l s ≡ some es → search p es ≡ none → Searches (contextAt l s) p found-is.None
-searched-none l s p es e h = searches l s p es found-is.None e (sym (ap (pieces (place p es)) h))
+searched-none : {l : ℕ} {s : List ℕ} {es : Entries} (p : List ℕ) → Front l s es → search p es ≡ none → Searches (frontAt l s) p found-is.None
+searched-none {es = es} p F h = searches p found-is.None F (sym (ap (pieces (place p es)) h))
 
-pub path-empty : (l : ℕ) (s p : List ℕ) → Ok (contextAt l s) → length p ≡ 0 → Searches (contextAt l s) p found-is.None
+pub path-empty : (l : ℕ) (s p : List ℕ) → Ok (frontAt l s) → length p ≡ 0 → Searches (frontAt l s) p found-is.None
 unfolding search
-path-empty l s [] h e = go (ctx-ok l s h)
-  where
-    go : (es : Entries) × Ctx l s es → Searches (contextAt l s) [] found-is.None
-    go (es, C) = searched-none l s [] es (C .read) refl
+path-empty l s [] h e = searched-none [] (front-ok l s h .1) refl
 path-empty l s (n ∷ ns) h e = absurd (omega arith)
 
 -- ---- what `find` says
@@ -204,11 +267,6 @@ miss l s n r at h f e = go (ctx-ok l s h)
         told none v q = record { es = es; ctx = C; value = v; start = cc }
         told (some x) v q = absurd (let z : _≡_ {A = ℕ} 0 1 = cc in omega arith)
 
-pub find-missed : (l : ℕ) (s p : List ℕ) (n : ℕ) (r : Place) (at : ℕ) → Ok (contextAt l s) → (length p ≡ 0 → ⊥) → n ≡ getD p 0 0 → Finds (contextAt l s) n r → r ≡ place-is.None at → Searches (contextAt l s) p found-is.None
-find-missed l s p n r at h d m f e =
-    let M = miss l s n r at h f e in
-    searched-none l s p (M .es) (M .ctx .read) (ap (λ z. search z (M .es)) (path-first p d ∙ ap (λ (k : ℕ). k ∷ drop 1 p) (sym m)) ∙ search-absent n (drop 1 p) (M .es) (M .value))
-
 module _ {l : ℕ} {s : List ℕ} {n from to : ℕ} (H : Hit l s n from to) (bs : Bytes s) where
   pub hit-inside : to ≤ length s
   hit-inside = omega (arith, H .start, H .end, stands-one l n s (H .es) (H .x) bs (H .ctx) (H .value) .within)
@@ -226,34 +284,73 @@ module _ {l : ℕ} {s : List ℕ} {n from to : ℕ} (H : Hit l s n from to) (bs 
   pub hit-whole : wholeAt (l - 1) part ≡ some (H .x)
   hit-whole = ap₂ (λ (i j : ℕ). wholeAt (l - 1) (take i (drop (j + nameWidth) s))) hit-size (H .start) ∙ child-whole l n s (H .es) (H .x) bs (H .ctx) (H .value)
 
-  hit-byte : getD part 0 0 ≡ getD s (from + nameWidth) 0
-  hit-byte =
-      let z : 0 < to - (from + nameWidth) = omega (arith, hit-start) in
-      getD-take (to - (from + nameWidth)) (drop (from + nameWidth) s) 0 0 z ∙ getD-drop (from + nameWidth) s 0 0 ∙ ap (λ (i : ℕ). getD s i 0) (add-zero (from + nameWidth))
+-- ---- what `seek` says
+pub record Sight (l : ℕ) (s : List ℕ) (n from : ℕ) (last : Bool) : Type 0 where
+  pub es : Entries
+  pub front : Front l s es
+  pub told : Sights es n from last
+
+sees-is : {l : ℕ} {s : List ℕ} {es : Entries} (n : ℕ) (r : Seen) → Front l s es → Sees (frontAt l s) n r → Sees (some es) n r
+sees-is n r F h = subst (λ o. Sees o n r) (front-read F) h
+
+pub sight : (l : ℕ) (s : List ℕ) (n : ℕ) (r : Seen) (from : ℕ) (last : Bool) → Ok (frontAt l s) → Sees (frontAt l s) n r → r ≡ seen-is.At from last → Sight l s n from last
+unfolding Sees
+sight l s n r from last h f e =
+    let F = front-ok l s h in
+    record { es = F .0; front = F .1; told = subst (λ z. Sees (some (F .0)) n z) e (sees-is n r (F .1) f) }
+
+module _ (p : List ℕ) (d : length p ≡ 0 → ⊥) (n : ℕ) (m : n ≡ getD p 0 0) where
+  path-is : p ≡ n ∷ drop 1 p
+  path-is = path-first p d ∙ ap (λ (k : ℕ). k ∷ drop 1 p) (sym m)
+
+  pub seek-missed : (l : ℕ) (s : List ℕ) (r : Seen) → Ok (frontAt l s) → Sees (frontAt l s) n r → r ≡ seen-is.None → Searches (frontAt l s) p found-is.None
+  unfolding Sees
+  seek-missed l s r h f e =
+      let F = front-ok l s h in
+      let v : value-of n (F .0) ≡ none = subst (λ z. Sees (some (F .0)) n z) e (sees-is n r (F .1) f) in
+      searched-none p (F .1) (ap (λ z. search z (F .0)) path-is ∙ search-absent n (drop 1 p) (F .0) v)
+
+module _ {l : ℕ} {s : List ℕ} {n from : ℕ} {last : Bool} (H : Sight l s n from last) where
+  abbrev x : Val
+  x = H .told .x
+
+  sight-value : valueAt (l - 1) (drop from s) ≡ some x
+  sight-value =
+      let j = size-entries (below n (H .es)) in
+      let i : from ≡ 3 + (j + nameWidth) = omega (arith, H .told .start) in
+      ap (λ (k : ℕ). valueAt (l - 1) (drop k s)) i ∙ ap (valueAt (l - 1)) (sym (drop-drop (j + nameWidth) 3 s)) ∙ value-there (l - 1) (numAt 2 1 s) 0 (drop 3 s) n x (H .es) (H .front .entries) (H .told .value)
+
+  pub sight-inside : from < length s
+  sight-inside = omega (arith, some-byte (l - 1) (drop from s) x sight-value, length-drop from s)
+
+  -- it takes all bytes that are left, where it is the last one of a context that takes all bytes
+  pub sight-fills : (whole end : Bool) → Fills whole l s → (end ≡ true → (whole ≡ true) × (last ≡ true)) → Fills end (l - 1) (behind from s)
+  sight-fills whole end f g e =
+      let z : size-val (v-context (H .es)) ≡ length s = sym (size-got (valueAt l s) (v-context (H .es)) (H .front .value)) ∙ f (g e .0) in
+      fills-behind (l - 1) from s x sight-value (H .told .end (g e .1) ∙ sym (size-context (H .es)) ∙ z)
+
+  sight-byte : getD (drop from s) 0 0 ≡ getD s from 0
+  sight-byte = getD-drop from s 0 0 ∙ ap (λ (i : ℕ). getD s i 0) (add-zero from)
 
   -- whether it is a context
-  pub hit-under : getD s (from + nameWidth) 0 ≡ 11 → WholeContext (l - 1) part (H .x)
-  hit-under h = whole-context (l - 1) part (H .x) hit-whole (hit-byte ∙ h)
+  pub sight-under : getD s from 0 ≡ 11 → ContextVal (l - 1) (drop from s) x
+  sight-under h = context-val (l - 1) (drop from s) x (is-val (l - 1) (drop from s) x sight-value) (sight-byte ∙ h)
 
-  pub hit-context : (h : getD s (from + nameWidth) 0 ≡ 11) → context-at n (H .es) ≡ some (hit-under h .es)
-  hit-context h = ap (λ o. given o entries-of) (H .value ∙ ap some (hit-under h .is))
+  pub sight-context : (h : getD s from 0 ≡ 11) → context-at n (H .es) ≡ some (sight-under h .es)
+  sight-context h = ap (λ o. given o entries-of) (H .told .value ∙ ap some (sight-under h .is))
 
-  pub hit-flat : (getD s (from + nameWidth) 0 ≡ 11 → ⊥) → context-at n (H .es) ≡ none
-  hit-flat h = ap (λ o. given o entries-of) (H .value) ∙ whole-other (l - 1) part (H .x) hit-whole (λ e. h (sym hit-byte ∙ e))
+  pub sight-flat : (getD s from 0 ≡ 11 → ⊥) → context-at n (H .es) ≡ none
+  sight-flat h = ap (λ o. given o entries-of) (H .told .value) ∙ value-other (l - 1) (drop from s) x sight-value (λ e. h (sym sight-byte ∙ e))
 
   module _ (p : List ℕ) (d : length p ≡ 0 → ⊥) (m : n ≡ getD p 0 0) where
-    path-is : p ≡ n ∷ drop 1 p
-    path-is = path-first p d ∙ ap (λ (k : ℕ). k ∷ drop 1 p) (sym m)
-
     -- the path ends here
-    pub hit-last : length p ≡ 1 → Searches (contextAt l s) p (found-is.Part (from + nameWidth) (to - (from + nameWidth)))
+    pub sight-last : length p ≡ 1 → (k : ℕ) → k ≡ sizeAtV (valueAt (l - 1) (behind from s)) → Searches (frontAt l s) p (found-is.Part from k)
     unfolding search place
-    hit-last e =
+    sight-last e k ek =
         let z : length (drop 1 p) ≡ 0 = simp length-drop (omega arith) in
-        let q : p ≡ n ∷ [] = path-is ∙ ap (λ (r : List ℕ). n ∷ r) (empty (drop 1 p) z) in
-        let a : found (found-is.Part (from + nameWidth) (to - (from + nameWidth))) ≡ pieces (entry-place n (H .es) + nameWidth) (some (H .x)) = ap₂ (λ (i j : ℕ). done (some (piece (i + nameWidth) j))) (H .start) (hit-size ∙ sym (length-encV (H .x))) in
-        searches l s p (H .es) (found-is.Part (from + nameWidth) (to - (from + nameWidth))) (H .ctx .read)
-        (a ∙ sym (ap (pieces (entry-place n (H .es) + nameWidth)) (H .value)) ∙ ap (λ (z : List ℕ). done (mapped extent (spotIn z (H .es)))) (sym q))
+        let q : p ≡ n ∷ [] = path-is p d n m ∙ ap (λ (r : List ℕ). n ∷ r) (empty (drop 1 p) z) in
+        let a : found (found-is.Part from k) ≡ pieces (entry-place n (H .es) + nameWidth) (some x) = ap₂ (λ (i j : ℕ). done (some (piece i j))) (H .told .start) (ek ∙ size-behind (l - 1) from s x sight-value ∙ sym (length-encV x)) in
+        searches p (found-is.Part from k) (H .front) (a ∙ sym (ap (pieces (entry-place n (H .es) + nameWidth)) (H .told .value)) ∙ ap (λ (z : List ℕ). done (mapped extent (spotIn z (H .es)))) (sym q))
       where
         empty : (r : List ℕ) → length r ≡ 0 → r ≡ []
         empty [] e = refl
@@ -264,34 +361,35 @@ module _ {l : ℕ} {s : List ℕ} {n from to : ℕ} (H : Hit l s n from to) (bs 
       more e = d1 (omega (arith, e, length-drop 1 p, d))
 
       -- there is no context to go on in
-      pub hit-other : (getD s (from + nameWidth) 0 ≡ 11 → ⊥) → Searches (contextAt l s) p found-is.None
-      hit-other h =
-          searched-none l s p (H .es) (H .ctx .read) (ap (λ z. search z (H .es)) path-is ∙ search-more n (drop 1 p) (H .es) more ∙ ap (λ o. given o (search (drop 1 p))) (hit-flat h))
+      pub sight-other : (getD s from 0 ≡ 11 → ⊥) → Searches (frontAt l s) p found-is.None
+      sight-other h =
+          searched-none p (H .front) (ap (λ z. search z (H .es)) (path-is p d n m) ∙ search-more n (drop 1 p) (H .es) more ∙ ap (λ o. given o (search (drop 1 p))) (sight-flat h))
 
       -- the others are searched in the context
-      module _ (h : getD s (from + nameWidth) 0 ≡ 11) where
-        abbrev K : WholeContext (l - 1) part (H .x)
-        K = hit-under h
+      module _ (h : getD s from 0 ≡ 11) where
+        abbrev fs : Entries
+        fs = sight-under h .es
 
-        pub hit-ok : Ok (contextAt (l - 1) part)
-        hit-ok = is-ok (contextAt (l - 1) part) (K .es) (K .read)
+        under : Front (l - 1) (behind from s) fs
+        under = subst (λ (r : List ℕ). Front (l - 1) r fs) (sym (rest s from)) (front-of (l - 1) (drop from s) x fs sight-value (ap entries-of (sight-under h .is)))
 
-        module _ (r : Found) (f : Searches (contextAt (l - 1) part) (behind 1 p) r) where
-          answer : found r ≡ pieces (place (drop 1 p) (K .es)) (search (drop 1 p) (K .es))
-          answer = searches-is (l - 1) part (behind 1 p) (K .es) r (K .read) f ∙ ap (λ (z : List ℕ). done (mapped extent (spotIn z (K .es)))) (rest p 1)
+        pub sight-ok : Ok (frontAt (l - 1) (behind from s))
+        sight-ok = is-ok (frontAt (l - 1) (behind from s)) fs (front-read under)
 
-          pub hit-clear : length s < 2 ^ 64 → Clear (from + nameWidth) (found r)
-          hit-clear b =
-              let q = place (drop 1 p) (K .es) in
-              let k : (x : Val) → search (drop 1 p) (K .es) ≡ some x → from + nameWidth + q < 2 ^ 64 =
-              λ x e. omega (arith, b, hit-inside, hit-start, stands-at (drop 1 p) (l - 1) part (K .es) x (bytes-take (to - (from + nameWidth)) (drop (from + nameWidth) s) (bytes-drop (from + nameWidth) s bs)) (ctx-of (l - 1) part (K .es) (K .read)) e .within, length-take (to - (from + nameWidth)) (drop (from + nameWidth) s)) in
-              subst (Clear (from + nameWidth)) (sym answer) (clear-pieces (from + nameWidth) q (search (drop 1 p) (K .es)) k)
+        module _ (r : Found) (f : Searches (frontAt (l - 1) (behind from s)) (behind 1 p) r) where
+          answer : found r ≡ pieces (place (drop 1 p) fs) (search (drop 1 p) fs)
+          answer = searches-is (behind 1 p) r under f ∙ ap (λ (z : List ℕ). done (mapped extent (spotIn z fs))) (rest p 1)
 
-          pub hit-down : (t : Found) → found t ≡ shifted (from + nameWidth) (found r) → Searches (contextAt l s) p t
-          hit-down t e =
-              let c = hit-context h in
-              let fs = K .es in
+          pub sight-clear : length s < 2 ^ 64 → Clear from (found r)
+          sight-clear b =
+              let q = place (drop 1 p) fs in
+              let k : (y : Val) → search (drop 1 p) fs ≡ some y → from + q < 2 ^ 64 = λ y e. omega (arith, b, sight-inside, place-inside (drop 1 p) fs y e, under .inside, ap length (rest s from), length-drop from s) in
+              subst (Clear from) (sym answer) (clear-pieces from q (search (drop 1 p) fs) k)
+
+          pub sight-down : (t : Found) → found t ≡ shifted from (found r) → Searches (frontAt l s) p t
+          sight-down t e =
+              let c = sight-context h in
               let ns = drop 1 p in
-              let a : search p (H .es) ≡ search ns fs = ap (λ z. search z (H .es)) path-is ∙ search-more n ns (H .es) more ∙ ap (λ o. given o (search ns)) c in
-              let b : place p (H .es) ≡ from + nameWidth + place ns fs = ap (λ z. place z (H .es)) path-is ∙ place-more n ns (H .es) more ∙ ap₂ (λ (i : ℕ) (o : Option Entries). i + nameWidth + place ns (or-empty o)) (sym (H .start)) c in
-              searches l s p (H .es) t (H .ctx .read) (e ∙ ap (shifted (from + nameWidth)) answer ∙ shifted-pieces (from + nameWidth) (place ns fs) (search ns fs) ∙ sym (ap₂ pieces b a))
+              let a : search p (H .es) ≡ search ns fs = ap (λ z. search z (H .es)) (path-is p d n m) ∙ search-more n ns (H .es) more ∙ ap (λ o. given o (search ns)) c in
+              let b : place p (H .es) ≡ from + place ns fs = ap (λ z. place z (H .es)) (path-is p d n m) ∙ place-more n ns (H .es) more ∙ ap₂ (λ (i : ℕ) (o : Option Entries). i + place ns (or-empty o)) (sym (H .told .start)) c in
+              searches p t (H .front) (e ∙ ap (shifted from) answer ∙ shifted-pieces from (place ns fs) (search ns fs) ∙ sym (ap₂ pieces b a))

@@ -186,9 +186,6 @@ module _ (s a b c : List ℕ) (i j : ℕ) (e : drop 3 s ≡ a ++ (b ++ c)) (p : 
   behind-first : drop (3 + i) s ≡ b ++ c
   behind-first = sym (drop-drop i 3 s) ∙ ap (drop i) e ∙ drop-at a (b ++ c) i p
 
-  middle-piece : take j (drop (3 + i) s) ≡ b
-  middle-piece = ap (take j) behind-first ∙ take-at b c j q
-
   last-piece : drop (3 + i + j) s ≡ c
   last-piece = sym (drop-drop j (3 + i) s) ∙ ap (drop j) behind-first ∙ drop-at b c j q
 

@@ -1,27 +1,28 @@
--- A context of which all bytes were read.
+-- A context at the front of the bytes, and one of which all bytes were read.
 -- Assumes nothing.
 use Prim.Native.Nat.{ℕ, _+_, _-_, _<_, _≤_}
 use native.Mathlib.Omega.{arith}
-use mathlib.Core.Path.{_≡_, refl, ap, _∙_}
+use mathlib.Core.Path.{_≡_, refl, sym, ap, subst, _∙_}
 use mathlib.Core.Bool.{Bool, true, false}
 use mathlib.Core.Option.{Option, none, some}
 use mathlib.Core.List.{List}
-use lib.ListN.{length, getD, drop}
+use lib.ListN.{length, getD, drop, length-drop}
 use lib.Dec.{eqb}
 use borrow.Author.Tests.{eqb-true, eq-eqb}
 use Rattle.form.specs.Trees.{Val, v-leaf, v-range, v-list, v-context, v-function, v-built-in, v-type, v-irrelevant, Entries}
 use Rattle.form.specs.Form.{numAt}
 use Rattle.form.specs.Outcome.{pick}
 use Rattle.form.specs.Read.{Got, got, bad, readV}
-use Rattle.order.specs.Size.{size-entries}
+use Rattle.order.specs.Size.{size-val, size-entries}
 use Rattle.types.specs.At.{Ok}
-use Rattle.types.proofs.Reading.{ok-got, got-seen}
-use Rattle.values.specs.At.{valueAt, entriesAt}
-use Rattle.values.proofs.Reading.{value-told, IsVal, is-null, is-boolean, is-number, is-string, is-temporal, is-range, is-list, is-context, is-definition, is-built-in, is-type, is-irrelevant, is-val, some-level}
+use Rattle.types.proofs.Reading.{rest, is-ok, ok-got, got-seen}
+use Rattle.values.specs.At.{valueAt, entriesAt, sizeAtV}
+use Rattle.values.proofs.Reading.{value-told, IsVal, is-null, is-boolean, is-number, is-string, is-temporal, is-range, is-list, is-context, is-definition, is-built-in, is-type, is-irrelevant, is-val, some-level, v-inside, size-got}
+use Rattle.retrieval.proofs.Answering.{behind}
 use Rattle.retrieval.proofs.Contexts.{size-context}
 use Rattle.retrieval.proofs.Theorems.{none-some, some-same}
 use Rattle.paths.specs.Paths.{entries-of, given}
-use Rattle.paths.specs.Places.{taken, wholeAt, contextAt}
+use Rattle.paths.specs.Places.{taken, wholeAt, contextAt, frontAt, Fills}
 
 -- ---- all bytes were taken
 pub taken-is : (n : ℕ) (r : Got Val) (v : Val) → taken n r ≡ some v → r ≡ got v n
@@ -44,6 +45,13 @@ whole-is l s v e = taken-is (length s) (readV l s) v e
 pub is-whole : (l : ℕ) (s : List ℕ) (v : Val) → readV l s ≡ got v (length s) → wholeAt l s ≡ some v
 unfolding wholeAt
 is-whole l s v e = is-taken (length s) (readV l s) v e
+
+-- ---- a value further on, as `&s[k..]` hands it over
+pub size-behind : (l k : ℕ) (s : List ℕ) (v : Val) → valueAt l (drop k s) ≡ some v → sizeAtV (valueAt l (behind k s)) ≡ size-val v
+size-behind l k s v e = ap (λ (r : List ℕ). sizeAtV (valueAt l r)) (rest s k) ∙ size-got (valueAt l (drop k s)) v e
+
+pub fills-behind : (l k : ℕ) (s : List ℕ) (v : Val) → valueAt l (drop k s) ≡ some v → k + size-val v ≡ length s → sizeAtV (valueAt l (behind k s)) ≡ length (behind k s)
+fills-behind l k s v e h = omega (arith, h, size-behind l k s v e, ap length (rest s k), length-drop k s)
 
 -- ---- a context
 pub of-context : (v : Val) (es : Entries) → entries-of v ≡ some es → v ≡ v-context es
@@ -71,15 +79,6 @@ pub read-context : (l : ℕ) (s : List ℕ) (es : Entries) → readV l s ≡ got
 unfolding contextAt
 read-context l s es e = ap (λ o. given o entries-of) (is-whole l s (v-context es) e)
 
-pub record Ctx (l : ℕ) (s : List ℕ) (es : Entries) : Type 0 where
-  pub read : contextAt l s ≡ some es
-  pub value : valueAt l s ≡ some (v-context es)
-  pub all : 3 + size-entries es ≡ length s
-  pub three : 3 ≤ length s
-  pub level : 0 < l
-  pub command : getD s 0 0 ≡ 11
-  pub entries : entriesAt (l - 1) (numAt 2 1 s) 0 (drop 3 s) ≡ some es
-
 record Node (l : ℕ) (s : List ℕ) (es : Entries) : Type 0 where
   three : 3 ≤ length s
   command : getD s 0 0 ≡ 11
@@ -99,20 +98,63 @@ node l s v es (is-built-in x c) h = absurd (none-some h)
 node l s v es (is-type t c p) h = absurd (none-some h)
 node l s v es (is-irrelevant c) h = absurd (none-some h)
 
+-- ---- the context at the front
+pub record Front (l : ℕ) (s : List ℕ) (es : Entries) : Type 0 where
+  pub value : valueAt l s ≡ some (v-context es)
+  pub inside : 3 + size-entries es ≤ length s
+  pub three : 3 ≤ length s
+  pub level : 0 < l
+  pub command : getD s 0 0 ≡ 11
+  pub entries : entriesAt (l - 1) (numAt 2 1 s) 0 (drop 3 s) ≡ some es
+
+pub front-of : (l : ℕ) (s : List ℕ) (v : Val) (es : Entries) → valueAt l s ≡ some v → entries-of v ≡ some es → Front l s es
+front-of l s v es e h =
+    let w = of-context v es h in
+    let N = node l s v es (is-val l s v e) h in
+    record {
+      value = e ∙ ap some w;
+      inside = omega (arith, v-inside l s v e, ap size-val w, size-context es);
+      three = N .three;
+      level = some-level l s v e;
+      command = N .command;
+      entries = N .entries;
+    }
+
+pub front-read : {l : ℕ} {s : List ℕ} {es : Entries} → Front l s es → frontAt l s ≡ some es
+unfolding frontAt
+front-read F = ap (λ o. given o entries-of) (F .value)
+
+pub front-ok : (l : ℕ) (s : List ℕ) → Ok (frontAt l s) → (es : Entries) × Front l s es
+unfolding frontAt
+front-ok l s h = go (ok-got (frontAt l s) h)
+  where
+    go : (es : Entries) × (frontAt l s ≡ some es) → (es : Entries) × Front l s es
+    go (es, e) = there (given-is (valueAt l s) entries-of es e)
+      where
+        there : (v : Val) × (valueAt l s ≡ some v) × (entries-of v ≡ some es) → (es : Entries) × Front l s es
+        there (v, p, q) = (es, front-of l s v es p q)
+
+-- ---- a context of which all bytes were read
+pub record Ctx (l : ℕ) (s : List ℕ) (es : Entries) : Type 0 where
+  pub read : contextAt l s ≡ some es
+  pub front : Front l s es
+  pub all : 3 + size-entries es ≡ length s
+  pub three : 3 ≤ length s
+  pub level : 0 < l
+  pub entries : entriesAt (l - 1) (numAt 2 1 s) 0 (drop 3 s) ≡ some es
+
 pub ctx-of : (l : ℕ) (s : List ℕ) (es : Entries) → contextAt l s ≡ some es → Ctx l s es
 unfolding valueAt
 ctx-of l s es e =
     let r = context-read l s es e in
-    let v : valueAt l s ≡ some (v-context es) = got-seen (readV l s) (v-context es) (length s) r in
-    let N = node l s (v-context es) es (is-val l s (v-context es) v) refl in
+    let F = front-of l s (v-context es) es (got-seen (readV l s) (v-context es) (length s) r) refl in
     record {
       read = e;
-      value = v;
+      front = F;
       all = omega (arith, value-told l s (v-context es) (length s) r .sized, size-context es);
-      three = N .three;
-      level = some-level l s (v-context es) v;
-      command = N .command;
-      entries = N .entries;
+      three = F .three;
+      level = F .level;
+      entries = F .entries;
     }
 
 pub ctx-ok : (l : ℕ) (s : List ℕ) → Ok (contextAt l s) → (es : Entries) × Ctx l s es
@@ -120,3 +162,16 @@ ctx-ok l s h = go (ok-got (contextAt l s) h)
   where
     go : (es : Entries) × (contextAt l s ≡ some es) → (es : Entries) × Ctx l s es
     go (es, e) = (es, ctx-of l s es e)
+
+-- it is the one at the front
+pub ctx-front : (l : ℕ) (s : List ℕ) (es : Entries) → Ok (contextAt l s) → Front l s es → Ctx l s es
+ctx-front l s es h F = go (ctx-ok l s h)
+  where
+    go : (fs : Entries) × Ctx l s fs → Ctx l s es
+    go (fs, C) = subst (Ctx l s) (some-same (sym (front-read (C .front)) ∙ front-read F)) C
+
+pub whole-ok : (l : ℕ) (s : List ℕ) → Ok (contextAt l s) → Ok (frontAt l s)
+whole-ok l s h = let C = ctx-ok l s h in is-ok (frontAt l s) (C .0) (front-read (C .1 .front))
+
+pub whole-fills : (l : ℕ) (s : List ℕ) (b : Bool) → Ok (contextAt l s) → Fills b l s
+whole-fills l s b h e = let C = ctx-ok l s h in size-got (valueAt l s) (v-context (C .0)) (C .1 .front .value) ∙ size-context (C .0) ∙ C .1 .all

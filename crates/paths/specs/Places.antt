@@ -12,11 +12,14 @@ use Rattle.form.specs.Trees.{Val, Entries}
 use Rattle.form.specs.Form.{encV}
 use Rattle.form.specs.Outcome.{Outcome, done, refused, pick, _>>=_}
 use Rattle.form.specs.Read.{Got, got, bad, readV}
-use Rattle.order.specs.Size.{size-val}
+use Rattle.order.specs.Size.{size-val, size-entries}
+use Rattle.values.specs.At.{valueAt, sizeAtV}
 use Rattle.retrieval.specs.Retrieve.{mapped}
 use Rattle.paths.specs.Paths.{value-of, entries-of, given, search, entry-place, place}
 use Rattle.paths.specs.declared.Place.{Place}
 use Rattle.paths.specs.declared.Place.the-variants as place-is
+use Rattle.paths.specs.declared.Seen.{Seen}
+use Rattle.paths.specs.declared.Seen.the-variants as seen-is
 use Rattle.paths.specs.declared.Found.{Found}
 use Rattle.paths.specs.declared.Found.the-variants as found-is
 
@@ -32,6 +35,14 @@ wholeAt l s = taken (length s) (readV l s)
 unfoldable pub contextAt : ℕ → List ℕ → Option Entries
 contextAt l s = given (wholeAt l s) entries-of
 
+-- the entries of the context at the front, whatever stands behind it
+unfoldable pub frontAt : ℕ → List ℕ → Option Entries
+frontAt l s = given (valueAt l s) entries-of
+
+-- the value at the front takes all bytes, where that is said
+abbrev pub Fills : Bool → ℕ → List ℕ → Type 0
+Fills whole l s = whole ≡ true → sizeAtV (valueAt l s) ≡ length s
+
 -- ---- one name: its entry from its place to its end, or the place where it would stand
 abbrev pub placed : ℕ → Option Val → Place
 placed p (some v) = place-is.At p (p + nameWidth + size-val v)
@@ -40,6 +51,18 @@ placed p none = place-is.None p
 unfoldable pub Finds : Option Entries → ℕ → Place → Type 0
 Finds (some es) n r = r ≡ placed (entry-place n es) (value-of n es)
 Finds none n r = Unit {0}
+
+-- its value starts at p; where it is said to be the last one, the context ends with it
+pub record Sights (es : Entries) (n p : ℕ) (last : Bool) : Type 0 where
+  pub x : Val
+  pub value : value-of n es ≡ some x
+  pub start : p ≡ entry-place n es + nameWidth
+  pub end : last ≡ true → p + size-val x ≡ 3 + size-entries es
+
+unfoldable pub Sees : Option Entries → ℕ → Seen → Type 0
+Sees (some es) n (seen-is.At p last) = Sights es n p last
+Sees (some es) n seen-is.None = value-of n es ≡ none
+Sees none n r = Unit {0}
 
 -- ---- a part of a context's bytes
 -- a value and the place where it stands

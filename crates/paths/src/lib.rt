@@ -5,7 +5,8 @@ ghost use Prim.Native.Nat.{ℕ, _+_, _<_, _≤_, _^_};
 ghost use lib.ListN.{length};
 ghost use Rattle.form.specs.Answers.{verdict};
 ghost use Rattle.types.specs.At.{Ok};
-ghost use Rattle.paths.specs.Places.{contextAt, Finds, Searches, found, extentOf, shifted, Clear, isFound, Lent, lentCode, Within, Lends};
+ghost use Rattle.values.specs.At.{valueAt, sizeAtV};
+ghost use Rattle.paths.specs.Places.{contextAt, frontAt, Fills, Finds, Sees, Searches, found, extentOf, shifted, Clear, isFound, Lent, lentCode, Within, Lends};
 ghost use Rattle.paths.specs.Calls.{contextOf, searchDeepCall, getEntryCall, getFirstCall, containsDeepCall, containsEntryCall, isContextCall, isEmptyCall, lenCall, count};
 use form::Checked;
 use form::NAME_WIDTH;
@@ -19,6 +20,12 @@ pub const MOST_NAMES: usize = 31;
 pub enum Place {
     At { from: usize, to: usize },
     None { at: usize },
+}
+
+// Where the value of a name starts in the context at the front, and whether it is the last one; or that there is none.
+enum Seen {
+    At { from: usize, last: bool },
+    None,
 }
 
 // What a call that finds a part of its argument answers: where it starts and how long it is; or none; or the refusal.
@@ -42,7 +49,18 @@ pub fn name_number(name: u16) -> usize
     name as usize
 }
 
-// The entry of a name in a context of which all bytes are `c`.
+// The size of the value at the front of `s`: all bytes where it is the whole of them.
+fn extent(s: &[u8], whole: bool, left: usize) -> usize
+    requires { ⌜ Fills whole left (now s) ⌝ }
+    ensures { λ r. ⌜ r ≡ sizeAtV (valueAt left (now (s .entry))) ⌝ }
+{
+    if whole {
+        return s.len();
+    }
+    values::skip(s, left)
+}
+
+// The entry of a name in a context of which all bytes are `c`. Where the last entry ends is known.
 pub fn find(c: &[u8], name: usize, left: usize) -> Place
     requires { ⌜ Ok (contextAt left (now c)) ⌝ }
     ensures { λ r. ⌜ Finds (contextAt left (now (c .entry))) name r ⌝ }
@@ -56,7 +74,7 @@ pub fn find(c: &[u8], name: usize, left: usize) -> Place
             return Place::None { at };
         }
         let p = at + NAME_WIDTH;
-        let q = p + values::skip(&c[p..], left - 1);
+        let q = p + extent(&c[p..], i + 1 == n, left - 1);
         if x == name {
             return Place::At { from: at, to: q };
         }
@@ -64,6 +82,32 @@ pub fn find(c: &[u8], name: usize, left: usize) -> Place
         i += 1;
     }
     Place::None { at }
+}
+
+// Where the value of a name starts in the context at the front of `c`: what stands before it is passed over, itself it is not.
+fn seek(c: &[u8], name: usize, left: usize) -> Seen
+    requires { ⌜ Ok (frontAt left (now c)) ⌝ }
+    ensures { λ r. ⌜ Sees (frontAt left (now (c .entry))) name r ⌝ }
+{
+    let n = form::word_at(c, 1);
+    let mut at: usize = 3;
+    let mut i: usize = 0;
+    while i < n {
+        let x = form::name_at(c, at);
+        if name < x {
+            return Seen::None;
+        }
+        let p = at + NAME_WIDTH;
+        if x == name {
+            return Seen::At {
+                from: p,
+                last: i + 1 == n,
+            };
+        }
+        at = p + values::skip(&c[p..], left - 1);
+        i += 1;
+    }
+    Seen::None
 }
 
 // The same part, k bytes further on.
@@ -81,28 +125,29 @@ fn shift(f: Found, k: usize) -> Found
     }
 }
 
-// The value at the path: the path is handed on from its second name at each step down.
-fn search(c: &[u8], path: &[u16], left: usize) -> Found
-    requires { ⌜ Ok (contextAt left (now c)) ⌝ }
-    ensures { λ r. ⌜ Searches (contextAt left (now (c .entry))) (now (path .entry)) r ⌝ }
+// The value at the path in the context at the front of `c`, which is all of `c` where it is whole: the path is handed on from its second name at each step down.
+fn search(c: &[u8], path: &[u16], whole: bool, left: usize) -> Found
+    requires { ⌜ Ok (frontAt left (now c)) ⌝ }
+    requires { ⌜ Fills whole left (now c) ⌝ }
+    ensures { λ r. ⌜ Searches (frontAt left (now (c .entry))) (now (path .entry)) r ⌝ }
 {
     if path.len() == 0 {
         return Found::None;
     }
-    match find(c, name_number(path[0]), left) {
-        Place::None { at: _ } => Found::None,
-        Place::At { from, to } => {
-            let p = from + NAME_WIDTH;
+    match seek(c, name_number(path[0]), left) {
+        Seen::None => Found::None,
+        Seen::At { from, last } => {
+            let end = whole && last;
             if path.len() == 1 {
                 return Found::Part {
-                    place: p,
-                    size: to - p,
+                    place: from,
+                    size: extent(&c[from..], end, left - 1),
                 };
             }
-            if c[p] != 0x0B {
+            if c[from] != 0x0B {
                 return Found::None;
             }
-            shift(search(&c[p..to], &path[1..], left - 1), p)
+            shift(search(&c[from..], &path[1..], end, left - 1), from)
         }
     }
 }
@@ -133,7 +178,7 @@ pub fn search_place(c: &[u8], path: &[u16]) -> Found
     if n != 0 {
         return Found::Refused(n);
     }
-    search(c, path, VALUE_LEVELS)
+    search(c, path, true, VALUE_LEVELS)
 }
 
 // Where the value of the name stands. Refusals 1 to 5, 12.

@@ -2,12 +2,11 @@
 -- Assumes nothing.
 use Prim.Native.Nat.{ℕ, _+_, _-_, _<_, _≤_}
 use native.Mathlib.Omega.{arith}
-use mathlib.Core.Path.{_≡_, refl, sym, ap, ap₂, subst, _∙_}
+use mathlib.Core.Path.{_≡_, refl, sym, ap, ap₂, _∙_}
 use mathlib.Core.Bool.{Bool, true, false, cond, _&&_, false≢true}
 use mathlib.Core.Option.{Option, none, some}
-use mathlib.Core.List.{List, [], _∷_, _++_, append-nil}
+use mathlib.Core.List.{List, [], _∷_}
 use lib.ListN.{length, getD, take, drop, length-take}
-use lib.Seq.{take-all}
 use lib.Dec.{leb, eqb}
 use borrow.Author.Tests.{le-leb, eq-eqb, ne-eqb}
 use Rattle.form.specs.Limits.{typeLevels, valueLevels, mostBytes, valueRefusals, typeRefusals}
@@ -15,7 +14,7 @@ use Rattle.form.specs.Trees.{Simple, null, code, Ty, leaf, built, list, range, 
 use Rattle.form.specs.Form.{Bytes, enc, encV, encLeaf, level, levelV, Wf, WfV}
 use Rattle.form.specs.Outcome.{Outcome, done, refused, _>>=_, _>>_, check, orRefuse, fits, pick}
 use Rattle.form.specs.Read.{readT, readV, readType, readValue, checkType, checkValue}
-use Rattle.form.specs.Answers.{onto, Built}
+use Rattle.form.specs.Answers.{Built}
 use Rattle.form.specs.declared.Written.{Written}
 use Rattle.form.specs.declared.Written.the-variants as written-is
 use Rattle.form.proofs.Accepted.{whole-got}
@@ -36,12 +35,13 @@ use Rattle.values.specs.At.{valueAt}
 use Rattle.values.specs.Held.{held}
 use Rattle.values.proofs.Holding as holding
 use Rattle.bounds.proofs.Laws.{length-onto}
-use Rattle.bounds.proofs.Outcomes.{built-refused, built-short, built-wrote}
+use Rattle.bounds.proofs.Outcomes.{built-refused}
 use Rattle.retrieval.specs.Retrieve.{mapped, retrieve, getValueChecked, nothing, is-null, or-nothing, getConformantValue}
 use Rattle.retrieval.specs.Filling.{fill, Accepted, answered, Filled, Gave, Retrieves}
 use Rattle.retrieval.specs.Calls.{small, result, getValueCheckedCall, getConformantValueCall}
 use Rattle.retrieval.specs.declared.Retrieved.{Retrieved}
 use Rattle.retrieval.specs.declared.Retrieved.the-variants.{Yes, No}
+use Rattle.retrieval.proofs.Pieces.{handed}
 use Rattle.retrieval.proofs.Theorems.{less-val, there}
 
 small-result : (room : ℕ) (w : Val) → small w ≡ true → fits room (encV w) ≡ result room w
@@ -67,12 +67,20 @@ module _ (t v : List ℕ) (A : Accepted t v) where
   well : WfV (A .value)
   well = value-accepted v (A .bytes-v) (A .value) (A .read-v) .well
 
+  -- a value that was retrieved is not longer
+  retrieved-within : (w : Val) → retrieve (A .value) (A .type) ≡ some w → length (encV w) ≤ length v
+  retrieved-within w e =
+      omega (arith, length-encV w, length-encV (A .value), less-val (A .value) (A .type) w e .shorter, ap length (value-accepted v (A .bytes-v) (A .value) (A .read-v) .bytes))
+
+  pub value-short : length v ≤ mostBytes
+  value-short = value-accepted v (A .bytes-v) (A .value) (A .read-v) .short
+
   -- a value that was retrieved is small: 17 is never met
   pub retrieved-small : (w : Val) → retrieve (A .value) (A .type) ≡ some w → small w ≡ true
   retrieved-small w e =
       let C = value-accepted v (A .bytes-v) (A .value) (A .read-v) in
       let L = less-val (A .value) (A .type) w e in
-      let n : length (encV w) ≤ mostBytes = omega (arith, length-encV w, length-encV (A .value), L .shorter, C .short, ap length (C .bytes)) in
+      let n : length (encV w) ≤ mostBytes = omega (arith, retrieved-within w e, value-short) in
       let m : levelV w ≤ valueLevels = omega (arith, L .lower, C .low) in
       ap₂ _&&_ (le-leb (length (encV w)) mostBytes n) (le-leb (levelV w) valueLevels m)
 
@@ -121,44 +129,23 @@ module _ (t v : List ℕ) (A : Accepted t v) where
         go none f = f
         go (some w) f = ap length f ∙ length-onto (take (length old) (encV w)) old (omega (arith, length-take (length old) (encV w)))
 
-  -- ---- over no output first
-  module _ (old none-old sc : List ℕ) (r : Retrieved) (e : length none-old ≡ 0) (g : Retrieves (typeAt typeLevels t) (valueAt typeLevels v) none-old sc r) where
-    pub as-was : sc ++ old ≡ old
-    as-was = go sc (gave-kept none-old sc r g ∙ e)
-      where
-        go : (xs : List ℕ) → length xs ≡ 0 → xs ++ old ≡ old
-        go [] p = refl
-        go (x ∷ xs) p = absurd (omega arith)
+  -- ---- in a spare place as long as the value
+  module _ (old was spare : List ℕ) (r : Retrieved) (g : Retrieves (typeAt typeLevels t) (valueAt typeLevels v) was spare r) where
+    pub call-err : r ≡ No → Built (getValueCheckedCall t v (length old)) old old (written-is.Refused 15)
+    call-err p = built-refused (getValueCheckedCall t v (length old)) 15 old (checked-err (length old) (err-is was spare r g p))
 
-    pub call-err : r ≡ No → Built (getValueCheckedCall t v (length old)) old (sc ++ old) (written-is.Refused 15)
-    call-err p = subst (λ z. Built (getValueCheckedCall t v (length old)) old z (written-is.Refused 15)) (sym as-was) (built-refused (getValueCheckedCall t v (length old)) 15 old (checked-err (length old) (err-is none-old sc r g p)))
+    module _ (a b n : ℕ) (p : r ≡ Yes a b n) (h : length v ≤ length was) where
+      F : Found was spare r g n
+      F = found was spare r g a b n p
 
-    module _ (a b n : ℕ) (p : r ≡ Yes a b n) where
-      F : Found none-old sc r g n
-      F = found none-old sc r g a b n p
+      within : n ≤ length was
+      within = omega (arith, F .long, retrieved-within (F .w) (F .is))
 
-      pub call-short : length (sc ++ old) < n → Built (getValueCheckedCall t v (length old)) old (sc ++ old) (written-is.Refused 18)
-      call-short l =
-          subst (λ z. Built (getValueCheckedCall t v (length old)) old z (written-is.Refused 18)) (sym as-was)
-          (built-short (getValueCheckedCall t v (length old)) (encV (F .w)) old (checked-is (length old) (F .w) (F .is)) (omega (arith, F .long, ap length as-was)))
+      pub call-room : n ≤ length spare
+      call-room = omega (arith, within, gave-kept was spare r g)
 
-      module _ (l : n ≤ length (sc ++ old)) (new : List ℕ) (q : Retrieved) (h : Retrieves (typeAt typeLevels t) (valueAt typeLevels v) (sc ++ old) new q) where
-        -- the second run answers the same
-        again : q ≡ No → ⊥
-        again z = let u : _≡_ {A = Option Val} none (some (F .w)) = sym (err-is (sc ++ old) new q h z) ∙ F .is in let y : _≡_ {A = ℕ} 0 1 = cc in omega arith
-
-        pub call-again : q ≡ No → Built (getValueCheckedCall t v (length old)) old new (written-is.Refused 15)
-        call-again z = absurd (again z)
-
-        pub call-done : (a′ b′ m : ℕ) → q ≡ Yes a′ b′ m → Built (getValueCheckedCall t v (length old)) old new (written-is.Bytes m)
-        unfolding fill
-        call-done a′ b′ m z =
-            let G = found (sc ++ old) new q h a′ b′ m z in
-            let same-w : F .w ≡ G .w = let y : some (F .w) ≡ some (G .w) = sym (F .is) ∙ G .is in cc in
-            let fit : length (encV (G .w)) ≤ length old = omega (arith, ap (λ x. length (encV x)) same-w, F .long, ap length as-was) in
-            let whole : take (length old) (encV (G .w)) ≡ encV (G .w) = take-all (length old) (encV (G .w)) fit in
-            let is : new ≡ onto (encV (G .w)) old = G .out ∙ ap (λ o. fill (encV (G .w)) o) as-was ∙ ap (λ x. onto x old) whole in
-            built-wrote (getValueCheckedCall t v (length old)) (encV (G .w)) old new m (checked-is (length old) (G .w) (G .is)) (G .long) fit is
+      pub call-done : (new : List ℕ) (q : Written) → Built (fits (length old) (take n spare)) old new q → Built (getValueCheckedCall t v (length old)) old new q
+      call-done new q d = handed (getValueCheckedCall t v (length old)) (encV (F .w)) spare was old new n q (checked-is (length old) (F .w) (F .is)) (F .out) (F .long) within d
 
   -- ---- `get_conformant_value`
   conformant-is : (room : ℕ) → getConformantValueCall t v room ≡ result room (getConformantValue (A .type) (A .value))

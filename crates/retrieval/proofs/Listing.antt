@@ -10,7 +10,7 @@ use lib.Seq.{drop-drop, length-take-le}
 use borrow.Rule.Slice.PartMut.{putMid}
 use Rattle.form.specs.Trees.{Ty, built, list, Val, v-list, Vals, no-items, item}
 use Rattle.form.specs.Form.{bytes, numAt, Bytes, countVals, encV, encVals}
-use Rattle.order.specs.Size.{size-val, size-vals}
+use Rattle.order.specs.Size.{size, size-val, size-vals}
 use Rattle.types.specs.At.{typeAt, sizeAt, Ok}
 use Rattle.types.proofs.Reading as types
 use Rattle.types.proofs.Reading.{rest, is-ok, ok-got}
@@ -101,8 +101,12 @@ text-none : encVals no-items ≡ []
 unfolding encVals
 text-none = refl
 
+size-list-type : (u : Ty) → size (built (list u)) ≡ size u + 1
+unfolding size
+size-list-type u = omega arith
+
 -- `mid` is the output before the loop
-pub record ListInv (l : ℕ) (t v : List ℕ) (n : ℕ) (mid out : List ℕ) (at to i : ℕ) : Type 0 where
+pub record ListInv (l : ℕ) (t v : List ℕ) (n : ℕ) (mid out : List ℕ) (at to bt i : ℕ) : Type 0 where
   pub both : Lists l t v
   pub left : Vals
   -- what was written
@@ -115,9 +119,10 @@ pub record ListInv (l : ℕ) (t v : List ℕ) (n : ℕ) (mid out : List ℕ) (at
   pub long : length done ≡ to
   pub head : 3 ≤ to
   pub low : to ≤ at
+  pub known : 0 < i → bt ≡ size (both .u)
   pub state : out ≡ fill done mid
 
-pub list-begins : {l : ℕ} {t v : List ℕ} (L : Lists l t v) (n : ℕ) (old mid : List ℕ) → Bytes v → n ≡ numAt 2 1 v → mid ≡ fill (take 3 v) old → ListInv l t v n mid mid 3 3 0
+pub list-begins : {l : ℕ} {t v : List ℕ} (L : Lists l t v) (n : ℕ) (old mid : List ℕ) → Bytes v → n ≡ numAt 2 1 v → mid ≡ fill (take 3 v) old → ListInv l t v n mid mid 3 3 0 0
 list-begins {l} {t} {v} L n old mid bs en e =
     let F = encoded l v (v-list (L .vs)) bs (L .read-v) in
     let h : take 3 v ≡ 10 ∷ bytes 2 (countVals (L .vs)) = ap (take 3) (F .bytes) ∙ list-head (L .vs) (F .rest) in
@@ -135,6 +140,7 @@ list-begins {l} {t} {v} L n old mid bs en e =
       long = l3;
       head = omega arith;
       low = omega arith;
+      known = λ z. absurd (omega arith);
       state = e ∙ sym (fill-over (take 3 v) (take 3 v) old (omega arith)) ∙ ap (fill (take 3 v)) (sym e);
     }
 
@@ -163,7 +169,7 @@ nth l i n at s vs h in-s e = go (next-item l (n - (i + 1)) (drop at s) vs (ap (�
           sized = ap size-vals (E .is) ∙ size-item (E .v) (E .more);
         }
 
-module _ {l : ℕ} {t v : List ℕ} {n : ℕ} {mid out : List ℕ} {at to i : ℕ} (Q : ListInv l t v n mid out at to i) where
+module _ {l : ℕ} {t v : List ℕ} {n : ℕ} {mid out : List ℕ} {at to bt i : ℕ} (Q : ListInv l t v n mid out at to bt i) where
   pub list-kept : length out ≡ length mid
   list-kept = ap length (Q .state) ∙ length-fill (Q .done) mid
 
@@ -205,7 +211,7 @@ module _ {l : ℕ} {t v : List ℕ} {n : ℕ} {mid out : List ℕ} {at to i : �
         pub item-wrote : to + c ≤ length v
         item-wrote = omega (arith, N .fits, G .size-v, G .short, Q .low)
 
-        pub item-next : p ≡ min to (length out) → ListInv l t v n mid (putMid p (length out - p) out ys) (at + b) (to + c) (i + 1)
+        pub item-next : p ≡ min to (length out) → ListInv l t v n mid (putMid p (length out - p) out ys) (at + b) (to + c) a (i + 1)
         item-next ep =
             record {
               both = Q .both;
@@ -219,11 +225,12 @@ module _ {l : ℕ} {t v : List ℕ} {n : ℕ} {mid out : List ℕ} {at to i : �
               long = omega (arith, length-append (Q .done) (encV (G .w)), Q .long, G .long);
               head = omega (arith, Q .head);
               low = omega (arith, Q .low, G .short);
+              known = λ z. G .size-t;
               state = fill-then (Q .done) (encV (G .w)) mid out ys to p (Q .state) (Q .long) ep (G .out);
             }
 
-  pub list-done : n ≤ i → (k : ℕ) → k ≡ sizeAt (typeAt l t) → (old : List ℕ) → mid ≡ fill (take 3 v) old → Retrieves (typeAt l t) (valueAt l v) old out (Yes k at to)
-  list-done h k ek old m =
+  ended : n ≤ i → (k : ℕ) → k ≡ size (built (list (Q .both .u))) → (old : List ℕ) → mid ≡ fill (take 3 v) old → Retrieves (typeAt l t) (valueAt l v) old out (Yes k at to)
+  ended h k ek old m =
       let z : n - i ≡ 0 = omega arith in
       let e : Q .left ≡ no-items = no-item (l - 1) (drop at v) (Q .left) (ap (λ (j : ℕ). itemsAt (l - 1) j (drop at v)) (sym z) ∙ Q .read) in
       let T = built (list (Q .both .u)) in
@@ -232,5 +239,15 @@ module _ {l : ℕ} {t v : List ℕ} {n : ℕ} {mid out : List ℕ} {at to i : �
       let g : mapped encV (retrieve W T) ≡ some (Q .done) =
       sym (Q .goes) ∙ ap (mapped (λ ws. Q .done ++ encVals ws)) (ap (λ j. retrieve-items j (Q .both .u)) e ∙ items-none (Q .both .u)) ∙ ap some (ap (λ (j : List ℕ). Q .done ++ j) text-none ∙ append-nil (Q .done)) in
       retrieves (typeAt l t) (valueAt l v) T W old out (Yes k at to) (Q .both .read-t) (Q .both .read-v)
-      (gave-some T W old out (Q .done) k at to g (ek ∙ size-got (typeAt l t) T (Q .both .read-t)) (omega (arith, Q .sized, ap size-vals e, size-none)) (sym (Q .long))
+      (gave-some T W old out (Q .done) k at to g ek (omega (arith, Q .sized, ap size-vals e, size-none)) (sym (Q .long))
       (Q .state ∙ ap (fill (Q .done)) m ∙ fill-over (take 3 v) (Q .done) old (omega (arith, Q .long, Q .head))))
+
+  -- there was none
+  pub list-none : n ≤ i → (k : ℕ) → k ≡ sizeAt (typeAt l t) → (old : List ℕ) → mid ≡ fill (take 3 v) old → Retrieves (typeAt l t) (valueAt l v) old out (Yes k at to)
+  list-none h k ek = ended h k (ek ∙ size-got (typeAt l t) (built (list (Q .both .u))) (Q .both .read-t))
+
+  pub list-done : n ≤ i → 0 < i → (old : List ℕ) → mid ≡ fill (take 3 v) old → Retrieves (typeAt l t) (valueAt l v) old out (Yes (bt + 1) at to)
+  list-done h k = ended h (bt + 1) (omega (arith, Q .known k, size-list-type (Q .both .u)))
+
+  pub list-type : 0 < i → bt + 1 ≤ length t
+  list-type k = omega (arith, Q .known k, size-list-type (Q .both .u), types.t-good l t (built (list (Q .both .u))) (Q .both .read-t) .1)

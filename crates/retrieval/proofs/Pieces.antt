@@ -1,13 +1,15 @@
 -- The laws of `fill`: as much as has room, one piece behind the other.
 -- Assumes nothing.
-use mathlib.Core.Path.{_≡_, refl, sym, ap, _∙_}
+use mathlib.Core.Path.{_≡_, refl, sym, ap, ap₂, subst, _∙_}
 use mathlib.Core.List.{List, [], _∷_, _++_, append-nil}
 use Prim.Native.Nat.{ℕ, zero, suc, _-_, _≤_, min}
 use native.Mathlib.Omega.{arith}
 use lib.ListN.{length, take, drop, length-append, length-take, length-drop, drop-of-length-le}
 use lib.Seq.{take-all}
 use borrow.Rule.Slice.PartMut.{putMid, same-len-mid}
-use Rattle.form.specs.Answers.{onto}
+use Rattle.form.specs.Answers.{onto, Built}
+use Rattle.form.specs.Outcome.{Outcome, fits}
+use Rattle.form.specs.declared.Written.{Written}
 use Rattle.bounds.proofs.Laws.{rest}
 use Rattle.retrieval.specs.Filling.{fill, puts}
 
@@ -25,6 +27,20 @@ fill-full (b ∷ bs) = refl
 fill-one : (b o : ℕ) (bs old : List ℕ) → fill (b ∷ bs) (o ∷ old) ≡ b ∷ fill bs old
 unfolding fill onto
 fill-one b o bs old = refl
+
+-- a text that has room stands there whole
+pub fill-front : (bs old : List ℕ) → length bs ≤ length old → take (length bs) (fill bs old) ≡ bs
+fill-front [] old k = refl
+fill-front (b ∷ bs) [] k = absurd (omega arith)
+fill-front (b ∷ bs) (o ∷ old) k = ap (take (suc (length bs))) (fill-one b o bs old) ∙ ap (λ (z : List ℕ). b ∷ z) (fill-front bs old (omega arith))
+
+-- what a spare place holds is handed on
+pub handed : (o : Outcome (List ℕ)) (bs spare was old new : List ℕ) (n : ℕ) (r : Written) → o ≡ fits (length old) bs → spare ≡ fill bs was → n ≡ length bs → n ≤ length was
+    → Built (fits (length old) (take n spare)) old new r
+    → Built o old new r
+handed o bs spare was old new n r e es en h b =
+    let text : take n spare ≡ bs = ap₂ take en es ∙ fill-front bs was (omega (arith, en)) in
+    subst (λ q. Built q old new r) (ap (fits (length old)) text ∙ sym e) b
 
 pub length-fill : (bs old : List ℕ) → length (fill bs old) ≡ length old
 length-fill [] old = ap length (fill-nil old)

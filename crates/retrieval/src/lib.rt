@@ -105,7 +105,7 @@ fn retrieve(t: &[u8], v: &[u8], out: &mut [u8], left: usize) -> Retrieved
     Retrieved::No
 }
 
-// A list by a list type: each item by the inner type.
+// A list by a list type: each item by the inner type, of which each of them tells the size.
 fn retrieve_list(t: &[u8], v: &[u8], out: &mut [u8], left: usize) -> Retrieved
     requires { ⌜ Ok (typeAt left (now t)) ⌝ }
     requires { ⌜ Ok (valueAt left (now v)) ⌝ }
@@ -116,24 +116,33 @@ fn retrieve_list(t: &[u8], v: &[u8], out: &mut [u8], left: usize) -> Retrieved
     fill(&v[..3], out);
     let mut at: usize = 3;
     let mut to: usize = 3;
+    let mut bt: usize = 0;
     let mut i: usize = 0;
     while i < n {
         let p = smaller(to, out.len());
         match retrieve(&t[1..], &v[at..], &mut out[p..], left - 1) {
             Retrieved::Yes {
-                t: _,
+                t: y,
                 v: x,
                 wrote: w,
             } => {
                 at = at + x;
                 to = to + w;
+                bt = y;
             }
             Retrieved::No => return Retrieved::No,
         }
         i += 1;
     }
+    if i == 0 {
+        return Retrieved::Yes {
+            t: types::skip(t, left),
+            v: at,
+            wrote: to,
+        };
+    }
     Retrieved::Yes {
-        t: types::skip(t, left),
+        t: bt + 1,
         v: at,
         wrote: to,
     }
@@ -217,31 +226,33 @@ pub fn give(src: &[u8], out: &mut [u8]) -> Written
     Written::Bytes(n)
 }
 
-// The retrieved value of an accepted value by an accepted type: measured over no output, then written. Refusals 15 and 18.
-fn write_retrieved(t: &[u8], v: &[u8], out: &mut [u8]) -> Written
+// The retrieved value of an accepted value by an accepted type, built in a spare place as long as the value and handed on. Refusals 15 and 18.
+fn retrieve_by(t: &[u8], v: &[u8], spare: &mut [u8], out: &mut [u8]) -> Written
     requires { ⌜ Accepted (now t) (now v) ⌝ }
+    requires { ⌜ length (now v) ≤ length (now spare) ⌝ }
     ensures { λ r. ⌜ Built (getValueCheckedCall (now (t .entry)) (now (v .entry)) (length (now (out .entry)))) (now (out .entry)) (now (out .exit)) r ⌝ }
 {
-    match retrieve(t, v, &mut out[..0], TYPE_LEVELS) {
+    match retrieve(t, v, spare, TYPE_LEVELS) {
         Retrieved::No => Written::Refused(15),
         Retrieved::Yes {
             t: _,
             v: _,
             wrote: n,
-        } => {
-            if out.len() < n {
-                return Written::Refused(18);
-            }
-            match retrieve(t, v, out, TYPE_LEVELS) {
-                Retrieved::No => Written::Refused(15),
-                Retrieved::Yes {
-                    t: _,
-                    v: _,
-                    wrote: w,
-                } => Written::Bytes(w),
-            }
-        }
+        } => give(&spare[..n], out),
     }
+}
+
+// The same, over a spare place of its own: a small one for a short value.
+fn write_retrieved(t: &[u8], v: &[u8], out: &mut [u8]) -> Written
+    requires { ⌜ Accepted (now t) (now v) ⌝ }
+    ensures { λ r. ⌜ Built (getValueCheckedCall (now (t .entry)) (now (v .entry)) (length (now (out .entry)))) (now (out .entry)) (now (out .exit)) r ⌝ }
+{
+    if v.len() <= 512 {
+        let mut few = [0u8; 512];
+        return retrieve_by(t, v, &mut few, out);
+    }
+    let mut many = [0u8; 16384];
+    retrieve_by(t, v, &mut many, out)
 }
 
 // `FeelType::get_value_checked`. Refusals 6 to 10 of the type, 1 to 5 of the value, 15, 17, 18; 17 is never met.

@@ -31,19 +31,20 @@ use Rattle.values.proofs.Reading.{v-inside, next-item, no-item, paramsA
 use Rattle.values.proofs.Holding.{both}
 
 -- ---- ITEMS
-pub record ItemsInv (l : ℕ) (whole : Conform) (v : List ℕ) (n : ℕ) (t : List ℕ) (at i : ℕ) : Type 0 where
+pub record ItemsInv (l : ℕ) (whole : Conform) (v : List ℕ) (n : ℕ) (t : List ℕ) (at bt i : ℕ) : Type 0 where
   pub vs : Vals
   pub u : Ty
   pub below : i ≤ n
   pub in-v : at ≤ length v
   pub read-v : itemsAt l (n - i) (drop at v) ≡ some vs
   pub read-t : typeAt l t ≡ some u
+  pub known : 0 < i → bt ≡ size u
   pub goes : whole ≡ grown at 0 (judge (all-conform fixed vs u) (size-vals vs) (size u))
 
-pub items-start : (l : ℕ) (v : List ℕ) (n : ℕ) (t : List ℕ) → Ok (itemsAt l n v) → Ok (typeAt l t) → ItemsInv l (heldItems (itemsAt l n v) (typeAt l t)) v n t 0 0
+pub items-start : (l : ℕ) (v : List ℕ) (n : ℕ) (t : List ℕ) → Ok (itemsAt l n v) → Ok (typeAt l t) → ItemsInv l (heldItems (itemsAt l n v) (typeAt l t)) v n t 0 0 0
 items-start l v n t p q = go (ok-got (itemsAt l n v) p) (ok-got (typeAt l t) q)
   where
-    go : (x : Vals) × (itemsAt l n v ≡ some x) → (y : Ty) × (typeAt l t ≡ some y) → ItemsInv l (heldItems (itemsAt l n v) (typeAt l t)) v n t 0 0
+    go : (x : Vals) × (itemsAt l n v ≡ some x) → (y : Ty) × (typeAt l t ≡ some y) → ItemsInv l (heldItems (itemsAt l n v) (typeAt l t)) v n t 0 0 0
     go x y =
         let e : n - 0 ≡ n = omega arith in
         record {
@@ -53,6 +54,7 @@ items-start l v n t p q = go (ok-got (itemsAt l n v) p) (ok-got (typeAt l t) q)
           in-v = omega arith;
           read-v = ap (λ k. itemsAt l k v) e ∙ x .1;
           read-t = y .1;
+          known = λ z. absurd (omega arith);
           goes = both size-vals size (all-conform fixed) (itemsAt l n v) (typeAt l t) (x .0) (y .0) (x .1) (y .1) ∙ judge-is (all-conform fixed (x .0) (y .0)) (omega arith) (omega arith) ∙ sym (grown-judge (all-conform fixed (x .0) (y .0)) 0 0 (size-vals (x .0)) (size (y .0)));
         }
 
@@ -65,7 +67,7 @@ pub record One (l n at : ℕ) (v : List ℕ) (vs : Vals) : Type 0 where
   pub second : itemsAt l n (drop (at + size-val x) v) ≡ some more
   pub is : vs ≡ item x more
 
-module _ {l : ℕ} {whole : Conform} {v : List ℕ} {n : ℕ} {t : List ℕ} {at i : ℕ} (I : ItemsInv l whole v n t at i) where
+module _ {l : ℕ} {whole : Conform} {v : List ℕ} {n : ℕ} {t : List ℕ} {at bt i : ℕ} (I : ItemsInv l whole v n t at bt i) where
   one : i < n → One l (n - (i + 1)) at v (I .vs)
   one h =
       let g = next-item l (n - (i + 1)) (drop at v) (I .vs) (ap (λ k. itemsAt l k (drop at v)) (sym (entries.step i n h)) ∙ I .read-v) in
@@ -97,11 +99,11 @@ module _ {l : ℕ} {whole : Conform} {v : List ℕ} {n : ℕ} {t : List ℕ} {at
         let d = judge-yes (conforms fixed (one h .x) (I .u)) (size-val (one h .x)) (size (I .u)) x y (sym item-called ∙ k) in
         omega (arith, one h .fits, d .1)
 
-    pub item-turn : (x y : ℕ) → w ≡ Yes x y → ItemsInv l whole v n t (at + x) (i + 1)
+    pub item-turn : (x y : ℕ) → w ≡ Yes x y → ItemsInv l whole v n t (at + x) y (i + 1)
     unfolding conforms size-val
     item-turn x y k = go (one h) item-called
       where
-        go : (A : One l (n - (i + 1)) at v (I .vs)) → w ≡ judge (conforms fixed (A .x) (I .u)) (size-val (A .x)) (size (I .u)) → ItemsInv l whole v n t (at + x) (i + 1)
+        go : (A : One l (n - (i + 1)) at v (I .vs)) → w ≡ judge (conforms fixed (A .x) (I .u)) (size-val (A .x)) (size (I .u)) → ItemsInv l whole v n t (at + x) y (i + 1)
         go A c =
             let d = judge-yes (conforms fixed (A .x) (I .u)) (size-val (A .x)) (size (I .u)) x y (sym c ∙ k) in
             record {
@@ -111,17 +113,25 @@ module _ {l : ℕ} {whole : Conform} {v : List ℕ} {n : ℕ} {t : List ℕ} {at
               in-v = omega (arith, A .fits, d .1);
               read-v = ap (λ z. itemsAt l (n - (i + 1)) (drop (at + z) v)) (d .1) ∙ A .second;
               read-t = I .read-t;
+              known = λ z. d .2;
               goes = I .goes ∙ moved (all-conform fixed (I .vs) (I .u)) (all-conform fixed (A .more) (I .u)) at 0 (size-vals (I .vs)) (size (I .u)) (at + x) 0 (size-vals (A .more)) (size (I .u))
                   (ap (λ z. all-conform fixed z (I .u)) (A .is) ∙ ap (λ z. z && all-conform fixed (A .more) (I .u)) (d .0)) (omega (arith, ap size-vals (A .is), d .1)) refl;
             }
 
   -- behind the last item
-  pub items-done : n ≤ i → (z : ℕ) → z ≡ sizeAt (typeAt l t) → Yes at z ≡ whole
+  ended : n ≤ i → (z : ℕ) → z ≡ size (I .u) → Yes at z ≡ whole
   unfolding conforms size-val
-  items-done h z k =
+  ended h z k =
       let e : n - i ≡ 0 = omega arith in
       let g = no-item l (drop at v) (I .vs) (ap (λ k. itemsAt l k (drop at v)) (sym e) ∙ I .read-v) in
-      sym (I .goes ∙ ap (λ x. grown at 0 (judge (all-conform fixed x (I .u)) (size-vals x) (size (I .u)))) g ∙ ap₂ Yes (omega arith) (omega (arith, k, entries.size-got (typeAt l t) (I .u) (I .read-t))))
+      sym (I .goes ∙ ap (λ x. grown at 0 (judge (all-conform fixed x (I .u)) (size-vals x) (size (I .u)))) g ∙ ap₂ Yes (omega arith) (omega (arith, k)))
+
+  pub items-done : n ≤ i → 0 < i → Yes at bt ≡ whole
+  items-done h p = ended h bt (I .known p)
+
+  -- there was none
+  pub items-none : n ≤ i → (z : ℕ) → z ≡ sizeAt (typeAt l t) → Yes at z ≡ whole
+  items-none h z k = ended h z (omega (arith, k, entries.size-got (typeAt l t) (I .u) (I .read-t)))
 
 -- ---- PARAMETERS
 pub record DefinitionInv (l : ℕ) (whole : Conform) (v t : List ℕ) (count at bt i : ℕ) : Type 0 where

@@ -150,31 +150,39 @@ pub fn conforms(v: &[u8], t: &[u8], left: usize) -> Conform
     }
 }
 
-// Whether each of n values conforms to the one type.
+// Whether each of n values conforms to the one type, of which each of them tells the size.
 fn conform_items(v: &[u8], n: usize, t: &[u8], left: usize) -> Conform
     requires { ⌜ Ok (itemsAt left n (now v)) ⌝ }
     requires { ⌜ Ok (typeAt left (now t)) ⌝ }
     ensures { λ r. ⌜ r ≡ heldItems (itemsAt left n (now (v .entry))) (typeAt left (now (t .entry))) ⌝ }
 {
     let mut at: usize = 0;
+    let mut bt: usize = 0;
     let mut i: usize = 0;
     while i < n {
         let k = leaf(&v[at..], t, left);
         if k != 0 {
             at = at + k;
+            bt = 1;
             i += 1;
             continue;
         }
         match conforms(&v[at..], t, left) {
-            Conform::Yes { a: x, b: _ } => at = at + x,
+            Conform::Yes { a: x, b: y } => {
+                at = at + x;
+                bt = y;
+            }
             Conform::No => return Conform::No,
         }
         i += 1;
     }
-    Conform::Yes {
-        a: at,
-        b: types::skip(t, left),
+    if i == 0 {
+        return Conform::Yes {
+            a: at,
+            b: types::skip(t, left),
+        };
     }
+    Conform::Yes { a: at, b: bt }
 }
 
 // n entries of a context against m of a type: the two ascending lists of names are taken in step. An entry that the type lacks is passed over.

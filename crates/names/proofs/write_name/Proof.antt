@@ -7,7 +7,7 @@ use Rattle.names.proofs.write_name.Lts as lts
 use Rattle.form.proofs.wide.Reads as wide-reads
 use Rattle.names.proofs.add_part.Reads as add-part-reads
 use Prim.Native.Nat.{_-_}
-use Rattle.names.proofs.Naming.{Naming, naming-byte, naming-starts, naming-kept, naming-ended, naming-read, naming-add, naming-end, naming-most, naming-room, naming-next}
+use Rattle.names.proofs.Naming.{Naming, naming-byte, naming-starts, naming-kept, naming-within, naming-ended, naming-read, naming-add, naming-end, naming-most, naming-room, naming-next}
 use borrow.Author.Needs.{needs}
 use native.Mathlib.Omega.{arith}
 
@@ -38,4 +38,4 @@ write-name-spec =
     (λ c. omega (arith, c .before .before .before .before .before .before .before .loop-test .taken))
     (λ c. naming-next (c .before .before .before .before .before .before .before .before .loop .inv) (c .before .before .before .before .before .before .before .loop-test .taken) _ (c .before .before .before .before .before .wide2 .ensures .0) _ _ _ (c .before .before .add-part .ensures))
     (λ c. naming-kept (c .before .loop .inv))
-    (λ c. naming-ended (c .before .loop .inv) (c .loop-test .left)))
+    (λ c. (naming-ended (c .before .loop .inv) (c .loop-test .left), naming-within (c .before .loop .inv))))

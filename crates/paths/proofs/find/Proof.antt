@@ -5,8 +5,8 @@ use Rattle.paths.proofs.find.Tie as tie
 use borrow.Author.Needs.{needs}
 use native.Mathlib.Omega.{arith}
 use Prim.Native.Nat.{_-_}
-use Rattle.paths.proofs.Whole.{ctx-ok}
-use Rattle.paths.proofs.Finding.{Finding, finding-starts, finding-ended, finding-name, finding-passed, finding-end, finding-hit, finding-next}
+use Rattle.paths.proofs.Whole.{ctx-ok, whole-ok}
+use Rattle.paths.proofs.Finding.{Finding, finding-starts, finding-ended, finding-name, finding-fills, finding-passed, finding-end, finding-next, find-none, find-hit}
 
 abbrev Inv-loop : tie.InvT-loop
 Inv-loop c name left n at₀ i₀ at i = Finding left c name n at i
@@ -20,19 +20,20 @@ find-spec =
     (tie.spec
     Inv-loop
     μ-loop
-    (λ c κs. omega (arith, ctx-ok _ _ (c .before .pre) .1 .three))
-    (λ c. finding-starts _ _ _ _ (c .before .before .pre) (c .word-at .ensures .0))
+    (λ c κs. omega (arith, (ctx-ok _ _ (c .before .pre)) .1 .three))
+    (λ c. finding-starts _ _ _ _ (whole-ok _ _ (c .before .before .pre)) (c .word-at .ensures .0))
     (λ c κs. finding-name (c .before .loop .inv) (c .loop-test .taken))
-    (λ c. finding-passed (c .before .before .before .loop .inv) (c .before .before .loop-test .taken) _ (c .before .name-at .ensures .0) (c .if1 .taken))
+    (λ c. find-none (c .before .before .before .loop .inv) (c .before .before .before .before .before .before .pre) (finding-passed (c .before .before .before .loop .inv) (c .before .before .loop-test .taken) _ (c .before .name-at .ensures .0) (c .if1 .taken)))
     (λ c. omega (arith, finding-name (c .before .before .before .loop .inv) (c .before .before .loop-test .taken)))
     (λ c. omega (arith, finding-name (c .before .before .before .loop .inv) (c .before .before .loop-test .taken)))
     (λ c. omega (arith, finding-name (c .before .before .before .loop .inv) (c .before .before .loop-test .taken)))
     (λ c. search needs)
-    (λ c. omega (arith, c .before .before .before .before .loop .inv .ctx .level))
-    (λ c κs. search needs)
-    (λ c. omega (arith, finding-end (c .before .before .before .before .before .loop .inv) (c .before .before .before .before .loop-test .taken) _ (c .before .before .before .name-at .ensures .0) _ (c .skip .ensures)))
-    (λ c. finding-hit (c .before .before .before .before .before .before .loop .inv) (c .before .before .before .before .before .loop-test .taken) _ (c .before .before .before .before .name-at .ensures .0) _ (c .before .skip .ensures) (c .if2 .taken))
+    (λ c. omega (arith, c .before .before .before .loop-test .taken))
+    (λ c. omega (arith, c .before .before .before .before .loop .inv .front .level))
+    (λ c κs. finding-fills (c .before .before .before .before .loop .inv) (c .before .before .before .loop-test .taken) (c .before .before .before .before .before .before .before .pre))
+    (λ c. omega (arith, finding-end (c .before .before .before .before .before .loop .inv) (c .before .before .before .before .loop-test .taken) _ (c .before .before .before .name-at .ensures .0) _ (c .extent .ensures)))
+    (λ c. find-hit (c .before .before .before .before .before .before .loop .inv) (c .before .before .before .before .before .loop-test .taken) _ (c .before .before .before .before .name-at .ensures .0) _ (c .before .extent .ensures) (c .before .before .before .before .before .before .before .before .before .pre) (c .if2 .taken))
     (λ c. search needs)
     (λ c. omega (arith, c .before .before .before .before .before .loop-test .taken))
-    (λ c. finding-next (c .before .before .before .before .before .before .loop .inv) (c .before .before .before .before .before .loop-test .taken) _ (c .before .before .before .before .name-at .ensures .0) _ (c .before .skip .ensures) (c .before .before .before .if1 .left) (c .if2 .left))
-    (λ c. finding-ended (c .before .loop .inv) (c .loop-test .left)))
+    (λ c. finding-next (c .before .before .before .before .before .before .loop .inv) (c .before .before .before .before .before .loop-test .taken) _ (c .before .before .before .before .name-at .ensures .0) _ (c .before .extent .ensures) (c .before .before .before .if1 .left) (c .if2 .left))
+    (λ c. find-none (c .before .loop .inv) (c .before .before .before .before .pre) (finding-ended (c .before .loop .inv) (c .loop-test .left))))

@@ -32,7 +32,7 @@ use Rattle.types.proofs.Entries as entries
 use Rattle.values.specs.At.{itemsAt, entriesAt}
 use Rattle.values.specs.Held.{heldItems, heldEntries}
 use Rattle.values.proofs.Holding.{byte-v, byte-t, level, by-any, by-null, simple-yes, simple-fits, simple-no, range-no, list-no, context-no, function-no, rest-no, ranges, lists, contexts, functions, four, two, counts-no, runs-v, runs-t, runs-fit, runs-done}
-use Rattle.values.proofs.InStep.{ItemsInv, items-start, item-ok, item-type, item-no, item-fits, item-turn, items-done}
+use Rattle.values.proofs.InStep.{ItemsInv, items-start, item-ok, item-type, item-no, item-fits, item-turn, items-done, items-none}
 use Rattle.values.proofs.Merging.{MergeInv, merge-start, merge-v, merge-t, peek-asks, merge-left, merge-done, merge-missing, skip-fits, merge-skip, t-more, merge-sizes, merge-no, merge-both, entry-ok}
 
 abbrev μ-conform-entries : Measures 2 conform-entries-kinds.ps ℕ
@@ -86,10 +86,10 @@ abbrev conform-entries-μ-loop : conform-entries-lts.MeasureT-loop
 conform-entries-μ-loop v n t m left at₀ i₀ bt₀ j₀ at i bt j = n - i
 
 abbrev conform-items-Inv-loop : conform-items-lts.InvT-loop
-conform-items-Inv-loop v n t left at₀ i₀ at i = ItemsInv left (heldItems (itemsAt left n v) (typeAt left t)) v n t at i
+conform-items-Inv-loop v n t left at₀ bt₀ i₀ at bt i = ItemsInv left (heldItems (itemsAt left n v) (typeAt left t)) v n t at bt i
 
 abbrev conform-items-μ-loop : conform-items-lts.MeasureT-loop
-conform-items-μ-loop v n t left at₀ i₀ at i = n - i
+conform-items-μ-loop v n t left at₀ bt₀ i₀ at bt i = n - i
 
 pub +conform-entries+conform-items+conforms-spec : {M : Type 1} → statement M
 +conform-entries+conform-items+conforms-spec =
@@ -169,7 +169,8 @@ pub +conform-entries+conform-items+conforms-spec : {M : Type 1} → statement M
     (λ c. search needs)
     (λ c. item-turn (c .before .before .before .before .before .before .before .before .before .loop .inv) (c .before .before .before .before .before .before .before .before .loop-test .taken) _ (c .before .before .before .conforms .ensures) _ _ (c .before .x .given .1))
     (λ c κs. search needs)
-    (λ c. items-done (c .before .before .loop .inv) (c .before .loop-test .left) _ (c .skip .ensures)))
+    (λ c. items-none (c .before .before .before .loop .inv) (c .before .before .loop-test .left) _ (c .skip .ensures))
+    (λ c. items-done (c .before .before .loop .inv) (c .before .loop-test .left) (omega (arith, c .if2 .left))))
     λ t. conforms-lts.spec (skip-reads′.Asked, skip-reads′.Learnt, skip-reads.Asked, skip-reads.Learnt, conform-items-below t, conform-items.Post, grow-reads.Asked, grow-reads.Learnt, word-at-reads.Asked, word-at-reads.Learnt, conform-entries-below t, conform-entries.Post, wide-reads.Asked, wide-reads.Learnt, conform-definition-reads.Asked, conform-definition-reads.Learnt, width-reads.Asked, width-reads.Learnt)
     (conforms-at t)
     conforms.Post
