@@ -8,7 +8,7 @@ ghost use Rattle.values.specs.Calls as values;
 ghost use Rattle.infer.specs.Calls.{leastTypeCall, typeOfCall};
 ghost use Rattle.retrieval.specs.Calls.{getValueCheckedCall, getConformantValueCall};
 ghost use Rattle.coercion.specs.Calls.{coercedCall};
-ghost use Rattle.ranges.specs.Calls.{isInvalidCoercionCall, isValidRangeCall, isNullCall, isTrueCall, isFalseCall, isNumberCall, isStringCall, isListCall, isRangeCall, openedCall, closedCall, undefinedCall, bifTypeCall};
+ghost use Rattle.ranges.specs.Calls.{isInvalidCoercionCall, isValidRangeCall, isNullCall, isTrueCall, isFalseCall, isNumberCall, isStringCall, isListCall, isRangeCall, interval, openedCall, closedCall, undefinedCall, bifTypeCall};
 ghost use Rattle.bounds.specs.Calls.{commonSupertype, commonSubtype, reducedCall};
 ghost use Rattle.paths.specs.Places.{found, extentOf};
 ghost use Rattle.paths.specs.Calls.{searchDeepCall, getEntryCall, getFirstCall, containsDeepCall, containsEntryCall, isContextCall, isEmptyCall, lenCall, count};
@@ -57,6 +57,17 @@ fn yes_number(b: bool) -> u64
     ensures { λ r. ⌜ r ≡ judged (done b) ⌝ }
 {
     if b { 1 } else { 0 }
+}
+
+// The number of a question on the interval type i, of which `yes` is the answer. A verdict between would cost more than the question: its three
+// numbers become a table in memory.
+fn interval_number(i: u8, yes: bool) -> u64
+    ensures { λ r. ⌜ r ≡ judged (interval (λ x. yes) i) ⌝ }
+{
+    if 3 < i {
+        return REFUSED + 2;
+    }
+    yes_number(yes)
 }
 
 // The number of a length that was written.
@@ -308,7 +319,7 @@ pub extern "C" fn feel_value_is_range(v: &[u8]) -> u64
 pub extern "C" fn feel_interval_opened(i: u8) -> u64
     ensures { λ r. ⌜ r ≡ judged (openedCall i) ⌝ }
 {
-    verdict_number(ranges::opened(i))
+    interval_number(i, i < 2)
 }
 
 // Is the interval type closed?
@@ -316,7 +327,7 @@ pub extern "C" fn feel_interval_opened(i: u8) -> u64
 pub extern "C" fn feel_interval_closed(i: u8) -> u64
     ensures { λ r. ⌜ r ≡ judged (closedCall i) ⌝ }
 {
-    verdict_number(ranges::closed(i))
+    interval_number(i, 2 <= i)
 }
 
 // Has the interval type no value?
@@ -324,7 +335,7 @@ pub extern "C" fn feel_interval_closed(i: u8) -> u64
 pub extern "C" fn feel_interval_undefined(i: u8) -> u64
     ensures { λ r. ⌜ r ≡ judged (undefinedCall i) ⌝ }
 {
-    verdict_number(ranges::undefined(i))
+    interval_number(i, i % 2 == 1)
 }
 
 // The type of the built-in function at position b.

@@ -18,7 +18,7 @@ use Rattle.names.specs.Tables.{isRead}
 use Rattle.names.specs.Calls.{fromStrCall, known}
 use Rattle.names.specs.declared.Known.{Known}
 use Rattle.names.specs.declared.Known.the-variants as known-is
-use Rattle.names.proofs.Letters.{name-cut, pick, pick-name}
+use Rattle.names.proofs.Letters.{pick, pick-name}
 use Rattle.names.proofs.Tabling.{is-mapped}
 
 -- ---- equal byte for byte
@@ -51,9 +51,18 @@ same-is false s t f = go (sameText s t) refl
     go false e = sym e
 
 -- ---- the k-th name
-pub has-named : (k from to : ℕ) → k < 10 → from ≡ startOf k → to ≡ startOf (k + 1) → (s : List ℕ) (r : Bool)
-    → (r ≡ true → s ≡ take (to - from) (drop from letters)) × (s ≡ take (to - from) (drop from letters) → r ≡ true) → r ≡ sameText s (nameOf (decode k))
-has-named k from to h ef et s r f = same-is r s (take (to - from) (drop from letters)) f ∙ ap (sameText s) (name-cut k from to h ef et .1)
+pub has-named : (j k : ℕ) → k ≡ j → (s t : List ℕ) → t ≡ nameOf (decode j) → (r : Bool) → (r ≡ true → s ≡ t) × (s ≡ t → r ≡ true) → r ≡ sameText s (nameOf (decode k))
+has-named j k e s t n r f = same-is r s t f ∙ ap (sameText s) (n ∙ ap (λ (i : ℕ). nameOf (decode i)) (sym e))
+
+-- none of the first nine is the last
+five-on : (k : ℕ) → (k ≡ 0 → ⊥) → (k ≡ 1 → ⊥) → (k ≡ 2 → ⊥) → (k ≡ 3 → ⊥) → (k ≡ 4 → ⊥) → 5 ≤ k
+five-on k a b c d e = omega arith
+
+last-of : (k : ℕ) → 5 ≤ k → k < 10 → (k ≡ 5 → ⊥) → (k ≡ 6 → ⊥) → (k ≡ 7 → ⊥) → (k ≡ 8 → ⊥) → k ≡ 9
+last-of k h i a b c d = omega arith
+
+pub last-name : (k : ℕ) → k < 10 → (k ≡ 0 → ⊥) → (k ≡ 1 → ⊥) → (k ≡ 2 → ⊥) → (k ≡ 3 → ⊥) → (k ≡ 4 → ⊥) → (k ≡ 5 → ⊥) → (k ≡ 6 → ⊥) → (k ≡ 7 → ⊥) → (k ≡ 8 → ⊥) → k ≡ 9
+last-name k h n0 n1 n2 n3 n4 n5 n6 n7 n8 = last-of k (five-on k n0 n1 n2 n3 n4) h n5 n6 n7 n8
 
 -- ---- one name behind the other
 simples-at : (k : ℕ) → k < 10 → drop k simples ≡ decode k ∷ drop (suc k) simples

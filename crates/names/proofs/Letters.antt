@@ -55,18 +55,6 @@ name-cut k from to h p q =
 pub name-ends : (k from to : ℕ) → k < 10 → from ≡ startOf k → to ≡ startOf (k + 1) → (from ≤ to) × (to ≤ 94)
 name-ends k from to h p q = (omega (arith, start-next k), omega (arith, start-most (k + 1) (omega arith)))
 
--- texts of other lengths are not the same
-pub other-length : (s t : List ℕ) → (length s ≡ length t → ⊥) → false ≡ sameText s t
-unfolding sameText
-other-length [] [] n = absurd (n refl)
-other-length [] (b ∷ t) n = refl
-other-length (a ∷ s) [] n = refl
-other-length (a ∷ s) (b ∷ t) n = step (eqb a b) (other-length s t (λ e. n (ap suc e)))
-  where
-    step : (x : Bool) {y : Bool} → false ≡ y → false ≡ x && y
-    step true e = e
-    step false e = refl
-
 -- ---- by its length and its first letter
 -- the one name that a text of n letters, the first of them b, can be; 10 where it can be none
 abbrev pub pick : ℕ → ℕ → ℕ

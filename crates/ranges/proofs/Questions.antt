@@ -1,17 +1,17 @@
 -- The small questions: refusals first, then the answer from the command and the byte behind it.
 -- Assumes nothing.
-use Prim.Native.Nat.{ℕ, zero, suc, _<_, _≤_}
+use Prim.Native.Nat.{ℕ, zero, suc, _<_, _≤_, _%_}
 use mathlib.Core.Path.{_≡_, refl, sym, ap, _∙_}
-use mathlib.Core.Bool.{Bool, true, false}
+use mathlib.Core.Bool.{Bool, true, false, _||_}
 use mathlib.Core.Option.{some}
 use mathlib.Core.List.{List}
 use native.Mathlib.Omega.{arith}
 use lib.ListN.{length, getD}
-use lib.Dec.{eqb}
-use borrow.Author.Tests.{le-leb, lt-leb}
+use lib.Dec.{eqb, leb}
+use borrow.Author.Tests.{le-leb, lt-leb, leb-true}
 use Rattle.form.specs.Trees.{Leaf, l-boolean, Val, v-leaf, v-range, v-list, v-context, v-function, v-built-in, v-type, v-irrelevant}
 use Rattle.form.specs.Limits.{valueLevels, valueRefusals}
-use Rattle.form.specs.Outcome.{Outcome, done, refused, _>>=_, _>>_}
+use Rattle.form.specs.Outcome.{Outcome, done, refused, _>>=_, _>>_, check}
 use Rattle.form.specs.Form.{bit, levelV}
 use Rattle.form.specs.Read.{got, readV, readValue, checkValue}
 use Rattle.form.specs.Answers.{checked}
@@ -128,3 +128,20 @@ interval-refused test {i} h = rw (lt-leb i 3 h)
 pub interval-done : (test : ℕ → Bool) {i : ℕ} {o : Outcome Bool} → i ≤ 3 → o ≡ done (test i) → o ≡ interval test i
 unfolding _>>_
 interval-done test {i} h e = e ∙ rw (le-leb i 3 h)
+
+-- only the four interval types are asked
+pub interval-same : (test other : ℕ → Bool) (i : ℕ) → (i ≤ 3 → test i ≡ other i) → interval test i ≡ interval other i
+unfolding _>>_
+interval-same test other i f = go (leb i 3) refl
+  where
+    go : (q : Bool) → leb i 3 ≡ q → (do check 2 q; done (test i)) ≡ (do check 2 q; done (other i))
+    go true e = ap done (f (leb-true i 3 e))
+    go false e = refl
+
+-- of the four interval types 1 and 3 are the odd ones
+pub odd-is : (i : ℕ) → i ≤ 3 → (eqb i 1 || eqb i 3) ≡ eqb (i % 2) 1
+odd-is zero h = refl
+odd-is (suc zero) h = refl
+odd-is (suc (suc zero)) h = refl
+odd-is (suc (suc (suc zero))) h = refl
+odd-is (suc (suc (suc (suc i)))) h = absurd (omega arith)

@@ -45,7 +45,7 @@ pub judge-no : (q : Bool) (x y : ℕ) → judge q x y ≡ No → q ≡ false
 judge-no true x y e = absurd (let z : _≡_ {A = ℕ} 0 1 = cc in omega arith)
 judge-no false x y e = refl
 
-both : {X : Type 0} (sz : X → ℕ) (test : X → X → Bool) (r s : Option X) (x y : X) → r ≡ some x → s ≡ some y → conformBy sz test r s ≡ judge (test x y) (sz x) (sz y)
+pub both : {X : Type 0} (sz : X → ℕ) (test : X → X → Bool) (r s : Option X) (x y : X) → r ≡ some x → s ≡ some y → conformBy sz test r s ≡ judge (test x y) (sz x) (sz y)
 unfolding conformBy
 both sz test r s x y p q = ap₂ (conformBy sz test) p q
 
@@ -57,7 +57,7 @@ called sz test f g a i b j x y w p q e = rw (rest a i, rest b j) at e ∙ both s
 same-simple : (s t : Simple) → 32 + code s ≡ 32 + code t → s ≡ t
 same-simple s t e = let f : code s ≡ code t = omega arith in sym (decode-code s) ∙ ap decode f ∙ decode-code t
 
-le-null : (t u : Ty) → cmd t ≡ 41 → (size t ≡ 1) × (le fixed t u ≡ true)
+pub le-null : (t u : Ty) → cmd t ≡ 41 → (size t ≡ 1) × (le fixed t u ≡ true)
 unfolding cmp size
 le-null (leaf s) (leaf t) e = (refl, ap (λ x. flat x t) (same-simple s null e) ∙ fixed-laws .null-least t)
 le-null (leaf s) (built y) e = (refl, ap (λ x. flat x null) (same-simple s null e))
@@ -66,7 +66,7 @@ le-null (built (range t)) u e = absurd (omega arith)
 le-null (built (context fs)) u e = absurd (omega arith)
 le-null (built (function ps r)) u e = absurd (omega arith)
 
-le-any : (t u : Ty) → cmd u ≡ 32 → (size u ≡ 1) × (le fixed t u ≡ true)
+pub le-any : (t u : Ty) → cmd u ≡ 32 → (size u ≡ 1) × (le fixed t u ≡ true)
 unfolding cmp size
 le-any (leaf s) (leaf t) e = (refl, ap (λ x. flat s x) (same-simple t any e) ∙ fixed-laws .any-greatest s)
 le-any (built x) (leaf t) e = (refl, ap (λ x. flat any x) (same-simple t any e))
@@ -132,7 +132,7 @@ unfolding countTys
 empty-count no-params = sym (eq-eqb 0 0 refl)
 empty-count (param t ps) = sym (ne-eqb (suc (countTys ps)) 0 (λ e. omega arith))
 
-le-funs : (f g : Sig) (n : ℕ) → count-sig f ≡ n → le fixed (funOf f) (funOf g) ≡ le-sig (eqb n 0) f g
+pub le-funs : (f g : Sig) (n : ℕ) → count-sig f ≡ n → le fixed (funOf f) (funOf g) ≡ le-sig (eqb n 0) f g
 le-funs (sig ps r) (sig qs s) n e = le-functions fixed ps qs r s ∙ ap (λ x. les fixed qs ps && (x || le fixed r s)) (empty-count ps ∙ ap (λ k. eqb k 0) e)
 
 le-counts : (f g : Sig) → (count-sig f ≡ count-sig g → ⊥) → le fixed (funOf f) (funOf g) ≡ false

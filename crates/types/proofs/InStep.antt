@@ -81,7 +81,7 @@ param-at l i count at a f h k e =
     let g = parameter l (count - (i + 1)) (drop at a) f (ap (λ n. sigAt l n (drop at a)) (sym (step i count h)) ∙ e) in
     record { t = g .t; more = g .y; first = g .first; fits = omega (arith, simp length-drop at (t-good l (drop at a) (g .t) (g .first) .1)); second = ap (sigAt l (count - (i + 1))) (sym (drop-drop (size (g .t)) at a)) ∙ g .second; is = g .is }
 
-le-cons : (ig : Bool) (t u : Ty) (f g : Sig) → le-sig ig (cons t f) (cons u g) ≡ le fixed u t && le-sig ig f g
+pub le-cons : (ig : Bool) (t u : Ty) (f g : Sig) → le-sig ig (cons t f) (cons u g) ≡ le fixed u t && le-sig ig f g
 unfolding cmp
 le-cons ig t u (sig ps r) (sig qs s) = and-assoc (le fixed u t) (les fixed qs ps) (ig || le fixed r s)
 

@@ -120,7 +120,7 @@ pub record IsFun (l : ℕ) (s : List ℕ) (t : Ty) : Type 0 where
   pub read : sigAt (l - 1) (getD s 1 0) (drop 2 s) ≡ some f
   pub is : t ≡ funOf f
 
-then-got : {X Y Z : Type 0} (g : X → Y → Z) (s : List ℕ) (more : List ℕ → Got Y) (r : Got X) (x : X) (m : ℕ) (y : Y) (n : ℕ) → r ≡ got x m → more (drop m s) ≡ got y n → andThen g 0 s more r ≡ got (g x y) (0 + m + n)
+pub then-got : {X Y Z : Type 0} (g : X → Y → Z) (s : List ℕ) (more : List ℕ → Got Y) (r : Got X) (x : X) (m : ℕ) (y : Y) (n : ℕ) → r ≡ got x m → more (drop m s) ≡ got y n → andThen g 0 s more r ≡ got (g x y) (0 + m + n)
 unfolding andThen Rattle.form.specs.Read.front
 then-got g s more r x m y n p q = rw (p, q)
 

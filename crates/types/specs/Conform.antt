@@ -1,6 +1,7 @@
 -- Conformance of two types that were read: yes with both sizes, or no.
 -- Assumes nothing.
-use Prim.Native.Nat.{ℕ, _+_}
+use Prim.Native.Nat.{ℕ, _+_, _<_, _/_, _%_}
+use mathlib.Core.Path.{_≡_}
 use mathlib.Core.Bool.{Bool, true, false, _&&_, _||_}
 use mathlib.Core.Option.{Option, none, some}
 use Rattle.form.specs.Trees.{Ty, Fields}
@@ -35,3 +36,7 @@ le-sig ignored (sig ps r) (sig qs s) = cmps fixed up qs ps && (ignored || le fix
 abbrev pub grown : ℕ → ℕ → Conform → Conform
 grown i j (Yes x y) = Yes (x + i) (y + j)
 grown i j No = No
+
+-- both sizes in one number, second * 65536 + first, taken where it is not 0: the first conforms to the second, with these sizes
+abbrev pub Met : Conform → ℕ → Type 0
+Met w r = 0 < r → w ≡ Yes (r % 65536) (r / 65536)

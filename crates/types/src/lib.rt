@@ -1,7 +1,7 @@
 // types.rs over the byte form: conformance of types in one pass over both.
 ghost use mathlib.Core.Path.{_≡_};
-ghost use mathlib.Core.Bool.{cond};
-ghost use Prim.Native.Nat.{ℕ, _+_, _<_, _≤_};
+ghost use mathlib.Core.Bool.{cond, true};
+ghost use Prim.Native.Nat.{ℕ, _+_, _<_, _≤_, _/_, _%_};
 ghost use lib.ListN.{length};
 ghost use lib.Dec.{ltb, eqb};
 ghost use Rattle.form.specs.Limits.{nameWidth, nameEnd};
@@ -11,10 +11,12 @@ ghost use Rattle.order.specs.Types.{le};
 ghost use Rattle.order.specs.Document.{nullOrSame};
 ghost use Rattle.order.specs.Size.{size, size-fields};
 ghost use Rattle.types.specs.At.{typeAt, fieldsAt, sigAt, size-sig, sizeAt, Ok};
-ghost use Rattle.types.specs.Conform.{conformOf, conformBy, entries, le-sig, grown};
+ghost use Rattle.types.specs.Conform.{conformOf, conformBy, entries, le-sig, grown, Met};
+ghost use Rattle.form.specs.Outcome.{done};
 ghost use Rattle.form.specs.Answers.{verdict};
 ghost use Rattle.types.specs.Calls.{isConformant, instanceOf, isSimpleBuiltInType, isNull};
 use form::Checked;
+use form::MOST_BYTES;
 use form::NAME_WIDTH;
 use form::TYPE_LEVELS;
 use form::Verdict;
@@ -194,10 +196,224 @@ fn conform_fields(a: &[u8], n: usize, b: &[u8], m: usize, left: usize) -> Confor
     Conform::Yes { a: at, b: bt }
 }
 
+// ---- passes: both are read and compared at once. A pass answers both sizes in one number, second * 65536 + first, and 0 where the plain way must tell.
+
+// The number of two sizes with i and j bytes in front of them, 0 where they are too large for it.
+pub fn sizes(first: usize, second: usize, i: usize, j: usize) -> usize
+    requires { ⌜ (i ≤ 4) × (j ≤ 4) ⌝ }
+    ensures { λ r. ⌜ (0 < r → (r % 65536 ≡ first + i) × (r / 65536 ≡ second + j)) ⌝ }
+{
+    if MOST_BYTES < first {
+        return 0;
+    }
+    if MOST_BYTES < second {
+        return 0;
+    }
+    (second + j) * 65536 + (first + i)
+}
+
+// A pass over two types of which the first is Null or the second Any: they conform where both are read.
+fn pass_ends(a: &[u8], b: &[u8], left: usize) -> usize
+    requires { ⌜ ((Ok (typeAt left (now a)) × Ok (typeAt left (now b))) → conformOf (typeAt left (now a)) (typeAt left (now b)) ≡ Conform.Yes (sizeAt (typeAt left (now a))) (sizeAt (typeAt left (now b)))) ⌝ }
+    ensures { λ r. ⌜ Met (conformOf (typeAt left (now (a .entry))) (typeAt left (now (b .entry)))) r ⌝ }
+{
+    let k = skip(a, left);
+    if k == 0 {
+        return 0;
+    }
+    let w = skip(b, left);
+    if w == 0 {
+        return 0;
+    }
+    sizes(k, w, 0, 0)
+}
+
+// A pass over the type at the front of `a` and the one at the front of `b`.
+fn pass_both(a: &[u8], b: &[u8], left: usize) -> usize
+    ensures { λ r. ⌜ Met (conformOf (typeAt left (now (a .entry))) (typeAt left (now (b .entry)))) r ⌝ }
+{
+    if left == 0 {
+        return 0;
+    }
+    if a.len() == 0 {
+        return 0;
+    }
+    if b.len() == 0 {
+        return 0;
+    }
+    let e = a[0];
+    let f = b[0];
+    if e != f {
+        if e == 0x29 {
+            return pass_ends(&a[0..], &b[0..], left);
+        }
+        if f == 0x20 {
+            return pass_ends(&a[0..], &b[0..], left);
+        }
+        return 0;
+    }
+    match e {
+        0x20..=0x29 => 65537,
+        0x2A => pass_inner(&a[1..], &b[1..], left - 1),
+        0x2B => pass_inner(&a[1..], &b[1..], left - 1),
+        0x2C => {
+            if a.len() < 3 {
+                return 0;
+            }
+            if b.len() < 3 {
+                return 0;
+            }
+            pass_fields(
+                &a[3..],
+                form::word_at(a, 1),
+                &b[3..],
+                form::word_at(b, 1),
+                left - 1,
+            )
+        }
+        0x2D => {
+            if a.len() < 2 {
+                return 0;
+            }
+            if b.len() < 2 {
+                return 0;
+            }
+            let k = a[1];
+            if k != b[1] {
+                return 0;
+            }
+            pass_sig(&a[2..], &b[2..], form::wide(k), left - 1)
+        }
+        _ => 0,
+    }
+}
+
+// A pass over two inner types, behind one byte each.
+fn pass_inner(a: &[u8], b: &[u8], left: usize) -> usize
+    ensures { λ r. ⌜ Met (grown 1 1 (conformOf (typeAt left (now (a .entry))) (typeAt left (now (b .entry))))) r ⌝ }
+{
+    let w = pass_both(&a[0..], &b[0..], left);
+    if w == 0 {
+        return 0;
+    }
+    sizes(w % 65536, w / 65536, 1, 1)
+}
+
+// A pass over `count` parameters, the other way round, and the results behind them, which count 0 only passes over; behind two bytes each.
+fn pass_sig(a: &[u8], b: &[u8], count: usize, left: usize) -> usize
+    ensures { λ r. ⌜ Met (grown 2 2 (conformBy size-sig (le-sig (eqb count 0)) (sigAt left count (now (a .entry))) (sigAt left count (now (b .entry))))) r ⌝ }
+{
+    if 0 == count {
+        let x = skip(&a[0..], left);
+        if x == 0 {
+            return 0;
+        }
+        let y = skip(&b[0..], left);
+        if y == 0 {
+            return 0;
+        }
+        return sizes(x, y, 2, 2);
+    }
+    let mut at: usize = 0;
+    let mut bt: usize = 0;
+    let mut i: usize = 0;
+    while i < count {
+        let w = pass_both(&b[bt..], &a[at..], left);
+        if w == 0 {
+            return 0;
+        }
+        bt = bt + w % 65536;
+        at = at + w / 65536;
+        i += 1;
+    }
+    let w = pass_both(&a[at..], &b[bt..], left);
+    if w == 0 {
+        return 0;
+    }
+    sizes(at + w % 65536, bt + w / 65536, 2, 2)
+}
+
+// A pass over n entries of one context type and m of another, the names of both ascending; behind three bytes each.
+fn pass_fields(a: &[u8], n: usize, b: &[u8], m: usize, left: usize) -> usize
+    ensures { λ r. ⌜ Met (grown 3 3 (conformBy size-fields (entries (le fixed)) (fieldsAt left n 0 (now (a .entry))) (fieldsAt left m 0 (now (b .entry))))) r ⌝ }
+{
+    let mut at: usize = 0;
+    let mut least: usize = 0;
+    let mut i: usize = 0;
+    let mut bt: usize = 0;
+    let mut j: usize = 0;
+    while i < n {
+        if a.len() - at < NAME_WIDTH {
+            return 0;
+        }
+        let name = form::name_at(a, at);
+        if name < least {
+            return 0;
+        }
+        if j < m {
+            if b.len() - bt < NAME_WIDTH {
+                return 0;
+            }
+        }
+        let next = peek(b, bt, j, m);
+        if next < name {
+            return 0;
+        }
+        let p = at + NAME_WIDTH;
+        if name < next {
+            let k = skip(&a[p..], left);
+            if k == 0 {
+                return 0;
+            }
+            at = p + k;
+            least = name + 1;
+            i += 1;
+            continue;
+        }
+        let q = bt + NAME_WIDTH;
+        let w = pass_both(&a[p..], &b[q..], left);
+        if w == 0 {
+            return 0;
+        }
+        at = p + w % 65536;
+        bt = q + w / 65536;
+        least = name + 1;
+        i += 1;
+        j += 1;
+    }
+    if j < m {
+        return 0;
+    }
+    sizes(at, bt, 3, 3)
+}
+
+// Whether one pass tells that the first whole type conforms to the second.
+fn passes(a: &[u8], b: &[u8]) -> bool
+    ensures { λ r. ⌜ (r ≡ true → isConformant (now (a .entry)) (now (b .entry)) ≡ done true) ⌝ }
+{
+    if MOST_BYTES < a.len() {
+        return false;
+    }
+    if MOST_BYTES < b.len() {
+        return false;
+    }
+    let w = pass_both(a, b, TYPE_LEVELS);
+    if w == 0 {
+        return false;
+    }
+    if w % 65536 != a.len() {
+        return false;
+    }
+    w / 65536 == b.len()
+}
+
 // `FeelType::is_conformant`.
 pub fn is_conformant(a: &[u8], b: &[u8]) -> Verdict
     ensures { λ r. ⌜ verdict r ≡ isConformant (now (a .entry)) (now (b .entry)) ⌝ }
 {
+    if passes(a, b) {
+        return Verdict::Yes;
+    }
     if let Checked::Refused(n) = form::check_type(a) {
         return Verdict::Refused(n);
     }

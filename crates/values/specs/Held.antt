@@ -1,8 +1,12 @@
 -- A value that was read, held to a type that was read: yes with both sizes, or no.
 -- Assumes nothing.
-use Prim.Native.Nat.{ℕ}
+use Prim.Native.Nat.{ℕ, _<_, _≤_}
+use mathlib.Core.Path.{_≡_}
 use mathlib.Core.Bool.{Bool, _&&_}
 use mathlib.Core.Option.{Option, none, some}
+use mathlib.Core.List.{List}
+use lib.ListN.{length}
+use Rattle.form.specs.Limits.{mostBytes}
 use Rattle.form.specs.Trees.{Ty, Fields, Val, Vals, Entries}
 use Rattle.order.specs.Order.{up, fixed}
 use Rattle.order.specs.Types.{all-fields, cmp, cmps}
@@ -12,7 +16,7 @@ use Rattle.order.specs.Inferred.{valueConformsTo}
 use Rattle.types.specs.At.{Sig, sig, size-sig}
 use Rattle.types.specs.Conform.{judge}
 use Rattle.types.specs.declared.Conform.{Conform}
-use Rattle.types.specs.declared.Conform.the-variants.{No}
+use Rattle.types.specs.declared.Conform.the-variants.{Yes, No}
 use Rattle.values.specs.At.{Definition, definition, size-definition}
 
 unfoldable pub heldBy : {X Y : Type 0} → (X → ℕ) → (Y → ℕ) → (X → Y → Bool) → Option X → Option Y → Conform
@@ -41,3 +45,7 @@ definitionConforms (definition r ps) (sig qs s) = cmps fixed up (types-of ps) qs
 
 abbrev pub heldDefinition : Option Definition → Option Sig → Conform
 heldDefinition x y = heldBy size-definition size-sig definitionConforms x y
+
+-- all bytes of v, 1 to 16,384, are the value that conforms
+abbrev pub Whole : List ℕ → Conform → Type 0
+Whole v w = ((0 < length v) × (length v ≤ mostBytes)) × ((n : ℕ) × (w ≡ Yes (length v) n))

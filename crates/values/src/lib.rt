@@ -1,14 +1,22 @@
 // values.rs over the byte form: a value held to a type, in one pass over both.
 ghost use mathlib.Core.Path.{_≡_};
-ghost use Prim.Native.Nat.{_<_};
+ghost use mathlib.Core.Bool.{true};
+ghost use Prim.Native.Nat.{_<_, _≤_};
+ghost use Rattle.form.specs.Limits.{valueLevels};
+ghost use Rattle.form.specs.Outcome.{done};
+ghost use Rattle.form.specs.Form.{Bytes};
+ghost use Rattle.form.specs.Read.{checkType};
 ghost use Rattle.form.specs.Answers.{verdict};
 ghost use Rattle.types.specs.At.{typeAt, fieldsAt, sigAt, Ok};
+ghost use Rattle.types.specs.Conform.{grown, Met};
 ghost use Rattle.values.specs.At.{valueAt, itemsAt, entriesAt, definitionAt, sizeAtV};
-ghost use Rattle.values.specs.Held.{held, heldItems, heldEntries, heldDefinition};
+ghost use Rattle.values.specs.Held.{held, heldItems, heldEntries, heldDefinition, Whole};
 ghost use Rattle.values.specs.Calls.{isConformant};
 use form::Checked;
+use form::MOST_BYTES;
 use form::NAME_WIDTH;
 use form::TYPE_LEVELS;
+use form::VALUE_LEVELS;
 use form::Verdict;
 use form::Walk;
 use types::Conform;
@@ -258,18 +266,220 @@ fn conform_definition(v: &[u8], t: &[u8], count: usize, left: usize) -> Conform
     }
 }
 
-// `Value::is_conformant`.
-pub fn is_conformant(v: &[u8], t: &[u8]) -> Verdict
+// ---- passes: a value that is not read yet is read and held to a type that was read, at once. A pass answers both sizes in one number, as those of
+// two types do, and 0 where the plain way must tell.
+
+// The size of the value at the front of `v` where it is a leaf of data that conforms to the simple type at the front of `t`; 0 where not.
+fn pass_leaf(v: &[u8], t: &[u8], left: usize) -> usize
+    requires { ⌜ Ok (typeAt left (now t)) ⌝ }
+    ensures { λ r. ⌜ (0 < r → Conform.Yes r 1 ≡ held (valueAt left (now (v .entry))) (typeAt left (now (t .entry)))) ⌝ }
+{
+    if form::key_at(v, 0, left) == 0 {
+        return 0;
+    }
+    leaf(v, t, left)
+}
+
+// A pass over a null, which conforms to every type.
+fn pass_null(v: &[u8], t: &[u8], left: usize) -> usize
+    requires { ⌜ Ok (typeAt left (now t)) ⌝ }
+    ensures { λ r. ⌜ Met (held (valueAt left (now (v .entry))) (typeAt left (now (t .entry)))) r ⌝ }
+{
+    if form::key_at(v, 0, left) == 0 {
+        return 0;
+    }
+    if v[0] != 0x00 {
+        return 0;
+    }
+    types::sizes(2, types::skip(t, left), 0, 0)
+}
+
+// A pass over the value at the front of `v`, held to the type at the front of `t`.
+fn pass_held(v: &[u8], t: &[u8], left: usize) -> usize
+    requires { ⌜ Ok (typeAt left (now t)) ⌝ }
+    ensures { λ r. ⌜ Met (held (valueAt left (now (v .entry))) (typeAt left (now (t .entry)))) r ⌝ }
+{
+    if v.len() < 3 {
+        return pass_null(&v[0..], &t[0..], left);
+    }
+    let e = v[0];
+    let f = t[0];
+    if f == 0x20 {
+        let size = skip(&v[0..], left);
+        if size == 0 {
+            return 0;
+        }
+        return types::sizes(size, 1, 0, 0);
+    }
+    match e {
+        0x00 => pass_null(&v[0..], &t[0..], left),
+        0x09 => {
+            if f != 0x2B {
+                return 0;
+            }
+            if 3 < v[1] {
+                return 0;
+            }
+            if 3 < v[2] {
+                return 0;
+            }
+            pass_items(&v[3..], 2, &t[1..], left - 1)
+        }
+        0x0A => {
+            if f != 0x2A {
+                return 0;
+            }
+            pass_items(&v[3..], form::word_at(v, 1), &t[1..], left - 1)
+        }
+        0x0B => {
+            if f != 0x2C {
+                return 0;
+            }
+            pass_entries(
+                &v[3..],
+                form::word_at(v, 1),
+                &t[3..],
+                form::word_at(t, 1),
+                left - 1,
+            )
+        }
+        _ => 0,
+    }
+}
+
+// A pass over n values, each held to the one type; behind three bytes and one.
+fn pass_items(v: &[u8], n: usize, t: &[u8], left: usize) -> usize
+    requires { ⌜ Ok (typeAt left (now t)) ⌝ }
+    ensures { λ r. ⌜ Met (grown 3 1 (heldItems (itemsAt left n (now (v .entry))) (typeAt left (now (t .entry))))) r ⌝ }
+{
+    let mut at: usize = 0;
+    let mut bt: usize = 0;
+    let mut i: usize = 0;
+    while i < n {
+        let k = pass_leaf(&v[at..], &t[0..], left);
+        if k != 0 {
+            at = at + k;
+            bt = 1;
+            i += 1;
+            continue;
+        }
+        let w = pass_held(&v[at..], &t[0..], left);
+        if w == 0 {
+            return 0;
+        }
+        at = at + w % 65536;
+        bt = w / 65536;
+        i += 1;
+    }
+    if i == 0 {
+        return types::sizes(at, types::skip(&t[0..], left), 3, 1);
+    }
+    types::sizes(at, bt, 3, 1)
+}
+
+// A pass over n entries of a context, their names ascending, held to m of a type; behind three bytes each.
+fn pass_entries(v: &[u8], n: usize, t: &[u8], m: usize, left: usize) -> usize
+    requires { ⌜ Ok (fieldsAt left m 0 (now t)) ⌝ }
+    ensures { λ r. ⌜ Met (grown 3 3 (heldEntries (entriesAt left n 0 (now (v .entry))) (fieldsAt left m 0 (now (t .entry))))) r ⌝ }
+{
+    let mut at: usize = 0;
+    let mut least: usize = 0;
+    let mut i: usize = 0;
+    let mut bt: usize = 0;
+    let mut j: usize = 0;
+    while i < n {
+        if v.len() - at < NAME_WIDTH {
+            return 0;
+        }
+        let name = form::name_at(v, at);
+        if name < least {
+            return 0;
+        }
+        let next = types::peek(t, bt, j, m);
+        if next < name {
+            return 0;
+        }
+        let p = at + NAME_WIDTH;
+        if name < next {
+            let size = skip(&v[p..], left);
+            if size == 0 {
+                return 0;
+            }
+            at = p + size;
+            least = name + 1;
+            i += 1;
+            continue;
+        }
+        let q = bt + NAME_WIDTH;
+        let k = pass_leaf(&v[p..], &t[q..], left);
+        if k != 0 {
+            at = p + k;
+            bt = q + 1;
+            least = name + 1;
+            i += 1;
+            j += 1;
+            continue;
+        }
+        let w = pass_held(&v[p..], &t[q..], left);
+        if w == 0 {
+            return 0;
+        }
+        at = p + w % 65536;
+        bt = q + w / 65536;
+        least = name + 1;
+        i += 1;
+        j += 1;
+    }
+    if j < m {
+        return 0;
+    }
+    types::sizes(at, bt, 3, 3)
+}
+
+// Whether one pass tells that the whole value is one, and conforms to a type that was read.
+fn passes(v: &[u8], t: &[u8]) -> bool
+    requires { ⌜ Ok (typeAt valueLevels (now t)) ⌝ }
+    ensures { λ r. ⌜ (r ≡ true → Whole (now (v .entry)) (held (valueAt valueLevels (now (v .entry))) (typeAt valueLevels (now (t .entry))))) ⌝ }
+{
+    if MOST_BYTES < v.len() {
+        return false;
+    }
+    let w = pass_held(v, t, VALUE_LEVELS);
+    if w == 0 {
+        return false;
+    }
+    w % 65536 == v.len()
+}
+
+// The call, behind a type that was accepted.
+fn judge(v: &[u8], t: &[u8], level: usize) -> Verdict
+    requires { ⌜ checkType (now t) ≡ done level ⌝ }
+    requires { ⌜ Bytes (now t) ⌝ }
     ensures { λ r. ⌜ verdict r ≡ isConformant (now (v .entry)) (now (t .entry)) ⌝ }
 {
-    if let Checked::Refused(n) = form::check_value(v) {
-        return Verdict::Refused(n);
+    if level <= VALUE_LEVELS {
+        if passes(v, t) {
+            return Verdict::Yes;
+        }
     }
-    if let Checked::Refused(n) = form::check_type(t) {
+    if let Checked::Refused(n) = form::check_value(v) {
         return Verdict::Refused(n);
     }
     match conforms(v, t, TYPE_LEVELS) {
         Conform::Yes { a: _, b: _ } => Verdict::Yes,
         Conform::No => Verdict::No,
+    }
+}
+
+// `Value::is_conformant`. The type is read first, and refused behind the value.
+pub fn is_conformant(v: &[u8], t: &[u8]) -> Verdict
+    ensures { λ r. ⌜ verdict r ≡ isConformant (now (v .entry)) (now (t .entry)) ⌝ }
+{
+    match form::check_type(t) {
+        Checked::Accepted { level } => judge(v, t, level),
+        Checked::Refused(n) => match form::check_value(v) {
+            Checked::Accepted { level: _ } => Verdict::Refused(n),
+            Checked::Refused(k) => Verdict::Refused(k),
+        },
     }
 }

@@ -1,8 +1,6 @@
 -- `feel::feel_interval_closed` meets its contract.
 -- Assumes nothing.
-use mathlib.Core.Path.{ap, _∙_}
 use borrow.Author.Needs.{needs}
-use Rattle.feel.specs.Numbers.{judged}
 use Rattle.feel.proofs.feel_interval_closed.Statement.{statement}
 use Rattle.feel.proofs.feel_interval_closed.Tie as tie
 
@@ -11,5 +9,4 @@ feel-interval-closed-spec =
     tie.close
     (tie.spec
     (λ c κs. search needs)
-    (λ c κs. search needs)
-    (λ c. c .verdict-number .ensures ∙ ap judged (c .before .closed .ensures)))
+    (λ c. c .interval-number .ensures))

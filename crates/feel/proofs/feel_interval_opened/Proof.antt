@@ -1,8 +1,6 @@
 -- `feel::feel_interval_opened` meets its contract.
 -- Assumes nothing.
-use mathlib.Core.Path.{ap, _∙_}
 use borrow.Author.Needs.{needs}
-use Rattle.feel.specs.Numbers.{judged}
 use Rattle.feel.proofs.feel_interval_opened.Statement.{statement}
 use Rattle.feel.proofs.feel_interval_opened.Tie as tie
 
@@ -11,5 +9,4 @@ feel-interval-opened-spec =
     tie.close
     (tie.spec
     (λ c κs. search needs)
-    (λ c κs. search needs)
-    (λ c. c .verdict-number .ensures ∙ ap judged (c .before .opened .ensures)))
+    (λ c. c .interval-number .ensures))

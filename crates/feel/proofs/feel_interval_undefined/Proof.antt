@@ -1,7 +1,11 @@
 -- `feel::feel_interval_undefined` meets its contract.
 -- Assumes nothing.
-use mathlib.Core.Path.{ap, _∙_}
+use Prim.Native.Nat.{_%_}
+use mathlib.Core.Path.{sym, ap, _∙_}
+use lib.Dec.{eqb}
 use borrow.Author.Needs.{needs}
+use Rattle.ranges.specs.Ranges as ranges
+use Rattle.ranges.proofs.Questions.{interval-same, odd-is}
 use Rattle.feel.specs.Numbers.{judged}
 use Rattle.feel.proofs.feel_interval_undefined.Statement.{statement}
 use Rattle.feel.proofs.feel_interval_undefined.Tie as tie
@@ -11,5 +15,4 @@ feel-interval-undefined-spec =
     tie.close
     (tie.spec
     (λ c κs. search needs)
-    (λ c κs. search needs)
-    (λ c. c .verdict-number .ensures ∙ ap judged (c .before .undefined .ensures)))
+    (λ c. c .interval-number .ensures ∙ ap judged (interval-same (λ x. eqb (c .before .args .i % 2) 1) ranges.undefined (c .before .args .i) (λ h. sym (odd-is (c .before .args .i) h)))))

@@ -1,25 +1,46 @@
 -- `names::has_name` meets its contract.
 -- Assumes nothing.
-use mathlib.Core.Path.{sym, _∙_}
-use native.Mathlib.Omega.{arith}
 use borrow.Author.Needs.{needs}
-use Rattle.names.specs.Texts.{lettersOf}
-use Rattle.names.proofs.Knowing.{has-named}
-use Rattle.names.proofs.Letters.{name-cut, name-ends, other-length}
 use Rattle.names.proofs.has_name.Statement.{statement}
 use Rattle.names.proofs.has_name.Tie as tie
+use Rattle.names.proofs.has_name.Reads as reads
+use Rattle.names.proofs.has_name.Lts as lts
+use Rattle.check.proofs.same.Reads as same-reads
+use mathlib.Core.Path.{refl}
+use Rattle.names.proofs.Knowing.{has-named, last-name}
+use native.Mathlib.Omega.{arith}
 
 pub has-name-spec : {M : Type 1} → statement M
 has-name-spec =
     tie.close
     (tie.spec
+    (λ c. search needs)
     (λ c κs. search needs)
     (λ c. search needs)
     (λ c κs. search needs)
-    (λ c. name-ends (c .before .before .before .args .k) _ _ (c .before .before .before .pre) (c .before .name-start .ensures) (c .name-start2 .ensures) .0)
-    (λ c. let e = name-cut (c .before .before .before .before .args .k) _ _ (c .before .before .before .before .pre) (c .before .before .name-start .ensures) (c .before .name-start2 .ensures) .0 in other-length _ _ (λ z. c .if1 .taken (z ∙ sym e)))
-    (λ c. name-ends (c .before .before .before .before .args .k) _ _ (c .before .before .before .before .pre) (c .before .before .name-start .ensures) (c .before .name-start2 .ensures) .0)
-    (λ c. let e = name-ends (c .before .before .before .before .before .args .k) _ _ (c .before .before .before .before .before .pre) (c .before .before .before .name-start .ensures) (c .before .before .name-start2 .ensures) in omega (arith, e .0, e .1))
-    (λ c. name-ends (c .before .before .before .before .before .args .k) _ _ (c .before .before .before .before .before .pre) (c .before .before .before .name-start .ensures) (c .before .before .name-start2 .ensures) .1)
+    (λ c. search needs)
     (λ c κs. search needs)
-    (λ c. unfold lettersOf in has-named (c .before .before .before .before .before .before .before .args .k) _ _ (c .before .before .before .before .before .before .before .pre) (c .before .before .before .before .before .name-start .ensures) (c .before .before .before .before .name-start2 .ensures) _ _ (c .same .ensures)))
+    (λ c. search needs)
+    (λ c κs. search needs)
+    (λ c. search needs)
+    (λ c κs. search needs)
+    (λ c. search needs)
+    (λ c κs. search needs)
+    (λ c. search needs)
+    (λ c κs. search needs)
+    (λ c. search needs)
+    (λ c κs. search needs)
+    (λ c. search needs)
+    (λ c κs. search needs)
+    (λ c. search needs)
+    (λ c κs. search needs)
+    (λ c. has-named 0 (c .before .before .before .before .args .k) (c .before .before .match .keys1) _ _ refl _ (c .same .ensures))
+    (λ c. has-named 1 (c .before .before .before .before .args .k) (c .before .before .match .keys2) _ _ refl _ (c .same2 .ensures))
+    (λ c. has-named 2 (c .before .before .before .before .args .k) (c .before .before .match .keys3) _ _ refl _ (c .same3 .ensures))
+    (λ c. has-named 3 (c .before .before .before .before .args .k) (c .before .before .match .keys4) _ _ refl _ (c .same4 .ensures))
+    (λ c. has-named 4 (c .before .before .before .before .args .k) (c .before .before .match .keys5) _ _ refl _ (c .same5 .ensures))
+    (λ c. has-named 5 (c .before .before .before .before .args .k) (c .before .before .match .keys6) _ _ refl _ (c .same6 .ensures))
+    (λ c. has-named 6 (c .before .before .before .before .args .k) (c .before .before .match .keys7) _ _ refl _ (c .same7 .ensures))
+    (λ c. has-named 7 (c .before .before .before .before .args .k) (c .before .before .match .keys8) _ _ refl _ (c .same8 .ensures))
+    (λ c. has-named 8 (c .before .before .before .before .args .k) (c .before .before .match .keys9) _ _ refl _ (c .same9 .ensures))
+    (λ c. has-named 9 (c .before .before .before .before .args .k) (last-name (c .before .before .before .before .args .k) (c .before .before .before .before .pre) (c .before .before .match .rest .0 .0 .0 .0 .0 .0 .0 .0 .1) (c .before .before .match .rest .0 .0 .0 .0 .0 .0 .0 .1) (c .before .before .match .rest .0 .0 .0 .0 .0 .0 .1) (c .before .before .match .rest .0 .0 .0 .0 .0 .1) (c .before .before .match .rest .0 .0 .0 .0 .1) (c .before .before .match .rest .0 .0 .0 .1) (c .before .before .match .rest .0 .0 .1) (c .before .before .match .rest .0 .1) (c .before .before .match .rest .1)) _ _ refl _ (c .same10 .ensures)))

@@ -30,6 +30,13 @@ impl Answer for bool {
     }
 }
 
+/// The number itself.
+impl Answer for u64 {
+    fn is(&self, number: u64) -> bool {
+        number == *self
+    }
+}
+
 /// A level or a count.
 impl Answer for usize {
     fn is(&self, number: u64) -> bool {

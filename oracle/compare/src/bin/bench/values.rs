@@ -256,13 +256,29 @@ impl<T> Given for Byte<T> {
     }
 }
 
-/// A question on an interval byte.
-type IntervalQuestion = (
-    &'static str,
-    OfByte,
-    fn(u8) -> Result<bool, u8>,
-    fn(&IntervalType) -> bool,
-);
+/// A question on an interval byte. It takes a few instructions, so both are asked in the same way:
+/// by a C function that answers one number.
+type IntervalQuestion = (&'static str, OfByte, OfByte, fn(&IntervalType) -> bool);
+
+/// The number of the Rust's answer.
+fn number(answer: Result<bool, u8>) -> u64 {
+    match answer {
+        Ok(yes) => u64::from(yes),
+        Err(refusal) => 1 << 32 | u64::from(refusal),
+    }
+}
+
+extern "C" fn rust_opened(i: u8) -> u64 {
+    number(calls::interval_opened(i))
+}
+
+extern "C" fn rust_closed(i: u8) -> u64 {
+    number(calls::interval_closed(i))
+}
+
+extern "C" fn rust_undefined(i: u8) -> u64 {
+    number(calls::interval_undefined(i))
+}
 
 /// The questions on the four interval bytes.
 fn intervals(table: &mut Table) {
@@ -271,19 +287,19 @@ fn intervals(table: &mut Table) {
         (
             "interval_opened",
             feel_interval_opened,
-            calls::interval_opened,
+            rust_opened,
             IntervalType::opened,
         ),
         (
             "interval_closed",
             feel_interval_closed,
-            calls::interval_closed,
+            rust_closed,
             IntervalType::closed,
         ),
         (
             "interval_undefined",
             feel_interval_undefined,
-            calls::interval_undefined,
+            rust_undefined,
             IntervalType::undefined,
         ),
     ];
@@ -292,7 +308,7 @@ fn intervals(table: &mut Table) {
             contest(
                 &bytes,
                 |i| of_byte(function, i.0),
-                |i| rust(i.0),
+                |i| of_byte(rust, i.0),
                 Some(|i: &Byte<IntervalType>| ready(&i.1)),
             )
         });
