@@ -1,12 +1,11 @@
 -- Laws of passes: what was read piece by piece is read as a whole, so the laws of the plain way tell what a pass answers.
 -- Assumes nothing.
-use Prim.Native.Nat.{ℕ, zero, suc, _+_, _-_, _<_, _≤_, _/_, _%_, max}
+use Prim.Native.Nat.{ℕ, suc, _+_, _-_, _<_, _≤_, _/_, _%_, max}
 use mathlib.Core.Path.{_≡_, refl, sym, ap, ap₂, subst, _∙_}
-use mathlib.Core.Bool.{Bool, true, false, cond}
+use mathlib.Core.Bool.{Bool, true, cond}
 use mathlib.Core.Option.{Option, none, some}
 use mathlib.Core.List.{List}
 use native.Mathlib.Omega.{arith}
-use native.Mathlib.Numerals.{add-one}
 use lib.ListN.{length, getD, take, drop, length-drop}
 use lib.Dec.{ltb, eqb}
 use borrow.Author.Tests.{eqb-true}
@@ -24,11 +23,12 @@ use Rattle.form.proofs.Passes.{two-there}
 use Rattle.order.specs.Size.{size, size-val}
 use Rattle.order.specs.Inferred.{valueConformsTo}
 use Rattle.types.specs.At.{seen, typeAt, fieldsAt, Ok, sizeAt}
-use Rattle.types.specs.Conform.{judge, grown, Met}
+use Rattle.types.specs.Conform.{grown, Met}
 use Rattle.types.specs.declared.Conform.{Conform}
 use Rattle.types.specs.declared.Conform.the-variants.{Yes, No}
 use Rattle.types.proofs.Reading.{rest, is-ok, ok-got, some-byte, some-level, is-list, is-range, is-ctx}
 use Rattle.types.proofs.Entries as types
+use Rattle.types.proofs.Conforming.{judge-yes}
 use Rattle.types.proofs.Passing.{grown-taken, by-sizes, by-none}
 use Rattle.values.specs.At.{valueAt, itemsAt, entriesAt, sizeAtV}
 use Rattle.values.specs.Held.{heldBy, held, heldItems, heldEntries, Whole}
@@ -113,15 +113,11 @@ pub record Both {X Y : Type 0} (sx : X → ℕ) (sy : Y → ℕ) (r : Option X) 
 yes-no : {p q : ℕ} → Yes p q ≡ No → ⊥
 yes-no e = let z : _≡_ {A = ℕ} 0 1 = cc in omega arith
 
-judged-yes : {X Y : Type 0} (sx : X → ℕ) (sy : Y → ℕ) (x : X) (y : Y) (b : Bool) (p q : ℕ) → Yes p q ≡ judge b (sx x) (sy y) → (p ≡ sx x) × (q ≡ sy y)
-judged-yes sx sy x y true p q e = (cc, cc)
-judged-yes sx sy x y false p q e = absurd (yes-no e)
-
 pub were-read : {X Y : Type 0} (sx : X → ℕ) (sy : Y → ℕ) (test : X → Y → Bool) (r : Option X) (s : Option Y) (p q : ℕ) → Yes p q ≡ heldBy sx sy test r s → Both sx sy r s p q
 unfolding heldBy
 were-read sx sy test (some x) (some y) p q e =
-    let d = judged-yes sx sy x y (test x y) p q e in
-    record { x = x; y = y; read-x = refl; read-y = refl; size-x = d .0; size-y = d .1 }
+    let d = judge-yes (test x y) (sx x) (sy y) p q (sym e) in
+    record { x = x; y = y; read-x = refl; read-y = refl; size-x = d .1; size-y = d .2 }
 were-read sx sy test (some x) none p q e = absurd (yes-no e)
 were-read sx sy test none s p q e = absurd (yes-no e)
 
@@ -347,9 +343,6 @@ module _ {l : ℕ} {v : List ℕ} {n : ℕ} {t : List ℕ} {m at least i bt j : 
             }
 
 -- ---- a pass over a whole value
-pub no-true : {X : Type 0} → false ≡ true → X
-no-true e = absurd (let z : _≡_ {A = ℕ} 0 1 = cc in omega arith)
-
 pub told-whole : (l : ℕ) (v t : List ℕ) (r : ℕ) → length v ≤ mostBytes → 0 < r → Met (held (valueAt l v) (typeAt l t)) r → eqb (r % 65536) (length v) ≡ true → Whole v (held (valueAt l v) (typeAt l t))
 told-whole l v t r h z m e =
     let k : r % 65536 ≡ length v = eqb-true (r % 65536) (length v) e in

@@ -17,13 +17,13 @@ use Rattle.form.specs.Walks.{walkOf}
 use Rattle.form.specs.declared.Walk.{Walk}
 use Rattle.form.specs.declared.Walk.the-variants as walk
 use Rattle.form.specs.declared.Fault.{Fault}
-use Rattle.form.specs.Read.{Got, got, bad, front, andThen, readRun, readNamed, readT, readV, readVals, readEntries, readParams, ascending, anyOrder}
+use Rattle.form.specs.Read.{Got, got, bad, andThen, readRun, readNamed, readT, readV, readVals, readEntries, readParams, ascending, anyOrder}
 use Rattle.form.proofs.Exact.{got-parts, then-parts}
 use Rattle.form.proofs.Nodes.{item-parts, named-parts, NodeV, nNull, nBoolean, nNumber, nString, nTemporal, nRangeV, nListV, nContextV, nDefinition, nBuiltIn, nType, nIrrelevant, ValueRead, value-read}
 use Rattle.order.specs.Size.{size, size-params, size-leaf, size-val, size-vals, size-entries}
 use Rattle.types.specs.At.{seen, typeAt}
 use Rattle.types.proofs.Reading as types
-use Rattle.types.proofs.Reading.{seen-got, got-seen}
+use Rattle.types.proofs.Reading.{seen-got, got-seen, then-got}
 use Rattle.values.specs.At.{valueAt, itemsAt, entriesAt, Definition, definition, size-definition, definitionAt, sizeAtV}
 
 -- ---- the sizes that the reader gives are those of the trees, and all ends within the bytes
@@ -110,10 +110,6 @@ pub data IsVal (l : ℕ) (s : List ℕ) : Val → Type 0 where
   is-built-in : (x : ℕ) → getD s 0 0 ≡ 13 → IsVal l s (v-built-in x)
   is-type : (t : Ty) → getD s 0 0 ≡ 14 → typeAt (l - 1) (drop 1 s) ≡ some t → IsVal l s (v-type t)
   is-irrelevant : getD s 0 0 ≡ 15 → IsVal l s v-irrelevant
-
-then-got : {X Y Z : Type 0} (g : X → Y → Z) (s : List ℕ) (more : List ℕ → Got Y) (r : Got X) (x : X) (m : ℕ) (y : Y) (n : ℕ) → r ≡ got x m → more (drop m s) ≡ got y n → andThen g 0 s more r ≡ got (g x y) (0 + m + n)
-unfolding andThen front
-then-got g s more r x m y n p q = rw (p, q)
 
 -- two values, one behind the other, are a run of two
 two-items : (l : ℕ) (s : List ℕ) (a b : Val) (m n : ℕ) → readV l s ≡ got a m → readV l (drop m s) ≡ got b n → itemsAt l 2 s ≡ some (item a (item b no-items))
