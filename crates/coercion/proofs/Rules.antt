@@ -1,55 +1,55 @@
 -- The rules of coercion, one by one, as the code asks them; and the results that they give.
 -- Assumes nothing.
-use Prim.Native.Nat.{ℕ, zero, suc, _+_, _-_, _<_, _≤_, max}
+use Prim.Native.Nat.{ℕ, zero, suc, _+_, _-_, _<_, _≤_}
 use native.Mathlib.Omega.{arith}
 use mathlib.Core.Path.{_≡_, refl, sym, ap, ap₂, subst, _∙_}
-use mathlib.Core.Bool.{Bool, true, false, cond, _&&_, _||_, false≢true}
+use mathlib.Core.Bool.{Bool, true, false, not, cond, _&&_, _||_, false≢true}
 use mathlib.Core.Option.{Option, none, some}
 use mathlib.Core.List.{List, [], _∷_, _++_, append-nil}
 use lib.ListN.{length, getD, take, drop, set, length-set, length-drop}
 use lib.Dec.{leb, eqb}
 use borrow.Author.Tests.{le-leb, lt-leb, eq-eqb, ne-eqb}
 use borrow.Rule.Slice.PartMut.{putMid}
-use Rattle.form.specs.Limits.{typeLevels, valueLevels, mostBytes, typeRefusals, valueRefusals}
-use Rattle.form.specs.Trees.{Simple, any, boolean, number, string, date, time, dateTime, daysAndTime, yearsAndMonths, null, code, Ty, leaf, built, list, range, context, function, no-params, param, Val, v-leaf, v-range, v-list, v-context, v-function, v-built-in, v-type, v-irrelevant, Vals, no-items, item}
-use Rattle.form.specs.Form.{Bytes, bytes, num, numAt, enc, encV, encVals, encLeaf, countVals, levelV, levelVals, WfV}
+use Rattle.form.specs.Limits.{typeLevels, valueLevels, mostBytes, valueRefusals}
+use Rattle.form.specs.Trees.{any, boolean, number, string, date, time, dateTime, daysAndTime, yearsAndMonths, null, code, Ty, leaf, built, list, range, context, function, no-params, param, Val, v-list, v-built-in, Vals, no-items, item}
+use Rattle.form.specs.Form.{Bytes, bytes, numAt, encV, encLeaf, countVals, levelV}
 use Rattle.form.specs.Layout.{kindOf}
-use Rattle.form.specs.Outcome.{Outcome, done, refused, _>>=_, _>>_, check, fits, pick}
-use Rattle.form.specs.Read.{Got, got, bad, front, andThen, orElse, operand, readRun, readFunction, stepType, stepT, readT, readV, readVals, readType, readValue, checkType, checkValue}
+use Rattle.form.specs.Outcome.{done, refused, _>>=_, _>>_, check, fits}
+use Rattle.form.specs.Read.{front, andThen, readRun, readFunction, stepType, stepT, readT, readV, readVals, readType, readValue, checkType, checkValue}
 use Rattle.form.specs.Answers.{onto, Built}
-use Rattle.form.specs.declared.Written.{Written}
 use Rattle.form.specs.declared.Written.the-variants as written-is
 use Rattle.form.proofs.Accepted.{whole-got}
 use Rattle.form.proofs.Exact.{bytes-drop}
-use Rattle.form.proofs.Nodes.{NodeV, nNull, nBoolean, nNumber, nString, nTemporal, nRangeV, nListV, nContextV, nDefinition, nBuiltIn, nType, nIrrelevant, ValueRead, value-read}
+use Rattle.form.proofs.Nodes.{NodeV, nNull, nBoolean, nNumber, nString, nTemporal, nRangeV, nListV, nContextV, nDefinition, nBuiltIn, nType, nIrrelevant, value-read}
 use Rattle.form.proofs.Types.{type-told}
-use Rattle.form.proofs.Values.{value-accepted, value-told, took-encV, read-upV}
-use Rattle.order.specs.Order.{fixed, same, flat}
+use Rattle.form.proofs.Values.{value-accepted, value-told, read-upV}
 use Rattle.order.specs.Types.{cmp}
-use Rattle.order.specs.Size.{size, size-val, size-vals}
-use Rattle.order.specs.Values.{conforms}
+use Rattle.order.specs.Size.{size, size-val}
 use Rattle.order.specs.Document.{conformsTo}
 use Rattle.order.specs.Inferred.{valueConformsTo}
-use Rattle.order.proofs.LeastSize.{length-encV}
+use Rattle.order.proofs.Size.{size-positive, size-val-positive}
 use Rattle.types.specs.At.{seen, typeAt, Ok}
-use Rattle.types.specs.Conform.{judge, conformBy, conformOf}
-use Rattle.types.specs.declared.Conform.{Conform}
-use Rattle.types.specs.declared.Conform.the-variants as conform
+use Rattle.types.specs.Conform.{judge, conformBy, conformOf, Met}
+use Rattle.types.specs.Calls.{isYes}
 use Rattle.types.proofs.Reading.{rest, is-ok, ok-got, seen-got, got-seen, cmd, cmd-is, some-byte, is-list}
-use Rattle.types.proofs.Conforming.{judge-yes, judge-no}
+use Rattle.types.proofs.Calling.{whole-type}
 use Rattle.values.specs.At.{valueAt, itemsAt}
 use Rattle.values.specs.Held.{held}
-use Rattle.values.proofs.Holding as holding
+use Rattle.values.specs.Calls.{isConformant}
+use Rattle.values.proofs.Calling.{whole-value}
+use Rattle.values.proofs.Definitions.{type-up}
 use Rattle.values.proofs.Reading as reading
-use Rattle.values.proofs.Reading.{IsVal, is-null, is-boolean, is-number, is-string, is-temporal, is-range, is-context, is-definition, is-built-in, is-type, is-irrelevant, is-val, next-item, no-item}
+use Rattle.values.proofs.Reading.{next-item, no-item}
 use Rattle.bounds.proofs.Laws.{onto-three, back, length-onto, length-rest}
 use Rattle.bounds.proofs.Outcomes.{built-refused, built-short, built-wrote}
 use Rattle.retrieval.specs.Retrieve.{nothing}
 use Rattle.retrieval.specs.Filling.{Accepted}
-use Rattle.retrieval.specs.Calls.{small, result}
+use Rattle.retrieval.specs.Calls.{result}
+use Rattle.retrieval.proofs.Calling.{not-held}
 use Rattle.ranges.specs.Ranges.{bifType}
-use Rattle.coercion.specs.Coerce.{failed, single, unchanged, item-conforms, itemConforms, first-item, from-single, innerConforms, to-single, converted, coerced}
-use Rattle.coercion.specs.Calls.{coercedCall, Ready, wrapped, Says, BifSays}
+use Rattle.coercion.specs.Coerce.{failed, single, unchanged, item-conforms, itemConforms, first-item, innerConforms, to-single, converted, coerced}
+use Rattle.coercion.specs.Calls.{coercedCall, Ready, wrapped, Says, SaysAt, BifSays}
+use Rattle.coercion.proofs.Theorems.{same-if}
 
 single-bytes : (w : Val) → encV (single w) ≡ 0x0A ∷ 1 ∷ 0 ∷ encV w
 unfolding encV countVals bytes
@@ -60,46 +60,41 @@ unfolding levelV
 single-level w = omega arith
 
 -- ---- what a helper says
-is-said : (test : Val → Ty → Bool) (x : Option Val) (y : Option Ty) (v : Val) (t : Ty) (r : Bool) → x ≡ some v → y ≡ some t → r ≡ test v t → Says test x y r
-unfolding Says
-is-said test x y v t r p q h = rw (p, q) h
+module _ {X Y : Type 0} (test : X → Y → Bool) where
+  is-said : (p : Option X) (q : Option Y) (x : X) (y : Y) (r : Bool) → p ≡ some x → q ≡ some y → r ≡ test x y → Says test p q r
+  unfolding Says
+  is-said p q x y r e f h = rw (e, f) h
 
-said : (test : Val → Ty → Bool) (x : Option Val) (y : Option Ty) (v : Val) (t : Ty) (r : Bool) → x ≡ some v → y ≡ some t → Says test x y r → r ≡ test v t
-unfolding Says
-said test x y v t r p q h = rw (p, q) at h
+  said : (p : Option X) (q : Option Y) (x : X) (y : Y) (r : Bool) → p ≡ some x → q ≡ some y → Says test p q r → r ≡ test x y
+  unfolding Says
+  said p q x y r e f h = rw (e, f) at h
 
-is-bif : (b : ℕ) (y : Option Ty) (t : Ty) (r : Bool) → y ≡ some t → r ≡ conformsTo (bifType b) t → BifSays b y r
-unfolding BifSays
-is-bif b y t r q h = rw q h
+  -- a pass over both says it by its size
+  met-says : (sx : X → ℕ) (sy : Y → ℕ) → ((x : X) → 0 < sx x) → (p : Option X) (q : Option Y) (r u : ℕ) → Met (conformBy sx sy test p q) r u → Says test p q (not (eqb r 0))
+  unfolding Says conformBy
+  met-says sx sy positive (some x) (some y) r u m = go (test x y) m
+    where
+      go : (b : Bool) → Met (judge b (sx x) (sy y)) r u → not (eqb r 0) ≡ b
+      go true h = ap not (ne-eqb r 0 (λ z. omega (arith, positive x, h .0)))
+      go false h = ap not (eq-eqb r 0 h)
+  met-says sx sy positive (some x) none r u m = ap not (eq-eqb r 0 m)
+  met-says sx sy positive none q r u m = ap not (eq-eqb r 0 m)
 
-bif-said : (b : ℕ) (y : Option Ty) (t : Ty) (r : Bool) → y ≡ some t → BifSays b y r → r ≡ conformsTo (bifType b) t
-unfolding BifSays
-bif-said b y t r q h = rw q at h
-
--- ---- `conforms`
-module _ (l : ℕ) (v t : List ℕ) (p : Ok (valueAt l v)) (q : Ok (typeAt l t)) (c : Conform) (h : c ≡ held (valueAt l v) (typeAt l t)) where
-  X : (x : Val) × (valueAt l v ≡ some x)
-  X = ok-got (valueAt l v) p
-
-  Y : (y : Ty) × (typeAt l t ≡ some y)
-  Y = ok-got (typeAt l t) q
-
-  judged : c ≡ judge (valueConformsTo (X .0) (Y .0)) (size-val (X .0)) (size (Y .0))
-  judged = h ∙ holding.both size-val size valueConformsTo (valueAt l v) (typeAt l t) (X .0) (Y .0) (X .1) (Y .1)
-
-  pub says-yes : (a b : ℕ) → c ≡ conform.Yes a b → Says valueConformsTo (valueAt l v) (typeAt l t) true
-  says-yes a b e = is-said valueConformsTo (valueAt l v) (typeAt l t) (X .0) (Y .0) true (X .1) (Y .1) (sym (judge-yes (valueConformsTo (X .0) (Y .0)) (size-val (X .0)) (size (Y .0)) a b (sym judged ∙ e) .0))
-
-  pub says-no : c ≡ conform.No → Says valueConformsTo (valueAt l v) (typeAt l t) false
-  says-no e = is-said valueConformsTo (valueAt l v) (typeAt l t) (X .0) (Y .0) false (X .1) (Y .1) (sym (judge-no (valueConformsTo (X .0) (Y .0)) (size-val (X .0)) (size (Y .0)) (sym judged ∙ e)))
+pub value-says : (v t : List ℕ) (r u : ℕ) → Met (held (valueAt valueLevels v) (typeAt typeLevels t)) r u → SaysAt valueConformsTo v t (not (eqb r 0))
+value-says v t r u m = met-says valueConformsTo size-val size size-val-positive (valueAt valueLevels v) (typeAt typeLevels t) r u m
 
 -- ---- built-in functions
 abbrev number-to-number : Ty
 number-to-number = built (function (param (leaf number) no-params) (leaf number))
 
-pub function-read : typeAt typeLevels (0x2D ∷ 0x01 ∷ 0x22 ∷ 0x22 ∷ []) ≡ some number-to-number
+function-read : typeAt typeLevels (0x2D ∷ 0x01 ∷ 0x22 ∷ 0x22 ∷ []) ≡ some number-to-number
 unfolding typeAt seen readT stepT stepType readFunction readRun andThen front kindOf
 function-read = refl
+
+pub function-says : (t : List ℕ) (r u : ℕ) → Met (conformOf (typeAt typeLevels (0x2D ∷ 0x01 ∷ 0x22 ∷ 0x22 ∷ [])) (typeAt typeLevels t)) r u → BifSays 0 t (not (eqb r 0))
+function-says t r u m =
+    met-says conformsTo size size size-positive (some number-to-number) (typeAt typeLevels t) r u
+    (subst (λ (x : Option Ty). Met (conformOf x (typeAt typeLevels t)) r u) function-read m)
 
 module _ (t : List ℕ) (q : Ok (typeAt typeLevels t)) where
   U : (y : Ty) × (typeAt typeLevels t ≡ some y)
@@ -108,22 +103,11 @@ module _ (t : List ℕ) (q : Ok (typeAt typeLevels t)) where
   pub type-byte : 0 < length t
   type-byte = some-byte typeLevels t (U .0) (U .1)
 
-  module _ (c : Conform) (h : c ≡ conformOf (typeAt typeLevels (0x2D ∷ 0x01 ∷ 0x22 ∷ 0x22 ∷ [])) (typeAt typeLevels t)) where
-    fun-judged : c ≡ judge (conformsTo number-to-number (U .0)) (size number-to-number) (size (U .0))
-    unfolding conformBy
-    fun-judged = h ∙ ap₂ (λ a b. conformOf a b) function-read (U .1)
-
-    pub fun-yes : (a b : ℕ) → c ≡ conform.Yes a b → BifSays 0 (typeAt typeLevels t) true
-    fun-yes a b e = is-bif 0 (typeAt typeLevels t) (U .0) true (U .1) (sym (judge-yes (conformsTo number-to-number (U .0)) (size number-to-number) (size (U .0)) a b (sym fun-judged ∙ e) .0))
-
-    pub fun-no : c ≡ conform.No → BifSays 0 (typeAt typeLevels t) false
-    fun-no e = is-bif 0 (typeAt typeLevels t) (U .0) false (U .1) (sym (judge-no (conformsTo number-to-number (U .0)) (size number-to-number) (size (U .0)) (sym fun-judged ∙ e)))
-
-  pub bif-function : (b : ℕ) (r : Bool) → (b ≡ 0) → BifSays 0 (typeAt typeLevels t) r → BifSays b (typeAt typeLevels t) r
+  pub bif-function : (b : ℕ) (r : Bool) → b ≡ 0 → BifSays 0 t r → BifSays b t r
   bif-function b r e h = rw e h
 
-  pub bif-sqrt : (b : ℕ) (r : Bool) → (b ≡ 67) → BifSays 0 (typeAt typeLevels t) r → BifSays b (typeAt typeLevels t) r
-  bif-sqrt b r e h = is-bif b (typeAt typeLevels t) (U .0) r (U .1) (bif-said 0 (typeAt typeLevels t) (U .0) r (U .1) h ∙ ap (λ x. conformsTo (bifType x) (U .0)) (sym e))
+  pub bif-sqrt : (b : ℕ) (r : Bool) → b ≡ 67 → BifSays 0 t r → BifSays b t r
+  bif-sqrt b r e h = rw e h
 
   any-below : (y : Ty) → conformsTo (leaf any) y ≡ eqb (cmd y) 0x20
   unfolding cmp
@@ -142,9 +126,9 @@ module _ (t : List ℕ) (q : Ok (typeAt typeLevels t)) where
   any-below (built (context fs)) = refl
   any-below (built (function ps r)) = refl
 
-  pub bif-any : (b : ℕ) → (b ≡ 0 → ⊥) → (b ≡ 67 → ⊥) → BifSays b (typeAt typeLevels t) (eqb (getD t 0 0) 0x20)
+  pub bif-any : (b : ℕ) → (b ≡ 0 → ⊥) → (b ≡ 67 → ⊥) → BifSays b t (eqb (getD t 0 0) 0x20)
   bif-any b h k =
-      is-bif b (typeAt typeLevels t) (U .0) (eqb (getD t 0 0) 0x20) (U .1)
+      is-said conformsTo (some (bifType b)) (typeAt typeLevels t) (bifType b) (U .0) (eqb (getD t 0 0) 0x20) refl (U .1)
       (ap (λ x. eqb x 0x20) (sym (cmd-is typeLevels t (U .0) (U .1))) ∙ sym (any-below (U .0))
       ∙ ap (λ x. conformsTo (cond x number-to-number (leaf any)) (U .0)) (sym (ap₂ _||_ (ne-eqb b 0 h) (ne-eqb b 67 k))))
 
@@ -160,46 +144,31 @@ single-result room w s lv e l =
 -- ---- the two that were accepted
 module _ (t v : List ℕ) (A : Accepted t v) where
   type-there : typeAt typeLevels t ≡ some (A .type)
-  unfolding typeAt
-  type-there = got-seen (readT typeLevels t) (A .type) (length t) (whole-got typeRefusals (readT typeLevels) t (A .type) (A .read-t))
+  type-there = whole-type .stands t (A .type) (A .read-t)
 
-  value-got : readV valueLevels v ≡ got (A .value) (length v)
-  value-got = whole-got valueRefusals (readV valueLevels) v (A .value) (A .read-v)
-
-  value-there : valueAt typeLevels v ≡ some (A .value)
-  unfolding valueAt
-  value-there = got-seen (readV typeLevels v) (A .value) (length v) (read-upV valueLevels typeLevels v (A .bytes-v) (A .value) (length v) (omega arith) value-got)
-
-  value-low : valueAt valueLevels v ≡ some (A .value)
-  unfolding valueAt
-  value-low = got-seen (readV valueLevels v) (A .value) (length v) value-got
+  value-there : valueAt valueLevels v ≡ some (A .value)
+  value-there = whole-value .stands v (A .value) (A .read-v)
 
   pub type-ok : Ok (typeAt typeLevels t)
   type-ok = is-ok (typeAt typeLevels t) (A .type) type-there
 
-  pub value-ok : Ok (valueAt typeLevels v)
-  value-ok = is-ok (valueAt typeLevels v) (A .value) value-there
-
-  pub low-ok : Ok (valueAt valueLevels v)
-  low-ok = is-ok (valueAt valueLevels v) (A .value) value-low
-
   pub value-byte : 0 < length v
-  value-byte = reading.some-byte typeLevels v (A .value) value-there
+  value-byte = reading.some-byte valueLevels v (A .value) value-there
 
   pub first-type : 0 < length t
   first-type = some-byte typeLevels t (A .type) type-there
 
   node : NodeV (valueLevels - 1) v (A .value) (length v)
-  node = value-read valueLevels v (A .value) (length v) value-got .node
+  node = value-read valueLevels v (A .value) (length v) (whole-got valueRefusals (readV valueLevels) v (A .value) (A .read-v)) .node
 
-  says : (test : Val → Ty → Bool) (r : Bool) → r ≡ test (A .value) (A .type) → Says test (valueAt typeLevels v) (typeAt typeLevels t) r
-  says test r h = is-said test (valueAt typeLevels v) (typeAt typeLevels t) (A .value) (A .type) r value-there type-there h
+  says : (test : Val → Ty → Bool) (r : Bool) → r ≡ test (A .value) (A .type) → SaysAt test v t r
+  says test r h = is-said test (valueAt valueLevels v) (typeAt typeLevels t) (A .value) (A .type) r value-there type-there h
 
-  was : (test : Val → Ty → Bool) (r : Bool) → Says test (valueAt typeLevels v) (typeAt typeLevels t) r → r ≡ test (A .value) (A .type)
-  was test r h = said test (valueAt typeLevels v) (typeAt typeLevels t) (A .value) (A .type) r value-there type-there h
+  was : (test : Val → Ty → Bool) (r : Bool) → SaysAt test v t r → r ≡ test (A .value) (A .type)
+  was test r h = said test (valueAt valueLevels v) (typeAt typeLevels t) (A .value) (A .type) r value-there type-there h
 
   -- ---- `keeps`
-  pub keeps-definition : getD v 0 0 ≡ 0x0C → Says unchanged (valueAt typeLevels v) (typeAt typeLevels t) true
+  pub keeps-definition : getD v 0 0 ≡ 0x0C → SaysAt unchanged v t true
   keeps-definition c = says unchanged true (go (A .value) (length v) node)
     where
       go : (x : Val) (n : ℕ) → NodeV (valueLevels - 1) v x n → true ≡ unchanged x (A .type)
@@ -216,8 +185,8 @@ module _ (t v : List ℕ) (A : Accepted t v) where
       go x n (nType e u m p) = absurd (omega arith)
       go x n (nIrrelevant e) = absurd (omega arith)
 
-  pub keeps-other : (getD v 0 0 ≡ 0x0C → ⊥) → (getD v 0 0 ≡ 0x0D → ⊥) → (r : Bool) → Says valueConformsTo (valueAt typeLevels v) (typeAt typeLevels t) r → Says unchanged (valueAt typeLevels v) (typeAt typeLevels t) r
-  keeps-other c d r h = says unchanged r (was valueConformsTo r h ∙ go (A .value) (length v) node)
+  pub keeps-other : false ≡ isYes (isConformant v t) → (getD v 0 0 ≡ 0x0C → ⊥) → (getD v 0 0 ≡ 0x0D → ⊥) → SaysAt unchanged v t false
+  keeps-other f c d = says unchanged false (sym (not-held t v A f) ∙ go (A .value) (length v) node)
     where
       go : (x : Val) (n : ℕ) → NodeV (valueLevels - 1) v x n → valueConformsTo x (A .type) ≡ unchanged x (A .type)
       go x n (nNull e k y) = refl
@@ -253,18 +222,18 @@ module _ (t v : List ℕ) (A : Accepted t v) where
   pub bif-byte : getD v 0 0 ≡ 0x0D → 1 < length v
   bif-byte c = built-in c .1
 
-  pub keeps-type : getD v 0 0 ≡ 0x0D → (r : Bool) → BifSays (getD v 1 0) (typeAt typeLevels t) r → r ≡ true → Says unchanged (valueAt typeLevels v) (typeAt typeLevels t) true
-  keeps-type c r h e =
-      says unchanged true
-      (sym (ap (λ x. unchanged x (A .type)) (built-in c .0)
-      ∙ ap (λ q. cond q true (valueConformsTo (v-built-in (getD v 1 0)) (A .type))) (sym (bif-said (getD v 1 0) (typeAt typeLevels t) (A .type) r type-there h) ∙ e)))
-
-  pub keeps-value : getD v 0 0 ≡ 0x0D → (r q : Bool) → BifSays (getD v 1 0) (typeAt typeLevels t) r → r ≡ false → Says valueConformsTo (valueAt typeLevels v) (typeAt typeLevels t) q → Says unchanged (valueAt typeLevels v) (typeAt typeLevels t) q
-  keeps-value c r q h e g =
-      says unchanged q
-      (was valueConformsTo q g ∙ ap (λ x. valueConformsTo x (A .type)) (built-in c .0)
-      ∙ sym (ap (λ x. unchanged x (A .type)) (built-in c .0)
-      ∙ ap (λ z. cond z true (valueConformsTo (v-built-in (getD v 1 0)) (A .type))) (sym (bif-said (getD v 1 0) (typeAt typeLevels t) (A .type) r type-there h) ∙ e)))
+  pub keeps-built-in : false ≡ isYes (isConformant v t) → getD v 0 0 ≡ 0x0D → (r : Bool) → BifSays (getD v 1 0) t r → SaysAt unchanged v t r
+  keeps-built-in f c r h =
+      let e = built-in c .0 in
+      let n : valueConformsTo (v-built-in (getD v 1 0)) (A .type) ≡ false = ap (λ x. valueConformsTo x (A .type)) (sym e) ∙ not-held t v A f in
+      let q = conformsTo (bifType (getD v 1 0)) (A .type) in
+      says unchanged r
+      (said conformsTo (some (bifType (getD v 1 0))) (typeAt typeLevels t) (bifType (getD v 1 0)) (A .type) r refl type-there h
+      ∙ or-false q ∙ ap (cond q true) (sym n) ∙ ap (λ x. unchanged x (A .type)) (sym e))
+    where
+      or-false : (q : Bool) → q ≡ cond q true false
+      or-false true = refl
+      or-false false = refl
 
   -- ---- lists of one item
   pub record Listed : Type 0 where
@@ -302,7 +271,7 @@ module _ (t v : List ℕ) (A : Accepted t v) where
   not-one (item x no-items) u h = absurd (h refl)
   not-one (item x (item y vs)) u h = refl
 
-  pub item-no : getD v 0 0 ≡ 0x0A → (n : ℕ) → n ≡ numAt 2 1 v → (n ≡ 1 → ⊥) → Says itemConforms (valueAt typeLevels v) (typeAt typeLevels t) false
+  pub item-no : getD v 0 0 ≡ 0x0A → (n : ℕ) → n ≡ numAt 2 1 v → (n ≡ 1 → ⊥) → SaysAt itemConforms v t false
   item-no c n e h =
       let L = listed c in
       says itemConforms false (sym (ap (λ x. itemConforms x (A .type)) (L .is) ∙ not-one (L .vs) (A .type) (λ z. h (e ∙ sym (item-count (valueLevels - 1) (numAt 2 1 v) (drop 3 v) (L .vs) (L .read)) ∙ z))))
@@ -322,7 +291,7 @@ module _ (t v : List ℕ) (A : Accepted t v) where
   pub record One : Type 0 where
     pub x : Val
     pub is : A .value ≡ v-list (item x no-items)
-    pub there : valueAt typeLevels (drop 3 v) ≡ some x
+    pub there : valueAt valueLevels (drop 3 v) ≡ some x
     pub bytes : drop 3 v ≡ encV x
 
   front-three : (x : Val) → drop 3 (encV (v-list (item x no-items))) ≡ encV x
@@ -341,25 +310,24 @@ module _ (t v : List ℕ) (A : Accepted t v) where
       record {
         x = I .v;
         is = is-one;
-        there = seen-got (readV (valueLevels - 1) (drop 3 v)) (I .v) (I .first) (λ k r. got-seen (readV typeLevels (drop 3 v)) (I .v) k (read-upV (valueLevels - 1) typeLevels (drop 3 v) (bytes-drop 3 v (A .bytes-v)) (I .v) k (omega arith) r));
+        there =
+            seen-got (readV (valueLevels - 1) (drop 3 v)) (I .v) (I .first) (λ k r.
+            got-seen (readV valueLevels (drop 3 v)) (I .v) k (read-upV (valueLevels - 1) valueLevels (drop 3 v) (bytes-drop 3 v (A .bytes-v)) (I .v) k (omega arith) r));
         bytes = ap (drop 3) whole ∙ front-three (I .v);
       }
 
-  pub item-ok : getD v 0 0 ≡ 0x0A → (n : ℕ) → n ≡ numAt 2 1 v → n ≡ 1 → Ok (valueAt typeLevels (take (length v - 3) (drop 3 v)))
-  item-ok c n e h = let I = one-item c (sym e ∙ h) in rw (rest v 3) (is-ok (valueAt typeLevels (drop 3 v)) (I .x) (I .there))
-
-  pub item-says : getD v 0 0 ≡ 0x0A → (n : ℕ) → n ≡ numAt 2 1 v → n ≡ 1 → (r : Bool) → Says valueConformsTo (valueAt typeLevels (take (length v - 3) (drop 3 v))) (typeAt typeLevels t) r → Says itemConforms (valueAt typeLevels v) (typeAt typeLevels t) r
+  pub item-says : getD v 0 0 ≡ 0x0A → (n : ℕ) → n ≡ numAt 2 1 v → n ≡ 1 → (r : Bool) → SaysAt valueConformsTo (take (length v - 3) (drop 3 v)) t r → SaysAt itemConforms v t r
   item-says c n e h r g =
       let I = one-item c (sym e ∙ h) in
       says itemConforms r
-      (said valueConformsTo (valueAt typeLevels (take (length v - 3) (drop 3 v))) (typeAt typeLevels t) (I .x) (A .type) r (ap (valueAt typeLevels) (rest v 3) ∙ I .there) type-there g
+      (said valueConformsTo (valueAt valueLevels (take (length v - 3) (drop 3 v))) (typeAt typeLevels t) (I .x) (A .type) r (ap (valueAt valueLevels) (rest v 3) ∙ I .there) type-there g
       ∙ sym (ap (λ x. itemConforms x (A .type)) (I .is)))
 
   pub list-three : getD v 0 0 ≡ 0x0A → 3 ≤ length v
   list-three c = listed c .three
 
   -- ---- list types
-  pub inner-no : (getD t 0 0 ≡ 0x2A → ⊥) → Says innerConforms (valueAt typeLevels v) (typeAt typeLevels t) false
+  pub inner-no : (getD t 0 0 ≡ 0x2A → ⊥) → SaysAt innerConforms v t false
   inner-no h = says innerConforms false (go (A .type) (λ z. h (sym (cmd-is typeLevels t (A .type) type-there) ∙ z)))
     where
       go : (u : Ty) → (cmd u ≡ 0x2A → ⊥) → false ≡ innerConforms (A .value) u
@@ -369,17 +337,12 @@ module _ (t v : List ℕ) (A : Accepted t v) where
       go (built (context fs)) k = refl
       go (built (function ps r)) k = refl
 
-  Inner : getD t 0 0 ≡ 0x2A → (u : Ty) × (typeAt valueLevels (drop 1 t) ≡ some u) × (A .type ≡ built (list u))
-  Inner c = is-list typeLevels t (A .type) type-there c
-
-  pub inner-ok : getD t 0 0 ≡ 0x2A → Ok (typeAt valueLevels (take (length t - 1) (drop 1 t)))
-  inner-ok c = let I = Inner c in rw (rest t 1) (is-ok (typeAt valueLevels (drop 1 t)) (I .0) (I .1))
-
-  pub inner-says : getD t 0 0 ≡ 0x2A → (r : Bool) → Says valueConformsTo (valueAt valueLevels v) (typeAt valueLevels (take (length t - 1) (drop 1 t))) r → Says innerConforms (valueAt typeLevels v) (typeAt typeLevels t) r
+  pub inner-says : getD t 0 0 ≡ 0x2A → (r : Bool) → SaysAt valueConformsTo v (take (length t - 1) (drop 1 t)) r → SaysAt innerConforms v t r
   inner-says c r g =
-      let I = Inner c in
+      let I = is-list typeLevels t (A .type) type-there c in
+      let u : typeAt typeLevels (drop 1 t) ≡ some (I .0) = type-up (typeLevels - 1) typeLevels (drop 1 t) (I .0) (omega arith) (I .1) in
       says innerConforms r
-      (said valueConformsTo (valueAt valueLevels v) (typeAt valueLevels (take (length t - 1) (drop 1 t))) (A .value) (I .0) r value-low (ap (typeAt valueLevels) (rest t 1) ∙ I .1) g
+      (said valueConformsTo (valueAt valueLevels v) (typeAt typeLevels (take (length t - 1) (drop 1 t))) (A .value) (I .0) r value-there (ap (typeAt typeLevels) (rest t 1) ∙ u) g
       ∙ sym (ap (innerConforms (A .value)) (I .2)))
 
   -- ---- the results
@@ -399,18 +362,24 @@ module _ (t v : List ℕ) (A : Accepted t v) where
   coerced-is : (q : Bool) → unchanged (A .value) (A .type) ≡ q → coerced (A .value) (A .type) ≡ cond q (A .value) (converted (A .value) (A .type))
   coerced-is q e = ap (λ b. cond b (A .value) (converted (A .value) (A .type))) e
 
-  pub give-same : (r : Bool) → Says unchanged (valueAt typeLevels v) (typeAt typeLevels t) r → r ≡ true → (room : ℕ) → fits room v ≡ coercedCall v t room
-  give-same r h e room = sym (call-is room ∙ ap (result room) (coerced-is true (sym (was unchanged r h) ∙ e)) ∙ small-result room (A .value) v (accepted-value .0) (accepted-value .2) (accepted-value .1))
+  give-unchanged : unchanged (A .value) (A .type) ≡ true → (room : ℕ) → fits room v ≡ coercedCall v t room
+  give-unchanged e room = sym (call-is room ∙ ap (result room) (coerced-is true e) ∙ small-result room (A .value) v (accepted-value .0) (accepted-value .2) (accepted-value .1))
+
+  pub give-conformant : valueConformsTo (A .value) (A .type) ≡ true → (room : ℕ) → fits room v ≡ coercedCall v t room
+  give-conformant h = give-unchanged (same-if (A .value) (A .type) h)
+
+  pub give-same : (r : Bool) → SaysAt unchanged v t r → r ≡ true → (room : ℕ) → fits room v ≡ coercedCall v t room
+  give-same r h e = give-unchanged (sym (was unchanged r h) ∙ e)
 
   failed-is : (room : ℕ) → result room failed ≡ fits room (0 ∷ 1 ∷ [])
   unfolding _>>_ encV encLeaf levelV
   failed-is room = refl
 
-  module _ (r : Bool) (h : Says unchanged (valueAt typeLevels v) (typeAt typeLevels t) r) (e : r ≡ false) where
+  module _ (r : Bool) (h : SaysAt unchanged v t r) (e : r ≡ false) where
     changed : coerced (A .value) (A .type) ≡ converted (A .value) (A .type)
     changed = coerced-is false (sym (was unchanged r h) ∙ e)
 
-    pub give-item : getD v 0 0 ≡ 0x0A → (q : Bool) → Says itemConforms (valueAt typeLevels v) (typeAt typeLevels t) q → q ≡ true → (room : ℕ) → fits room (take (length v - 3) (drop 3 v)) ≡ coercedCall v t room
+    pub give-item : getD v 0 0 ≡ 0x0A → (q : Bool) → SaysAt itemConforms v t q → q ≡ true → (room : ℕ) → fits room (take (length v - 3) (drop 3 v)) ≡ coercedCall v t room
     unfolding levelV
     give-item c q g f room =
         let y : itemConforms (A .value) (A .type) ≡ true = sym (was itemConforms q g) ∙ f in
@@ -421,7 +390,7 @@ module _ (t v : List ℕ) (A : Accepted t v) where
         let short : length (drop 3 v) ≤ mostBytes = simp length-drop (omega (arith, accepted-value .2)) in
         ap (fits room) (rest v 3) ∙ sym (call-is room ∙ ap (result room) (changed ∙ z) ∙ small-result room (I .x) (drop 3 v) (I .bytes) short low)
 
-    pub give-no-item : getD v 0 0 ≡ 0x0A → (q : Bool) → Says itemConforms (valueAt typeLevels v) (typeAt typeLevels t) q → q ≡ false → (room : ℕ) → fits room (0 ∷ 1 ∷ []) ≡ coercedCall v t room
+    pub give-no-item : getD v 0 0 ≡ 0x0A → (q : Bool) → SaysAt itemConforms v t q → q ≡ false → (room : ℕ) → fits room (0 ∷ 1 ∷ []) ≡ coercedCall v t room
     give-no-item c q g f room =
         let L = listed c in
         let y : item-conforms (L .vs) (A .type) ≡ false = sym (ap (λ x. itemConforms x (A .type)) (L .is)) ∙ sym (was itemConforms q g) ∙ f in
@@ -446,7 +415,7 @@ module _ (t v : List ℕ) (A : Accepted t v) where
         go x n (nType p u m q) = refl
         go x n (nIrrelevant p) = refl
 
-    module _ (c : getD v 0 0 ≡ 0x0A → ⊥) (q : Bool) (g : Says innerConforms (valueAt typeLevels v) (typeAt typeLevels t) q) where
+    module _ (c : getD v 0 0 ≡ 0x0A → ⊥) (q : Bool) (g : SaysAt innerConforms v t q) where
       pub give-failed : q ≡ false → (room : ℕ) → fits room (0 ∷ 1 ∷ []) ≡ coercedCall v t room
       give-failed f room =
           let z : to-single (A .value) (A .type) ≡ failed = ap (λ b. cond b (single (A .value)) failed) (sym (was innerConforms q g) ∙ f) in

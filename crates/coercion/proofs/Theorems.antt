@@ -93,7 +93,7 @@ nil-conforms (v-type a) t h = absurd (false≢true h)
 nil-conforms v-irrelevant t h = absurd (false≢true h)
 
 -- what conforms is left as it is
-same-if : (v : Val) (t : Ty) → valueConformsTo v t ≡ true → unchanged v t ≡ true
+pub same-if : (v : Val) (t : Ty) → valueConformsTo v t ≡ true → unchanged v t ≡ true
 same-if (v-leaf l) t h = h
 same-if (v-range i j v w) t h = h
 same-if (v-list vs) t h = h

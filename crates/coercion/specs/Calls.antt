@@ -1,18 +1,20 @@
 -- The definitions of the calls: refusals in document 01's order, then the answer.
 -- Assumes nothing.
 use mathlib.Core.Path.{_≡_}
-use mathlib.Core.Bool.{Bool, _&&_}
+use mathlib.Core.Bool.{Bool, false, _&&_}
 use mathlib.Core.List.{List, _∷_}
 use mathlib.Core.Option.{Option, none, some}
 use Prim.Native.Nat.{ℕ, _+_}
 use lib.ListN.{length}
 use lib.Dec.{leb}
-use Rattle.form.specs.Limits.{mostBytes, valueLevels}
+use Rattle.form.specs.Limits.{mostBytes, typeLevels, valueLevels}
 use Rattle.form.specs.Outcome.{Outcome, _>>=_, _>>_, check, fits}
 use Rattle.form.specs.Trees.{Ty, Val}
 use Rattle.form.specs.Form.{levelV}
 use Rattle.form.specs.Read.{readType, readValue}
 use Rattle.order.specs.Document.{conformsTo}
+use Rattle.types.specs.At.{typeAt}
+use Rattle.values.specs.At.{valueAt}
 use Rattle.ranges.specs.Ranges.{bifType}
 use Rattle.retrieval.specs.Filling.{Accepted}
 use Rattle.retrieval.specs.Calls.{result}
@@ -37,12 +39,16 @@ wrapped v lv room = do
   check 17 (leb (length v + 3) mostBytes && leb (lv + 1) valueLevels)
   fits room (0x0A ∷ 1 ∷ 0 ∷ v)
 
--- what a helper answers of a value and a type that were read
-unfoldable pub Says : (Val → Ty → Bool) → Option Val → Option Ty → Bool → Type 0
-Says test (some v) (some t) r = r ≡ test v t
-Says test (some v) none r = Unit {0}
-Says test none y r = Unit {0}
+-- what a helper answers: yes exactly where both were read and the first passes the test against the second
+unfoldable pub Says : {X Y : Type 0} → (X → Y → Bool) → Option X → Option Y → Bool → Type 0
+Says test (some x) (some y) r = r ≡ test x y
+Says test (some x) none r = r ≡ false
+Says test none y r = r ≡ false
 
-unfoldable pub BifSays : ℕ → Option Ty → Bool → Type 0
-BifSays b (some t) r = r ≡ conformsTo (bifType b) t
-BifSays b none r = Unit {0}
+-- of the value and the type at the fronts
+abbrev pub SaysAt : (Val → Ty → Bool) → List ℕ → List ℕ → Bool → Type 0
+SaysAt test v t r = Says test (valueAt valueLevels v) (typeAt typeLevels t) r
+
+-- of the type of the built-in function at position b, and the type at the front
+abbrev pub BifSays : ℕ → List ℕ → Bool → Type 0
+BifSays b t r = Says conformsTo (some (bifType b)) (typeAt typeLevels t) r

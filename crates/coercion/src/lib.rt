@@ -1,50 +1,44 @@
 // Coercion over the byte form: `Value::coerced`.
 ghost use mathlib.Core.Path.{_≡_};
+ghost use mathlib.Core.Bool.{false};
 ghost use Prim.Native.Nat.{ℕ, _+_, _≤_, _<_};
 ghost use lib.ListN.{length, getD};
 ghost use Rattle.form.specs.Answers.{Built};
 ghost use Rattle.form.specs.Limits.{typeLevels, valueLevels, mostBytes};
 ghost use Rattle.order.specs.Inferred.{valueConformsTo};
 ghost use Rattle.types.specs.At.{typeAt, Ok};
-ghost use Rattle.values.specs.At.{valueAt};
+ghost use Rattle.types.specs.Calls.{isYes};
+ghost use Rattle.values.specs.Calls.{isConformant};
 ghost use Rattle.coercion.specs.Coerce.{unchanged, itemConforms, innerConforms};
 ghost use Rattle.retrieval.specs.Filling.{Accepted};
-ghost use Rattle.coercion.specs.Calls.{coercedCall, Ready, wrapped, Says, BifSays};
+ghost use Rattle.coercion.specs.Calls.{coercedCall, Ready, wrapped, SaysAt, BifSays};
 use form::Checked;
 use form::MOST_BYTES;
 use form::TYPE_LEVELS;
 use form::VALUE_LEVELS;
 use form::Written;
-use types::Conform;
 
-// Whether the value at the front of `v` conforms to the type at the front of `t`.
-fn conforms(v: &[u8], t: &[u8], left: usize) -> bool
-    requires { ⌜ Ok (valueAt left (now v)) ⌝ }
-    requires { ⌜ Ok (typeAt left (now t)) ⌝ }
-    ensures { λ r. ⌜ Says valueConformsTo (valueAt left (now (v .entry))) (typeAt left (now (t .entry))) r ⌝ }
+// Whether a value stands at the front of `v`, a type at the front of `t`, and the value conforms.
+fn conforms(v: &[u8], t: &[u8]) -> bool
+    ensures { λ r. ⌜ SaysAt valueConformsTo (now (v .entry)) (now (t .entry)) r ⌝ }
 {
-    match values::conforms(v, t, left) {
-        Conform::Yes { a: _, b: _ } => true,
-        Conform::No => false,
-    }
+    let mut other: usize = 0;
+    values::conforms(v, t, TYPE_LEVELS, &mut other) != 0
 }
 
 // Whether function<number> to number conforms to the type.
 fn function_conforms(t: &[u8]) -> bool
-    requires { ⌜ Ok (typeAt typeLevels (now t)) ⌝ }
-    ensures { λ r. ⌜ BifSays 0 (typeAt typeLevels (now (t .entry))) r ⌝ }
+    ensures { λ r. ⌜ BifSays 0 (now (t .entry)) r ⌝ }
 {
     let f = [0x2D, 0x01, 0x22, 0x22];
-    match types::conforms(&f, t, TYPE_LEVELS) {
-        Conform::Yes { a: _, b: _ } => true,
-        Conform::No => false,
-    }
+    let mut other: usize = 0;
+    types::conforms(&f, t, TYPE_LEVELS, &mut other) != 0
 }
 
 // Whether the type of the built-in function at position b conforms to the type: Abs and Sqrt have a function type, all others Any.
 fn bif_conforms(b: u8, t: &[u8]) -> bool
     requires { ⌜ Ok (typeAt typeLevels (now t)) ⌝ }
-    ensures { λ r. ⌜ BifSays b (typeAt typeLevels (now (t .entry))) r ⌝ }
+    ensures { λ r. ⌜ BifSays b (now (t .entry)) r ⌝ }
 {
     if b == 0 {
         return function_conforms(t);
@@ -55,54 +49,43 @@ fn bif_conforms(b: u8, t: &[u8]) -> bool
     t[0] == 0x20
 }
 
-// The same of a built-in function: its type conforms, or it does.
-fn keeps_bif(v: &[u8], t: &[u8]) -> bool
-    requires { ⌜ Accepted (now t) (now v) ⌝ }
-    requires { ⌜ getD (now v) 0 0 ≡ 0x0D ⌝ }
-    ensures { λ r. ⌜ Says unchanged (valueAt typeLevels (now (v .entry))) (typeAt typeLevels (now (t .entry))) r ⌝ }
-{
-    if bif_conforms(v[1], t) {
-        return true;
-    }
-    conforms(v, t, TYPE_LEVELS)
-}
-
-// Whether coercion leaves the value as it is: a definition, a built-in function whose type conforms, a value that conforms.
+// Whether coercion leaves a value that does not conform as it is: a definition, and a built-in function whose type conforms.
 fn keeps(v: &[u8], t: &[u8]) -> bool
     requires { ⌜ Accepted (now t) (now v) ⌝ }
-    ensures { λ r. ⌜ Says unchanged (valueAt typeLevels (now (v .entry))) (typeAt typeLevels (now (t .entry))) r ⌝ }
+    requires { ⌜ false ≡ isYes (isConformant (now v) (now t)) ⌝ }
+    ensures { λ r. ⌜ SaysAt unchanged (now (v .entry)) (now (t .entry)) r ⌝ }
 {
     let c = v[0];
     if c == 0x0C {
         return true;
     }
     if c == 0x0D {
-        return keeps_bif(v, t);
+        return bif_conforms(v[1], t);
     }
-    conforms(v, t, TYPE_LEVELS)
+    false
 }
 
 // Whether a list has one item, which conforms.
 fn takes_item(v: &[u8], t: &[u8]) -> bool
     requires { ⌜ Accepted (now t) (now v) ⌝ }
     requires { ⌜ getD (now v) 0 0 ≡ 0x0A ⌝ }
-    ensures { λ r. ⌜ Says itemConforms (valueAt typeLevels (now (v .entry))) (typeAt typeLevels (now (t .entry))) r ⌝ }
+    ensures { λ r. ⌜ SaysAt itemConforms (now (v .entry)) (now (t .entry)) r ⌝ }
 {
     if form::word_at(v, 1) != 1 {
         return false;
     }
-    conforms(&v[3..], t, TYPE_LEVELS)
+    conforms(&v[3..], t)
 }
 
 // Whether the type is a list type, and the value conforms to its inner type.
 fn meets_inner(v: &[u8], t: &[u8]) -> bool
     requires { ⌜ Accepted (now t) (now v) ⌝ }
-    ensures { λ r. ⌜ Says innerConforms (valueAt typeLevels (now (v .entry))) (typeAt typeLevels (now (t .entry))) r ⌝ }
+    ensures { λ r. ⌜ SaysAt innerConforms (now (v .entry)) (now (t .entry)) r ⌝ }
 {
     if t[0] != 0x2A {
         return false;
     }
-    conforms(v, &t[1..], VALUE_LEVELS)
+    conforms(v, &t[1..])
 }
 
 // A one-item list of a value of that level. Refusals 17, 18.
@@ -127,9 +110,10 @@ fn wrap(v: &[u8], level: usize, out: &mut [u8]) -> Written
     Written::Bytes(n)
 }
 
-// The rules behind the readers. Refusals 17, 18.
+// The rules behind the readers, for a value that does not conform. Refusals 17, 18.
 fn convert(v: &[u8], t: &[u8], level: usize, out: &mut [u8]) -> Written
     requires { ⌜ Ready (now v) (now t) level ⌝ }
+    requires { ⌜ false ≡ isYes (isConformant (now v) (now t)) ⌝ }
     ensures { λ r. ⌜ Built (coercedCall (now (v .entry)) (now (t .entry)) (length (now (out .entry)))) (now (out .entry)) (now (out .exit)) r ⌝ }
 {
     if keeps(v, t) {
@@ -152,6 +136,9 @@ fn convert(v: &[u8], t: &[u8], level: usize, out: &mut [u8]) -> Written
 pub fn coerced(v: &[u8], t: &[u8], out: &mut [u8]) -> Written
     ensures { λ r. ⌜ Built (coercedCall (now (v .entry)) (now (t .entry)) (length (now (out .entry)))) (now (out .entry)) (now (out .exit)) r ⌝ }
 {
+    if values::passes(v, t) {
+        return retrieval::give(v, out);
+    }
     match form::check_value(v) {
         Checked::Refused(n) => Written::Refused(n),
         Checked::Accepted { level } => match form::check_type(t) {

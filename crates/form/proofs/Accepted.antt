@@ -74,6 +74,15 @@ whole-got base read s x e = go (ltb 0 (length s)) (leb (length s) mostBytes) e
     go true false ee = absurd (refused-done ee)
     go true true ee = all-parts base (length s) (read s) x ee (λ r. r)
 
+pub whole-short : {X : Type 0} (base : ℕ) (read : List ℕ → Got X) (s : List ℕ) (x : X) → readWhole base read s ≡ done x → length s ≤ mostBytes
+unfolding readWhole _>>_
+whole-short base read s x e = go (ltb 0 (length s)) (leb (length s) mostBytes) refl e
+  where
+    go : (a b : Bool) → leb (length s) mostBytes ≡ b → (do check base a; check base b; all base (length s) (read s)) ≡ done x → length s ≤ mostBytes
+    go false b be ee = absurd (refused-done ee)
+    go true false be ee = absurd (refused-done ee)
+    go true true be ee = leb-true (length s) mostBytes be
+
 -- two trees that are read back from equal bytes are equal
 pub read-same : {X : Type 0} (read : List ℕ → Got X) (s t : List ℕ) (x y : X) (n m : ℕ) → s ≡ t → read s ≡ got x n → read t ≡ got y m → x ≡ y
 read-same read s t x y n m e p q = got-parts x y n m (sym p ∙ ap read e ∙ q) (λ a b. a)

@@ -13,8 +13,7 @@ use Rattle.form.specs.Limits.{nameWidth, typeRefusals}
 use Rattle.form.specs.Outcome.{done, refused, pick}
 use Rattle.form.specs.Form.{num}
 use Rattle.form.specs.Read.{Got, got, bad, front, andThen, orElse, operand, named, readRun, readNamed, readFields, readTys, ascending, counted, readFunction, stepType, stepT, readT, numberOf, all, readAnyType}
-use Rattle.form.specs.declared.Fault.{Fault}
-use Rattle.form.specs.declared.Fault.the-variants.{Shape, Names, Level}
+use Rattle.form.specs.Faults.{Fault, Shape, Names, Level}
 
 -- a fault that is not of the level
 abbrev pub Mild : Fault → Type 0

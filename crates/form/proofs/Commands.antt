@@ -1,13 +1,13 @@
 -- A command byte, told by its kind.
 -- Assumes nothing.
-use Prim.Native.Nat.{ℕ, _+_, _<_, _≤_}
-use mathlib.Core.Path.{_≡_, refl, ap, _∙_}
+use Prim.Native.Nat.{ℕ, zero, suc, _+_, _<_, _≤_}
+use mathlib.Core.Path.{_≡_, refl, sym, ap, _∙_}
 use mathlib.Core.Bool.{Bool, true, false}
 use native.Mathlib.Omega.{arith}
 use lib.Dec.{ltb, eqb}
-use borrow.Author.Tests.{ltb-false, ltb-true, eqb-true, eqb-false}
+use borrow.Author.Tests.{ltb-false, ltb-true, eqb-true, eqb-false, lt-ltb, le-ltb}
 use Rattle.form.specs.Outcome.{pick}
-use Rattle.form.specs.Layout.{ValueKind, kNull, kBoolean, kNumber, kString, kTemporal, kRange, kList, kContext, kDefinition, kBuiltIn, kType, kIrrelevant, TypeKind, tSimple, tList, tRange, tContext, tFunction, Kind, ofValue, ofType, noCommand, kindOf, operands, slot, widthOf}
+use Rattle.form.specs.Layout.{ValueKind, kNull, kBoolean, kNumber, kString, kTemporal, kRange, kList, kContext, kDefinition, kBuiltIn, kType, kIrrelevant, TypeKind, tSimple, tList, tRange, tContext, tFunction, Kind, ofValue, ofType, noCommand, kindOf, operands, operandsV, slot, widthOf}
 
 pub data ViewV (b : ℕ) : ValueKind → Type 0 where
   isNull : b ≡ 0x00 → ViewV b kNull
@@ -150,3 +150,30 @@ width-is b k e = rw e
 -- an arm of a match over the command
 pub arm : (b c n : ℕ) (k : Kind) → b ≡ c → kindOf c ≡ k → widthOf b ≤ n → (kindOf b ≡ k) × (slot (operands k) ≤ n)
 arm b c n k e f h = (ap kindOf e ∙ f, there b n k (ap kindOf e ∙ f) h)
+
+-- ---- the size of a leaf of data by its command
+pub flag-width : (c : ℕ) → c < 2 → widthOf c ≡ 1
+unfolding widthOf kindOf operands operandsV
+flag-width zero h = refl
+flag-width (suc zero) h = refl
+flag-width (suc (suc c)) h = absurd (omega arith)
+
+pub key-width : (c : ℕ) → 4 ≤ c → c < 9 → widthOf c ≡ 8
+unfolding operands operandsV
+key-width c h i = width-is c (ofValue kTemporal) (kind-temporal c h i)
+
+pub sized-leaf : (c n : ℕ) → c < 9 → widthOf c + 1 ≡ n → n ≡ pick (ltb c 9) (widthOf c + 1) 0
+sized-leaf c n h e = rw (lt-ltb c 9 h) (sym e)
+
+pub sized-none : (c : ℕ) → 9 ≤ c → 0 ≡ pick (ltb c 9) (widthOf c + 1) 0
+sized-none c h = rw (le-ltb c 9 h)
+
+pub leaf-wide : (c n : ℕ) → n ≡ pick (ltb c 9) (widthOf c + 1) 0 → c < 9 → n ≡ widthOf c + 1
+leaf-wide c n e h = rw (lt-ltb c 9 h) at e
+
+pub leaf-command : (c n : ℕ) → n ≡ pick (ltb c 9) (widthOf c + 1) 0 → 0 < n → (c < 9) × (n ≡ widthOf c + 1)
+leaf-command c n e z = go (ltb c 9) refl
+  where
+    go : (t : Bool) → ltb c 9 ≡ t → (c < 9) × (n ≡ widthOf c + 1)
+    go true q = (ltb-true c 9 q, rw q at e)
+    go false q = absurd (let f = rw q at e in omega arith)

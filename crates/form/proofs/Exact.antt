@@ -12,8 +12,7 @@ use borrow.Author.Tests.{le-leb, leb-true}
 use Rattle.form.specs.Limits.{nameWidth, nameEnd}
 use Rattle.form.specs.Form.{bytes, num, Bytes}
 use Rattle.form.specs.Read.{Got, got, bad, front, andThen, orElse, operand, named, readRun, readNamed, counted}
-use Rattle.form.specs.declared.Fault.{Fault}
-use Rattle.form.specs.declared.Fault.the-variants.{Shape, Names}
+use Rattle.form.specs.Faults.{Fault, Shape, Names}
 use Rattle.form.proofs.Numbers.{length-bytes, num-bytes, num-below, bytes-num, bytes-take, take-length}
 
 pub got-is : {X : Type 0} {x : X} {n m : ℕ} → n ≡ m → got x n ≡ got x m

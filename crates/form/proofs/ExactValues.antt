@@ -14,7 +14,7 @@ use Rattle.form.specs.Limits.{nameWidth}
 use Rattle.form.specs.Form.{bytes, num, bit, Bytes, enc, encParams, encLeaf, encV, encVals, encEntries, level, levelParams, levelV, levelVals, levelEntries, Wf, WfParams, WfLeaf, WfV, WfVals, WfEntries, countParams, countVals, countEntries}
 use Rattle.form.specs.Layout.{ValueKind, kNull, kBoolean, kNumber, kString, kTemporal, kRange, kList, kContext, kDefinition, kBuiltIn, kType, kIrrelevant, Kind, ofValue, ofType, noCommand, kindOf}
 use Rattle.form.specs.Read.{Got, got, bad, front, andThen, orElse, readRun, readNamed, readVals, readEntries, readParams, ascending, anyOrder, readFlag, readKey, readRange, signature, readDefinition, readT, stepValue, stepV, readV}
-use Rattle.form.specs.declared.Fault.the-variants.{Shape, Names, Level}
+use Rattle.form.specs.Faults.{Shape, Names, Level}
 use Rattle.form.proofs.Commands.{ViewV, isNull, isBoolean, isNumber, isString, isTemporal, isRange, isList, isContext, isDefinition, isBuiltIn, isFeelType, isIrrelevant, View, isValue, isType, isGap, isBeyond, view, kind-temporal}
 use Rattle.form.proofs.Exact.{got-is, bad-got, bytes-head, bytes-drop, length-front, operand-read, front-read, then-read, item-read, named-read, counted-read, Found, Sound, found-as, orElse-parts, got-parts, operand-parts, operand-below, operand-bytes, front-parts, then-parts, front-found, then-found, found-behind, RunLaws, run-sound, NamedLaws, named-sound, counted-sound}
 use Rattle.form.proofs.ExactTypes.{read-enc, enc-read}

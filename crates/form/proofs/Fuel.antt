@@ -14,8 +14,7 @@ use Rattle.form.specs.Limits.{nameWidth, mostBytes, typeLevels}
 use Rattle.form.specs.Outcome.{_>>_}
 use Rattle.form.specs.Form.{num}
 use Rattle.form.specs.Read.{Got, got, bad, front, andThen, orElse, operand, named, readRun, readNamed, readFields, readTys, ascending, counted, readFunction, stepType, stepT, readT, readWhole, readType, readAnyType}
-use Rattle.form.specs.declared.Fault.{Fault}
-use Rattle.form.specs.declared.Fault.the-variants.{Shape, Names}
+use Rattle.form.specs.Faults.{Fault, Shape, Names}
 use Rattle.form.proofs.AnySize.{Mild, Fair, read-fair}
 
 front-fair-of : {X Z : Type 0} (g : X → Z) (k : ℕ) (r : Got X) → Fair (front g k r) → Fair r

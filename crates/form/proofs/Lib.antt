@@ -2,7 +2,8 @@ pub mod Table
 pub mod Commands
 pub mod Numbers
 pub mod Runs
-pub mod Passes
+pub mod Told
+pub mod Loops
 pub mod TypeLaws
 pub mod ValueLaws
 pub mod Whole
@@ -15,5 +16,6 @@ pub mod Values
 pub mod AnySize
 pub mod Fuel
 pub mod Nodes
+pub mod Leaves
 pub mod Encoded
 pub mod Laws

@@ -13,7 +13,7 @@ use Rattle.form.specs.Limits.{nameWidth}
 use Rattle.form.specs.Form.{num, numAt}
 use Rattle.form.specs.Layout.{ValueKind, TypeKind, Kind, kindOf}
 use Rattle.form.specs.Read.{Got, got, bad, front, andThen, orElse, operand, named, readRun, readNamed, readFields, readTys, readVals, readEntries, readParams, readFlag, readKey, counted, readFunction, readRange, signature, readDefinition, stepType, stepT, readT, stepValue, stepV, readV}
-use Rattle.form.specs.declared.Fault.the-variants.{Shape, Names, Level}
+use Rattle.form.specs.Faults.{Shape, Names, Level}
 use Rattle.form.proofs.Commands.{ViewV, isNull, isBoolean, isNumber, isString, isTemporal, isRange, isList, isContext, isDefinition, isBuiltIn, isFeelType, isIrrelevant, ViewT, isSimpleT, isListT, isRangeT, isContextT, isFunctionT, View, isValue, isType, isGap, isBeyond, view}
 use Rattle.form.proofs.Exact.{bad-got, orElse-parts, got-parts, operand-parts, front-parts, then-parts}
 

@@ -14,11 +14,9 @@ use Rattle.form.specs.Limits.{nameWidth}
 use Rattle.form.specs.Outcome.{pick}
 use Rattle.form.specs.Form.{num, numAt}
 use Rattle.form.specs.Read.{Got, got, bad, front, andThen, orElse, operand, named, readRun, readNamed, counted}
-use Rattle.form.specs.Walks.{walkOf, walkBy, pairWalk, up, Room, Inside, flagWalk}
-use Rattle.form.specs.declared.Fault.{Fault}
-use Rattle.form.specs.declared.Fault.the-variants.{Shape, Names, Level}
-use Rattle.form.specs.declared.Walk.{Walk}
-use Rattle.form.specs.declared.Walk.the-variants as walk
+use Rattle.form.specs.Walks.{walkOf, walkBy, pairWalk, up, Walk}
+use Rattle.form.specs.Faults.{Fault, Shape, Names, Level}
+use Rattle.form.specs.Walks as walk
 
 -- a part that runs to the end is what is left after its start
 pub rest : (s : List ℕ) (a : ℕ) → take (length s - a) (drop a s) ≡ drop a s
@@ -27,24 +25,14 @@ rest s a = take-all (length s - a) (drop a s) (simp length-drop (omega arith))
 pub end-is : {n m l k : ℕ} → n ≡ m → l ≡ k → walk.End n l ≡ walk.End m k
 end-is p q = ap₂ walk.End p q
 
-pub end-fault : {n l : ℕ} {f : Fault} → walk.End n l ≡ walk.Fault f → ⊥
-end-fault e = let z : _≡_ {A = ℕ} 0 1 = cc in omega arith
+pub end-stop : {n l : ℕ} {f : Fault} → walk.End n l ≡ walk.Stop f → ⊥
+end-stop e = let z : _≡_ {A = ℕ} 0 1 = cc in omega arith
 
--- ---- a callee's answer on a part from a, as an answer on what is left from a
 -- the first byte behind `at`
 pub first-at : (s : List ℕ) (at : ℕ) → getD (drop at s) 0 0 ≡ getD s at 0
 first-at s at = getD-drop at s 0 0 ∙ ap (λ (n : ℕ). getD s n 0) (omega arith)
 
-pub part-of : (f : List ℕ → Walk) (s : List ℕ) (a : ℕ) {w x : Walk} → w ≡ x → w ≡ f (take (length s - a) (drop a s)) → f (drop a s) ≡ x
-part-of f s a e h = sym (rw rest at h) ∙ e
-
-pub inside-of : (w : Walk) (s : List ℕ) (a size lv : ℕ) → w ≡ walk.End size lv → Inside w (length (take (length s - a) (drop a s))) → (size ≤ length s - a) × (lv ≤ size)
-inside-of w s a size lv e h =
-    let i = subst (λ (x : Walk). Inside x (length (take (length s - a) (drop a s)))) e h in
-    let n : length (take (length s - a) (drop a s)) ≡ length s - a = rw (rest s a) (length-drop a s) in
-    (omega arith, omega arith)
-
-by-bad : {X : Type 0} (lv : X → ℕ) (f : Fault) → walkBy lv 0 0 (bad f) ≡ walk.Fault f
+by-bad : {X : Type 0} (lv : X → ℕ) (f : Fault) → walkBy lv 0 0 (bad f) ≡ walk.Stop f
 unfolding walkBy
 by-bad lv f = refl
 
@@ -72,11 +60,11 @@ module _ {X Y Z : Type 0} (lx : X → ℕ) (ly : Y → ℕ) (lz : Z → ℕ) (f 
         go : (y : Got Y) → walkBy lz at deep (front (f x) (k + n) y) ≡ walkBy ly (at + k + n) (max deep (lx x)) y
         go (got y m) = end-is (omega arith) (omega (arith, law x y))
         go (bad e) = refl
-    then-end at deep size lv (bad e′) e = absurd (end-fault (sym e))
+    then-end at deep size lv (bad e′) e = absurd (end-stop (sym e))
 
-  pub then-fault : (at deep : ℕ) (e : Fault) (r : Got X) → walkOf lx r ≡ walk.Fault e → walkBy lz at deep (andThen f k s more r) ≡ walk.Fault e
+  pub then-fault : (at deep : ℕ) (e : Fault) (r : Got X) → walkOf lx r ≡ walk.Stop e → walkBy lz at deep (andThen f k s more r) ≡ walk.Stop e
   unfolding walkOf walkBy andThen
-  then-fault at deep e (got x n) h = absurd (end-fault h)
+  then-fault at deep e (got x n) h = absurd (end-stop h)
   then-fault at deep e (bad e′) h = h
 
   pub then-up : ((x : X) (y : Y) → lz (f x y) ≡ suc (max (lx x) (ly y))) → (r : Got X) → walkOf lz (andThen f k s more r) ≡ up k (pairWalk lx ly s more r)
@@ -108,7 +96,7 @@ module _ {X : Type 0} {lv : X → ℕ} {whole : Walk} {now : ℕ → List ℕ �
       let e : count - i ≡ 0 = omega arith in
       sym (v .goes ∙ rw (e, h (drop at s)) (end-is (omega arith) (omega arith)))
 
-  pub run-fault : (f : Fault) → i < count → ((n : ℕ) → walkBy lv at deep (now (suc n) (drop at s)) ≡ walk.Fault f) → walk.Fault f ≡ whole
+  pub run-fault : (f : Fault) → i < count → ((n : ℕ) → walkBy lv at deep (now (suc n) (drop at s)) ≡ walk.Stop f) → walk.Stop f ≡ whole
   run-fault f q h = sym (v .goes ∙ rw (more i count q) (h (count - (i + 1))))
 
   pub run-turn : (next : ℕ → List ℕ → Got X) (to d size l : ℕ) → i < count → d ≡ max deep l → (size ≤ length s - to) × (l ≤ size) → at ≤ to → to ≤ length s → ((n : ℕ) → walkBy lv at deep (now (suc n) (drop at s)) ≡ walkBy lv (to + size) (max deep l) (next n (drop (to + size) s))) → RunInv lv whole next s count (to + size) d (i + 1)
@@ -126,7 +114,7 @@ module _ {X R : Type 0} (lx : X → ℕ) (lr : R → ℕ) (nil : R) (cons : X �
   run-none r = refl
 
   module _ (s : List ℕ) (at deep : ℕ) where
-    pub item-fault : (f : Fault) → walkOf lx (child (drop at s)) ≡ walk.Fault f → (n : ℕ) → walkBy lr at deep (readRun nil cons child (suc n) (drop at s)) ≡ walk.Fault f
+    pub item-fault : (f : Fault) → walkOf lx (child (drop at s)) ≡ walk.Stop f → (n : ℕ) → walkBy lr at deep (readRun nil cons child (suc n) (drop at s)) ≡ walk.Stop f
     unfolding readRun
     item-fault f w n = then-fault lx lr lr cons 0 (drop at s) (readRun nil cons child n) at deep f (child (drop at s)) w
 
@@ -138,7 +126,7 @@ module _ {X R : Type 0} (lx : X → ℕ) (lr : R → ℕ) (nil : R) (cons : X �
   module _ (flat : lr nil ≡ 0) where
     on : ℕ → ℕ → Walk → Walk
     on k d (walk.End n l) = walk.End (k + n) (max d l)
-    on k d (walk.Fault f) = walk.Fault f
+    on k d (walk.Stop f) = walk.Stop f
 
     on-front : (x : X) (k : ℕ) (y : Got R) → walkBy lr 0 0 (front (cons x) (0 + k) y) ≡ on k (lx x) (walkBy lr 0 0 y)
     unfolding walkBy front on
@@ -191,7 +179,7 @@ module _ {X R : Type 0} (lx : X → ℕ) (lr : R → ℕ) (nil : R) (cons : ℕ 
   named-none least r = refl
 
   module _ (s : List ℕ) (at deep least : ℕ) where
-    pub named-ends : length s - at < nameWidth → (n : ℕ) → walkBy lr at deep (readNamed nil cons next child (suc n) least (drop at s)) ≡ walk.Fault Shape
+    pub named-ends : length s - at < nameWidth → (n : ℕ) → walkBy lr at deep (readNamed nil cons next child (suc n) least (drop at s)) ≡ walk.Stop Shape
     unfolding walkBy readNamed
     named-ends h n = rw (operand-short nameWidth (named cons (λ m. readNamed nil cons next child n (next m)) child least) (drop at s) (simp length-drop h))
 
@@ -200,11 +188,11 @@ module _ {X R : Type 0} (lx : X → ℕ) (lr : R → ℕ) (nil : R) (cons : ℕ 
       unfolding readNamed named
       opened n = operand-at nameWidth (named cons (λ j. readNamed nil cons next child n (next j)) child least) s at m e h
 
-      pub named-names : m < least → (n : ℕ) → walkBy lr at deep (readNamed nil cons next child (suc n) least (drop at s)) ≡ walk.Fault Names
+      pub named-names : m < least → (n : ℕ) → walkBy lr at deep (readNamed nil cons next child (suc n) least (drop at s)) ≡ walk.Stop Names
       unfolding walkBy orElse
       named-names k n = rw (opened n, lt-leb least m k)
 
-      pub named-fault : (f : Fault) → least ≤ m → walkOf lx (child (drop (at + nameWidth) s)) ≡ walk.Fault f → (n : ℕ) → walkBy lr at deep (readNamed nil cons next child (suc n) least (drop at s)) ≡ walk.Fault f
+      pub named-fault : (f : Fault) → least ≤ m → walkOf lx (child (drop (at + nameWidth) s)) ≡ walk.Stop f → (n : ℕ) → walkBy lr at deep (readNamed nil cons next child (suc n) least (drop at s)) ≡ walk.Stop f
       unfolding orElse
       named-fault f k w n = rw (opened n, le-leb least m k) (then-fault lx lr lr (cons m) nameWidth (drop (at + nameWidth) s) (readNamed nil cons next child n (next m)) at deep f (child (drop (at + nameWidth) s)) w)
 
@@ -221,26 +209,6 @@ pub counted-short : {R Z : Type 0} (g : R → Z) (run : ℕ → List ℕ → Got
 unfolding counted
 counted-short g run s h = operand-short 2 (λ c r. front g 3 (run c r)) s h
 
--- ---- what `lift` asks and gives
-pub room-of : (w : Walk) (s : List ℕ) (k : ℕ) → Inside w (length (take (length s - k) (drop k s))) → 1 ≤ k → k ≤ length s → length s < 18446744073709551616 → Room w k
-room-of (walk.End n lv) s k h o p q = let i = inside-of (walk.End n lv) s k n lv refl h in (omega arith, omega arith)
-room-of (walk.Fault f) s k h o p q = tt
-
-lifted-in : (w : Walk) (s : List ℕ) (k : ℕ) → Inside w (length (take (length s - k) (drop k s))) → 1 ≤ k → k ≤ length s → Inside (up k w) (length s)
-lifted-in (walk.End n lv) s k h o p = let i = inside-of (walk.End n lv) s k n lv refl h in (omega arith, omega arith)
-lifted-in (walk.Fault f) s k h o p = tt
-
--- a parent that `lift` made of a callee's answer on the part from k
-pub lifted : (f : List ℕ → Walk) (s : List ℕ) (k : ℕ) (w r : Walk) {whole : Walk} → r ≡ up k w → w ≡ f (take (length s - k) (drop k s)) → whole ≡ up k (f (drop k s)) → Inside w (length (take (length s - k) (drop k s))) → 1 ≤ k → k ≤ length s → (r ≡ whole) × Inside r (length s)
-lifted f s k w r e p q i o h = (e ∙ ap (up k) (sym (part-of f s k refl p)) ∙ sym q, rw e (lifted-in w s k i o h))
-
-pub flagged : (x m : ℕ) (s : List ℕ) {r whole : Walk} → r ≡ flagWalk x m → whole ≡ flagWalk x m → 1 ≤ length s - 1 → (r ≡ whole) × Inside r (length s)
-flagged x m s e q h = (e ∙ sym q, rw e (go (leb x m)))
-  where
-    go : (t : Bool) → Inside (pick t (walk.End 2 1) (walk.Fault Shape)) (length s)
-    go true = (omega arith, omega arith)
-    go false = tt
-
 -- ---- two parts, the second behind the first
 module _ {X Y : Type 0} (lx : X → ℕ) (ly : Y → ℕ) (s : List ℕ) (more : List ℕ → Got Y) where
   pub pair-end : (size lv : ℕ) (r : Got X) → walkOf lx r ≡ walk.End size lv → pairWalk lx ly s more r ≡ walkBy ly size lv (more (drop size s))
@@ -249,9 +217,9 @@ module _ {X Y : Type 0} (lx : X → ℕ) (ly : Y → ℕ) (s : List ℕ) (more :
       let p : n ≡ size = cc in
       let q : lx x ≡ lv = cc in
       rw (p, q)
-  pair-end size lv (bad f) e = absurd (end-fault (sym e))
+  pair-end size lv (bad f) e = absurd (end-stop (sym e))
 
-  pub pair-fault : (f : Fault) (r : Got X) → walkOf lx r ≡ walk.Fault f → pairWalk lx ly s more r ≡ walk.Fault f
+  pub pair-fault : (f : Fault) (r : Got X) → walkOf lx r ≡ walk.Stop f → pairWalk lx ly s more r ≡ walk.Stop f
   unfolding pairWalk walkOf
-  pair-fault f (got x n) e = absurd (end-fault e)
+  pair-fault f (got x n) e = absurd (end-stop e)
   pair-fault f (bad g) e = e

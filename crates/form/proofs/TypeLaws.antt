@@ -2,17 +2,18 @@
 -- Assumes nothing.
 use Prim.Native.Nat.{ℕ, zero, suc, _+_, _*_, _-_, _<_, _≤_, max}
 use mathlib.Core.Path.{_≡_, refl, sym, ap, ap₂, subst, _∙_}
+use mathlib.Core.Bool.{true}
 use mathlib.Core.List.{List, [], _∷_}
 use native.Mathlib.Omega.{arith}
 use lib.ListN.{length, getD, take, drop, length-drop}
 use lib.Seq.{getD-drop, drop-drop}
-use Rattle.form.specs.Trees.{Ty, leaf, built, list, range, context, function, Fields, no-fields, field, Tys, no-params, param}
+use Rattle.form.specs.Trees.{Ty, leaf, built, list, range, context, function, Fields, no-fields, field, Tys, no-params, param, simple}
 use Rattle.form.specs.Form.{numAt, level, levelBuilt, levelFields, levelTys}
 use Rattle.form.specs.Layout.{TypeKind, tSimple, tList, tRange, tContext, tFunction, Kind, ofValue, ofType, noCommand, kindOf, operands, operandsT, slot, widthOf}
 use Rattle.form.specs.Read.{Got, got, bad, front, andThen, readRun, readFields, readTys, counted, readFunction, stepType, stepT, readT}
-use Rattle.form.specs.Walks.{walkOf, walkBy, pairWalk, up, Short}
-use Rattle.form.specs.declared.Fault.the-variants.{Shape, Names, Level}
-use Rattle.form.specs.declared.Walk.the-variants as walk
+use Rattle.form.specs.Walks.{walkOf, walkBy, pairWalk, up}
+use Rattle.form.specs.Faults.{Shape, Names, Level}
+use Rattle.form.specs.Walks as walk
 use Rattle.form.proofs.Commands.{ViewT, isSimpleT, isListT, isRangeT, isContextT, isFunctionT, View, isValue, isType, isGap, isBeyond, view, there, value-below}
 use Rattle.form.proofs.Runs.{end-is, front-up, front-run, then-up, counted-is, counted-short, run-snoc}
 
@@ -32,15 +33,21 @@ pub tys-flat : levelTys no-params ≡ 0
 unfolding levelTys
 tys-flat = refl
 
+-- a simple type has level 1
+pub simple-level : (t : Ty) → simple t ≡ true → level t ≡ 1
+unfolding level
+simple-level (leaf s) e = refl
+simple-level (built x) e = cc
+
 -- ---- where a type must start
-pub t-none : (l : ℕ) (s : List ℕ) → length s ≡ 0 → walkOf level (readT l s) ≡ walk.Fault Shape
+pub t-none : (l : ℕ) (s : List ℕ) → length s ≡ 0 → walkOf level (readT l s) ≡ walk.Stop Shape
 unfolding readT walkOf
 t-none zero [] h = refl
 t-none (suc l) [] h = refl
 t-none zero (b ∷ s) h = absurd (omega arith)
 t-none (suc l) (b ∷ s) h = absurd (omega arith)
 
-pub t-level : (l : ℕ) (s : List ℕ) → 0 < length s → l ≡ 0 → walkOf level (readT l s) ≡ walk.Fault Level
+pub t-level : (l : ℕ) (s : List ℕ) → 0 < length s → l ≡ 0 → walkOf level (readT l s) ≡ walk.Stop Level
 unfolding readT walkOf
 t-level l [] h e = absurd (omega arith)
 t-level zero (b ∷ s) h e = refl
@@ -106,7 +113,7 @@ function-is child (c ∷ s) h =
     ∙ ap (up 2) (sym (run-snoc level levelTys no-params param tys-law child tys-flat c s))
 
 -- one type is a run of one
-one-is : (child : List ℕ → Got Ty) (s : List ℕ) → walkBy levelTys 0 0 (readTys child 1 s) ≡ walkOf level (child s)
+pub one-is : (child : List ℕ → Got Ty) (s : List ℕ) → walkBy levelTys 0 0 (readTys child 1 s) ≡ walkOf level (child s)
 unfolding readRun levelTys walkBy walkOf andThen front
 one-is child s = go (child s)
   where
@@ -119,11 +126,11 @@ module _ (l : ℕ) (s : List ℕ) (h : 0 < length s) (p : 0 < l) where
   unfolding stepT
   t-kind k e = rw (t-step l s h p, e)
 
-  pub t-short : length s - 1 < widthOf (getD s 0 0) → walkOf level (readT l s) ≡ walk.Fault Shape
+  pub t-short : length s - 1 < widthOf (getD s 0 0) → walkOf level (readT l s) ≡ walk.Stop Shape
   unfolding walkOf widthOf
   t-short n = rw (t-step l s h p, step-short (readT (l - 1)) (kindOf (getD s 0 0)) (getD s 0 0) (drop 1 s) (simp length-drop n))
 
-  pub t-other : (0x20 ≤ getD s 0 0 → getD s 0 0 < 0x2A → ⊥) → (0x2A ≤ getD s 0 0 → getD s 0 0 < 0x2C → ⊥) → (getD s 0 0 ≡ 0x2C → ⊥) → (getD s 0 0 ≡ 0x2D → ⊥) → walkOf level (readT l s) ≡ walk.Fault Shape
+  pub t-other : (0x20 ≤ getD s 0 0 → getD s 0 0 < 0x2A → ⊥) → (0x2A ≤ getD s 0 0 → getD s 0 0 < 0x2C → ⊥) → (getD s 0 0 ≡ 0x2C → ⊥) → (getD s 0 0 ≡ 0x2D → ⊥) → walkOf level (readT l s) ≡ walk.Stop Shape
   unfolding walkOf
   t-other h₁ h₂ h₃ h₄ = rw (t-step l s h p, step-other (readT (l - 1)) (getD s 0 0) (drop 1 s) (kindOf (getD s 0 0)) (view (getD s 0 0)) h₁ h₂ h₃ h₄)
 
@@ -131,7 +138,7 @@ module _ (l : ℕ) (s : List ℕ) (h : 0 < length s) (p : 0 < l) where
   unfolding walkOf stepType level
   t-simple e = t-kind tSimple e
 
-  pub t-one : 0x2A ≤ getD s 0 0 → getD s 0 0 < 0x2C → walkOf level (readT l s) ≡ up 1 (walkOf level (readT (l - 1) (drop 1 s)))
+  t-one : 0x2A ≤ getD s 0 0 → getD s 0 0 < 0x2C → walkOf level (readT l s) ≡ up 1 (walkOf level (readT (l - 1) (drop 1 s)))
   t-one q r = rw (t-step l s h p) (step-one (readT (l - 1)) (getD s 0 0) (drop 1 s) (kindOf (getD s 0 0)) (view (getD s 0 0)) q r)
 
   pub t-one-run : 0x2A ≤ getD s 0 0 → getD s 0 0 < 0x2C → walkOf level (readT l s) ≡ up 1 (walkBy levelTys 0 0 (readTys (readT (l - 1)) 1 (drop 1 s)))
@@ -149,7 +156,3 @@ module _ (l : ℕ) (s : List ℕ) (h : 0 < length s) (p : 0 < l) where
     pub t-function : (m : ℕ) → m ≡ suc (getD s 1 0) → kindOf (getD s 0 0) ≡ ofType tFunction → walkOf level (readT l s) ≡ up 2 (walkBy levelTys 0 0 (readTys (readT (l - 1)) m (drop 2 s)))
     unfolding stepType operandsT
     t-function m me e = t-kind tFunction e ∙ rw (me, ← getD-drop 1 s 0 0, ← drop-drop 1 1 s) (function-is (readT (l - 1)) (drop 1 s) (simp length-drop (off tFunction e)))
-
--- the short way past a simple type
-pub short-simple : (l : ℕ) (s : List ℕ) (at : ℕ) → 0 < l → at < length s → kindOf (getD (drop at s) 0 0) ≡ ofType tSimple → Short (walkOf level (readT l (drop at s))) 1 (length s - at)
-short-simple l s at p h e q = (t-simple l (drop at s) (simp length-drop (omega arith)) p e, omega arith)

@@ -9,17 +9,18 @@ use lib.ListN.{length, getD, take, drop, length-drop}
 use lib.Seq.{getD-drop, drop-drop}
 use lib.Dec.{leb, eqb}
 use borrow.Author.Tests.{le-leb, lt-leb}
-use Rattle.form.specs.Trees.{Ty, Params, no-parameters, parameter, Leaf, l-null, l-boolean, l-number, l-string, l-temporal, Val, v-leaf, v-range, v-list, v-context, v-function, v-built-in, v-type, v-irrelevant, Vals, no-items, item, Entries, no-entries, entry, decode-temporal}
-use Rattle.form.specs.Form.{numAt, level, levelParams, levelV, levelVals, levelEntries}
+use Rattle.form.specs.Trees.{Ty, Params, no-parameters, parameter, Leaf, l-null, l-boolean, l-number, l-string, l-temporal, Val, v-leaf, v-range, v-list, v-context, v-function, v-built-in, v-type, v-irrelevant, Vals, no-items, item, Entries, no-entries, entry, isDataLeaf, decode-temporal}
+use Rattle.form.specs.Form.{numAt, level, levelParams, levelTys, levelV, levelVals, levelEntries}
 use Rattle.form.specs.Layout.{ValueKind, kNull, kBoolean, kNumber, kString, kTemporal, kRange, kList, kContext, kDefinition, kBuiltIn, kType, kIrrelevant, Kind, ofValue, ofType, noCommand, kindOf, operands, operandsV, slot, widthOf}
 use Rattle.form.specs.Limits.{nameWidth}
 use Rattle.form.specs.Outcome.{pick}
-use Rattle.form.specs.Read.{Got, got, bad, front, andThen, orElse, operand, readRun, readVals, readEntries, readParams, readFlag, readKey, counted, readRange, signature, readDefinition, readT, stepValue, stepV, readV}
-use Rattle.form.specs.Walks.{walkOf, walkBy, pairWalk, up, Short, operandEnd, flagWalk}
-use Rattle.form.specs.declared.Fault.the-variants.{Shape, Names, Level}
-use Rattle.form.specs.declared.Walk.the-variants as walk
+use Rattle.form.specs.Read.{Got, got, bad, front, andThen, orElse, operand, readRun, readVals, readEntries, readParams, readTys, readFlag, readKey, counted, readRange, signature, readDefinition, readT, stepValue, stepV, readV}
+use Rattle.form.specs.Walks.{walkOf, walkBy, pairWalk, up, operandEnd, flagWalk}
+use Rattle.form.specs.Faults.{Shape, Names, Level}
+use Rattle.form.specs.Walks as walk
 use Rattle.form.proofs.Commands.{ViewV, isNull, isBoolean, isNumber, isString, isTemporal, isRange, isList, isContext, isDefinition, isBuiltIn, isFeelType, isIrrelevant, View, isValue, isType, isGap, isBeyond, view, type-within, there, width-is}
-use Rattle.form.proofs.Runs.{end-is, first-at, front-up, then-up, operand-short, operand-at, counted-is, counted-short}
+use Rattle.form.proofs.TypeLaws.{one-is}
+use Rattle.form.proofs.Runs.{end-is, front-up, then-up, operand-short, operand-at, counted-is, counted-short}
 
 pub params-law : (m : ℕ) (t : Ty) (ps : Params) → levelParams (parameter m t ps) ≡ max (level t) (levelParams ps)
 unfolding levelParams
@@ -37,6 +38,17 @@ pub vals-flat : levelVals no-items ≡ 0
 unfolding levelVals
 vals-flat = refl
 
+pub value-level : (v : Val) → 1 ≤ levelV v
+unfolding levelV
+value-level (v-leaf l) = omega arith
+value-level (v-range i j v w) = omega arith
+value-level (v-list vs) = omega arith
+value-level (v-context es) = omega arith
+value-level (v-function ps b r) = omega arith
+value-level (v-built-in n) = omega arith
+value-level (v-type t) = omega arith
+value-level v-irrelevant = omega arith
+
 pub entries-law : (m : ℕ) (v : Val) (es : Entries) → levelEntries (entry m v es) ≡ max (levelV v) (levelEntries es)
 unfolding levelEntries
 entries-law m v es = refl
@@ -45,15 +57,27 @@ pub entries-flat : levelEntries no-entries ≡ 0
 unfolding levelEntries
 entries-flat = refl
 
+-- a leaf of data has level 1
+pub leaf-level : (v : Val) → isDataLeaf v ≡ true → levelV v ≡ 1
+unfolding levelV
+leaf-level (v-leaf l) e = refl
+leaf-level (v-range i j v w) e = cc
+leaf-level (v-list vs) e = cc
+leaf-level (v-context es) e = cc
+leaf-level (v-function ps b r) e = cc
+leaf-level (v-built-in n) e = refl
+leaf-level (v-type t) e = cc
+leaf-level v-irrelevant e = refl
+
 -- ---- where a value must start
-pub v-none : (l : ℕ) (s : List ℕ) → length s ≡ 0 → walkOf levelV (readV l s) ≡ walk.Fault Shape
+pub v-none : (l : ℕ) (s : List ℕ) → length s ≡ 0 → walkOf levelV (readV l s) ≡ walk.Stop Shape
 unfolding readV walkOf
 v-none zero [] h = refl
 v-none (suc l) [] h = refl
 v-none zero (b ∷ s) h = absurd (omega arith)
 v-none (suc l) (b ∷ s) h = absurd (omega arith)
 
-pub v-level : (l : ℕ) (s : List ℕ) → 0 < length s → l ≡ 0 → walkOf levelV (readV l s) ≡ walk.Fault Level
+pub v-level : (l : ℕ) (s : List ℕ) → 0 < length s → l ≡ 0 → walkOf levelV (readV l s) ≡ walk.Stop Level
 unfolding readV walkOf
 v-level l [] h e = absurd (omega arith)
 v-level zero (b ∷ s) h e = refl
@@ -71,7 +95,7 @@ unfolding walkOf readFlag orElse
 flag-is m mk one [] h = absurd (omega arith)
 flag-is m mk one (x ∷ s) h = go (leb x m)
   where
-    go : (t : Bool) → walkOf levelV (orElse Shape t (got (mk x) 2)) ≡ pick t (walk.End 2 1) (walk.Fault Shape)
+    go : (t : Bool) → walkOf levelV (orElse Shape t (got (mk x) 2)) ≡ pick t (walk.End 2 1) (walk.Stop Shape)
     go true = end-is refl (one x)
     go false = refl
 
@@ -99,13 +123,13 @@ range-is child [] h p q = absurd (omega arith)
 range-is child (a ∷ []) h p q = absurd (omega arith)
 range-is child (a ∷ b ∷ s) h p q = rw (le-leb a 3 p, le-leb b 3 q) (then-up levelV levelV levelV (v-range a b) 3 s child (range-law a b) (child s))
 
-range-first : (child : List ℕ → Got Val) (s : List ℕ) → 2 ≤ length s → 3 < getD s 0 0 → walkOf levelV (readRange child s) ≡ walk.Fault Shape
+range-first : (child : List ℕ → Got Val) (s : List ℕ) → 2 ≤ length s → 3 < getD s 0 0 → walkOf levelV (readRange child s) ≡ walk.Stop Shape
 unfolding readRange orElse walkOf
 range-first child [] h p = absurd (omega arith)
 range-first child (a ∷ []) h p = absurd (omega arith)
 range-first child (a ∷ b ∷ s) h p = rw (lt-leb a 3 p)
 
-range-second : (child : List ℕ → Got Val) (s : List ℕ) → 2 ≤ length s → getD s 0 0 ≤ 3 → 3 < getD s 1 0 → walkOf levelV (readRange child s) ≡ walk.Fault Shape
+range-second : (child : List ℕ → Got Val) (s : List ℕ) → 2 ≤ length s → getD s 0 0 ≤ 3 → 3 < getD s 1 0 → walkOf levelV (readRange child s) ≡ walk.Stop Shape
 unfolding readRange orElse walkOf
 range-second child [] h p q = absurd (omega arith)
 range-second child (a ∷ []) h p q = absurd (omega arith)
@@ -189,11 +213,11 @@ module _ (l : ℕ) (s : List ℕ) (h : 0 < length s) (p : 0 < l) where
   unfolding stepV
   v-kind k e = rw (v-step l s h p, e)
 
-  pub v-short : length s - 1 < widthOf (getD s 0 0) → walkOf levelV (readV l s) ≡ walk.Fault Shape
+  pub v-short : length s - 1 < widthOf (getD s 0 0) → walkOf levelV (readV l s) ≡ walk.Stop Shape
   unfolding walkOf widthOf
   v-short n = rw (v-step l s h p, step-short (readV (l - 1)) (readT (l - 1)) (kindOf (getD s 0 0)) (getD s 0 0) (drop 1 s) (simp length-drop n))
 
-  pub v-other : 9 ≤ getD s 0 0 → (getD s 0 0 ≡ 9 → ⊥) → (getD s 0 0 ≡ 10 → ⊥) → (getD s 0 0 ≡ 11 → ⊥) → (getD s 0 0 ≡ 12 → ⊥) → (getD s 0 0 ≡ 13 → ⊥) → (getD s 0 0 ≡ 14 → ⊥) → (getD s 0 0 ≡ 15 → ⊥) → walkOf levelV (readV l s) ≡ walk.Fault Shape
+  pub v-other : 9 ≤ getD s 0 0 → (getD s 0 0 ≡ 9 → ⊥) → (getD s 0 0 ≡ 10 → ⊥) → (getD s 0 0 ≡ 11 → ⊥) → (getD s 0 0 ≡ 12 → ⊥) → (getD s 0 0 ≡ 13 → ⊥) → (getD s 0 0 ≡ 14 → ⊥) → (getD s 0 0 ≡ 15 → ⊥) → walkOf levelV (readV l s) ≡ walk.Stop Shape
   unfolding walkOf
   v-other o h9 h10 h11 h12 h13 h14 h15 = rw (v-step l s h p, step-other (readV (l - 1)) (readT (l - 1)) (getD s 0 0) (drop 1 s) (kindOf (getD s 0 0)) (view (getD s 0 0)) o h9 h10 h11 h12 h13 h14 h15)
 
@@ -201,9 +225,9 @@ module _ (l : ℕ) (s : List ℕ) (h : 0 < length s) (p : 0 < l) where
   unfolding walkOf stepValue levelV
   v-irrelevant-is e = v-kind kIrrelevant e
 
-  pub v-type-is : kindOf (getD s 0 0) ≡ ofValue kType → walkOf levelV (readV l s) ≡ up 1 (walkOf level (readT (l - 1) (drop 1 s)))
+  pub v-type-is : kindOf (getD s 0 0) ≡ ofValue kType → walkOf levelV (readV l s) ≡ up 1 (walkBy levelTys 0 0 (readTys (readT (l - 1)) 1 (drop 1 s)))
   unfolding stepValue levelV
-  v-type-is e = v-kind kType e ∙ front-up level levelV v-type 1 (λ x. refl) (readT (l - 1) (drop 1 s))
+  v-type-is e = v-kind kType e ∙ front-up level levelV v-type 1 (λ x. refl) (readT (l - 1) (drop 1 s)) ∙ ap (up 1) (sym (one-is (readT (l - 1)) (drop 1 s)))
 
   module _ (o : widthOf (getD s 0 0) ≤ length s - 1) where
     off : (k : ValueKind) → kindOf (getD s 0 0) ≡ ofValue k → operandsV k ≤ length s - 1
@@ -229,17 +253,41 @@ module _ (l : ℕ) (s : List ℕ) (h : 0 < length s) (p : 0 < l) where
     unfolding stepValue operandsV levelV
     v-built-in-is e = v-kind kBuiltIn e ∙ rw (← getD-drop 1 s 0 0) (flag-is 85 v-built-in (λ x. refl) (drop 1 s) (off-drop kBuiltIn e))
 
-    pub v-number : (w : ℕ) → w ≡ widthOf (getD s 0 0) → kindOf (getD s 0 0) ≡ ofValue kNumber → walkOf levelV (readV l s) ≡ walk.End (w + 1) 1
+    v-number : (w : ℕ) → w ≡ widthOf (getD s 0 0) → kindOf (getD s 0 0) ≡ ofValue kNumber → walkOf levelV (readV l s) ≡ walk.End (w + 1) 1
     unfolding stepValue operandsV levelV
     v-number w we e = v-kind kNumber e ∙ key-is 8 (λ x. v-leaf (l-number x)) (λ x. refl) s (off kNumber e) w (wide-as kNumber e w we)
 
-    pub v-string : (w : ℕ) → w ≡ widthOf (getD s 0 0) → kindOf (getD s 0 0) ≡ ofValue kString → walkOf levelV (readV l s) ≡ walk.End (w + 1) 1
+    v-string : (w : ℕ) → w ≡ widthOf (getD s 0 0) → kindOf (getD s 0 0) ≡ ofValue kString → walkOf levelV (readV l s) ≡ walk.End (w + 1) 1
     unfolding stepValue operandsV levelV
     v-string w we e = v-kind kString e ∙ key-is nameWidth (λ x. v-leaf (l-string x)) (λ x. refl) s (off kString e) w (wide-as kString e w we)
 
-    pub v-temporal : (w : ℕ) → w ≡ widthOf (getD s 0 0) → kindOf (getD s 0 0) ≡ ofValue kTemporal → walkOf levelV (readV l s) ≡ walk.End (w + 1) 1
+    v-temporal : (w : ℕ) → w ≡ widthOf (getD s 0 0) → kindOf (getD s 0 0) ≡ ofValue kTemporal → walkOf levelV (readV l s) ≡ walk.End (w + 1) 1
     unfolding stepValue operandsV levelV
     v-temporal w we e = v-kind kTemporal e ∙ key-is 8 (λ x. v-leaf (l-temporal (decode-temporal (getD s 0 0 - 0x04)) x)) (λ x. refl) s (off kTemporal e) w (wide-as kTemporal e w we)
+
+    -- a number, a text or a temporal
+    key-value : (w : ℕ) → w ≡ widthOf (getD s 0 0) → 2 ≤ getD s 0 0 → getD s 0 0 < 9 → (k : ValueKind) → ViewV (getD s 0 0) k → kindOf (getD s 0 0) ≡ ofValue k → walkOf levelV (readV l s) ≡ walk.End (w + 1) 1
+    key-value w we x y k (isNull e) f = absurd (omega arith)
+    key-value w we x y k (isBoolean e) f = absurd (omega arith)
+    key-value w we x y k (isNumber e) f = v-number w we f
+    key-value w we x y k (isString e) f = v-string w we f
+    key-value w we x y k (isTemporal a b) f = v-temporal w we f
+    key-value w we x y k (isRange e) f = absurd (omega arith)
+    key-value w we x y k (isList e) f = absurd (omega arith)
+    key-value w we x y k (isContext e) f = absurd (omega arith)
+    key-value w we x y k (isDefinition e) f = absurd (omega arith)
+    key-value w we x y k (isBuiltIn e) f = absurd (omega arith)
+    key-value w we x y k (isFeelType e) f = absurd (omega arith)
+    key-value w we x y k (isIrrelevant e) f = absurd (omega arith)
+
+    key-view : (w : ℕ) → w ≡ widthOf (getD s 0 0) → 2 ≤ getD s 0 0 → getD s 0 0 < 9 → (j : Kind) → View (getD s 0 0) j → kindOf (getD s 0 0) ≡ j → walkOf levelV (readV l s) ≡ walk.End (w + 1) 1
+    key-view w we x y j (isValue k v) f = key-value w we x y k v f
+    key-view w we x y j (isType k v) f = absurd (omega (arith, type-within (getD s 0 0) k v))
+    key-view w we x y j (isGap a b) f = absurd (omega arith)
+    key-view w we x y j (isBeyond a) f = absurd (omega arith)
+
+    pub v-key : (w : ℕ) → w ≡ widthOf (getD s 0 0) → 2 ≤ getD s 0 0 → getD s 0 0 < 9 → walkOf levelV (readV l s) ≡ walk.End (w + 1) 1
+    v-key w we x y = key-view w we x y (kindOf (getD s 0 0)) (view (getD s 0 0)) refl
 
     pub v-range-is : kindOf (getD s 0 0) ≡ ofValue kRange → getD s 1 0 ≤ 3 → getD s 2 0 ≤ 3 → walkOf levelV (readV l s) ≡ up 3 (walkBy levelVals 0 0 (readVals (readV (l - 1)) 2 (drop 3 s)))
     unfolding stepValue operandsV
@@ -248,11 +296,11 @@ module _ (l : ℕ) (s : List ℕ) (h : 0 < length s) (p : 0 < l) where
         rw (two-are (readV (l - 1)) (drop 3 s), ← drop-drop 2 1 s)
         (range-is (readV (l - 1)) (drop 1 s) (off-drop kRange e) (rw getD-drop x) (rw getD-drop y))
 
-    pub v-range-first : kindOf (getD s 0 0) ≡ ofValue kRange → 3 < getD s 1 0 → walkOf levelV (readV l s) ≡ walk.Fault Shape
+    pub v-range-first : kindOf (getD s 0 0) ≡ ofValue kRange → 3 < getD s 1 0 → walkOf levelV (readV l s) ≡ walk.Stop Shape
     unfolding stepValue operandsV
     v-range-first e x = v-kind kRange e ∙ range-first (readV (l - 1)) (drop 1 s) (off-drop kRange e) (rw getD-drop x)
 
-    pub v-range-second : kindOf (getD s 0 0) ≡ ofValue kRange → getD s 1 0 ≤ 3 → 3 < getD s 2 0 → walkOf levelV (readV l s) ≡ walk.Fault Shape
+    pub v-range-second : kindOf (getD s 0 0) ≡ ofValue kRange → getD s 1 0 ≤ 3 → 3 < getD s 2 0 → walkOf levelV (readV l s) ≡ walk.Stop Shape
     unfolding stepValue operandsV
     v-range-second e x y = v-kind kRange e ∙ range-second (readV (l - 1)) (drop 1 s) (off-drop kRange e) (rw getD-drop x) (rw getD-drop y)
 
@@ -273,35 +321,11 @@ flag-end : (m x w : ℕ) → x ≤ m → w ≡ 1 → flagWalk x m ≡ walk.End (
 flag-end m x w h e = rw (le-leb x m h, e)
 
 module _ (l : ℕ) (s : List ℕ) (h : 0 < length s) (p : 0 < l) (o : widthOf (getD s 0 0) ≤ length s - 1) (q : getD s 1 0 ≤ operandEnd (getD s 0 0)) (i : getD s 0 0 < 9) where
-  leaf-value : (k : ValueKind) → ViewV (getD s 0 0) k → kindOf (getD s 0 0) ≡ ofValue k → walkOf levelV (readV l s) ≡ walk.End (widthOf (getD s 0 0) + 1) 1
-  unfolding operands operandsV operandEnd
-  leaf-value k (isNull e) f = v-null l s h p o f ∙ flag-end 3 (getD s 1 0) (widthOf (getD s 0 0)) (rw e at q) (width-is (getD s 0 0) (ofValue kNull) f)
-  leaf-value k (isBoolean e) f = v-boolean l s h p o f ∙ flag-end 1 (getD s 1 0) (widthOf (getD s 0 0)) (rw e at q) (width-is (getD s 0 0) (ofValue kBoolean) f)
-  leaf-value k (isNumber e) f = v-number l s h p o (widthOf (getD s 0 0)) refl f
-  leaf-value k (isString e) f = v-string l s h p o (widthOf (getD s 0 0)) refl f
-  leaf-value k (isTemporal x y) f = v-temporal l s h p o (widthOf (getD s 0 0)) refl f
-  leaf-value k (isRange e) f = absurd (omega arith)
-  leaf-value k (isList e) f = absurd (omega arith)
-  leaf-value k (isContext e) f = absurd (omega arith)
-  leaf-value k (isDefinition e) f = absurd (omega arith)
-  leaf-value k (isBuiltIn e) f = absurd (omega arith)
-  leaf-value k (isFeelType e) f = absurd (omega arith)
-  leaf-value k (isIrrelevant e) f = absurd (omega arith)
+  leaf-of : (n : ℕ) → getD s 0 0 ≡ n → walkOf levelV (readV l s) ≡ walk.End (widthOf (getD s 0 0) + 1) 1
+  unfolding kindOf operands operandsV operandEnd
+  leaf-of zero e = v-null l s h p o (ap kindOf e) ∙ flag-end 3 (getD s 1 0) (widthOf (getD s 0 0)) (rw e at q) (width-is (getD s 0 0) (ofValue kNull) (ap kindOf e))
+  leaf-of (suc zero) e = v-boolean l s h p o (ap kindOf e) ∙ flag-end 1 (getD s 1 0) (widthOf (getD s 0 0)) (rw e at q) (width-is (getD s 0 0) (ofValue kBoolean) (ap kindOf e))
+  leaf-of (suc (suc n)) e = v-key l s h p o (widthOf (getD s 0 0)) refl (omega arith) i
 
-  leaf-view : (j : Kind) → View (getD s 0 0) j → kindOf (getD s 0 0) ≡ j → walkOf levelV (readV l s) ≡ walk.End (widthOf (getD s 0 0) + 1) 1
-  leaf-view j (isValue k v) f = leaf-value k v f
-  leaf-view j (isType k v) f = absurd (omega (arith, type-within (getD s 0 0) k v))
-  leaf-view j (isGap x y) f = absurd (omega arith)
-  leaf-view j (isBeyond x) f = absurd (omega arith)
-
-  leaf-is : walkOf levelV (readV l s) ≡ walk.End (widthOf (getD s 0 0) + 1) 1
-  leaf-is = leaf-view (kindOf (getD s 0 0)) (view (getD s 0 0)) refl
-
-pub short-leaf : (l : ℕ) (s : List ℕ) (at n : ℕ) → 0 < l → at < length s → (0 < n → (getD s at 0 < 9) × (n ≡ widthOf (getD s at 0) + 1)) → n ≤ length s - at → getD s (at + 1) 0 ≤ operandEnd (getD s at 0) → Short (walkOf levelV (readV l (drop at s))) n (length s - at)
-short-leaf l s at n p h f r q z =
-    let d : length (drop at s) ≡ length s - at = length-drop at s in
-    let a : getD (drop at s) 0 0 ≡ getD s at 0 = first-at s at in
-    let b : getD (drop at s) 1 0 ≡ getD s (at + 1) 0 = getD-drop at s 1 0 in
-    let w = f z .1 in
-    let o : widthOf (getD (drop at s) 0 0) ≤ length (drop at s) - 1 = rw (a, d) (omega (arith, w)) in
-    (leaf-is l (drop at s) (rw d (omega arith)) p o (rw (a, b) q) (rw a (f z .0)) ∙ end-is (rw a (sym w)) refl, r)
+  pub leaf-is : walkOf levelV (readV l s) ≡ walk.End (widthOf (getD s 0 0) + 1) 1
+  leaf-is = leaf-of (getD s 0 0) refl

@@ -3,6 +3,7 @@ pub mod Outcome
 pub mod Trees
 pub mod Form
 pub mod Layout
+pub mod Faults
 pub mod Read
 pub mod Answers
 pub mod Walks

@@ -10,8 +10,7 @@ use Rattle.form.specs.Limits.{nameWidth, mostBytes, valueLevels, typeLev
 use Rattle.form.specs.Form.{num, level, levelV}
 use Rattle.form.specs.Layout.{ValueKind, kNull, kBoolean, kNumber, kString, kTemporal, kRange, kList, kContext, kDefinition, kBuiltIn, kType, kIrrelevant, TypeKind, tSimple, tList, tRange, tContext, tFunction, Kind, ofValue, ofType, noCommand, kindOf}
 use Rattle.form.specs.Outcome.{Outcome, done, refused, _>>=_, _>>_, pick, check}
-use Rattle.form.specs.declared.Fault.{Fault}
-use Rattle.form.specs.declared.Fault.the-variants.{Shape, Names, Level}
+use Rattle.form.specs.Faults.{Fault, Shape, Names, Level, place}
 
 -- ---- what a reader finds: a tree and how many bytes it took, or the first fault from the left
 pub data Got (X : Type 0) : Type 0 where
@@ -157,9 +156,7 @@ readV (suc l) (b ∷ s) = stepV (readV l) (readT l) (kindOf b) b s
 
 -- ---- the whole: length first, leftovers last. Refusals are counted from `base`.
 unfoldable pub numberOf : ℕ → Fault → ℕ
-numberOf base Shape = base + 1
-numberOf base Names = base + 2
-numberOf base Level = base + 3
+numberOf base f = base + place f
 
 -- all n bytes were taken, or there are bytes left over
 unfoldable pub all : {X : Type 0} → ℕ → ℕ → Got X → Outcome X

@@ -1,7 +1,7 @@
 -- Types and values as trees: what the bytes mean. Nothing here speaks of bytes.
 -- Assumes nothing.
 use Prim.Native.Nat.{ℕ, zero, suc, _<_}
-use mathlib.Core.Bool.{Bool}
+use mathlib.Core.Bool.{Bool, true, false}
 
 -- the types 20 to 29, in this order
 pub data Simple : Type 0 where
@@ -64,6 +64,22 @@ mutual
   pub data Entries : Type 0 where
     no-entries : Entries
     entry : ℕ → Val → Entries → Entries
+
+-- one of the ten simple types
+abbrev pub simple : Ty → Bool
+simple (leaf s) = true
+simple (built x) = false
+
+-- a leaf of data: a null, boolean, number, string or temporal
+abbrev pub isDataLeaf : Val → Bool
+isDataLeaf (v-leaf l) = true
+isDataLeaf (v-range i j v w) = false
+isDataLeaf (v-list vs) = false
+isDataLeaf (v-context es) = false
+isDataLeaf (v-function ps b r) = false
+isDataLeaf (v-built-in n) = false
+isDataLeaf (v-type t) = false
+isDataLeaf v-irrelevant = false
 
 -- the place of a simple type among the bytes 20 to 29
 abbrev pub code : Simple → ℕ

@@ -1,53 +1,70 @@
 -- What the walks of the code answer: the reader's answer without the tree.
 -- Assumes nothing.
-use Prim.Native.Nat.{ℕ, _+_, _<_, _≤_, _^_, _/_, _%_, max}
+use Prim.Native.Nat.{ℕ, _+_, _≤_, max}
 use mathlib.Core.Path.{_≡_}
+use mathlib.Core.Bool.{Bool}
 use mathlib.Core.List.{List}
 use lib.ListN.{drop}
 use lib.Dec.{leb, eqb}
 use Rattle.form.specs.Outcome.{Outcome, done, refused, pick}
-use Rattle.form.specs.Read.{Got, got, bad, numberOf}
-use Rattle.form.specs.declared.Fault.the-variants.{Shape}
-use Rattle.form.specs.declared.Walk.{Walk}
-use Rattle.form.specs.declared.Walk.the-variants as walk
+use Rattle.form.specs.Faults.{Fault, Shape, place}
+use Rattle.form.specs.Read.{Got, got, bad}
+
+-- where it ended, and the level of what it passed
+pub data Walk : Type 0 where
+  End : ℕ → ℕ → Walk
+  Stop : Fault → Walk
 
 -- the bytes that were taken and the level
 unfoldable pub walkOf : {X : Type 0} → (X → ℕ) → Got X → Walk
-walkOf lv (got x n) = walk.End n (lv x)
-walkOf lv (bad f) = walk.Fault f
+walkOf lv (got x n) = End n (lv x)
+walkOf lv (bad f) = Stop f
 
 -- the same, behind `at` bytes of level `deep`
 unfoldable pub walkBy : {X : Type 0} → (X → ℕ) → ℕ → ℕ → Got X → Walk
-walkBy lv at deep (got x n) = walk.End (at + n) (max deep (lv x))
-walkBy lv at deep (bad f) = walk.Fault f
+walkBy lv at deep (got x n) = End (at + n) (max deep (lv x))
+walkBy lv at deep (bad f) = Stop f
 
 -- two parts, the second behind the first
 unfoldable pub pairWalk : {X Y : Type 0} → (X → ℕ) → (Y → ℕ) → List ℕ → (List ℕ → Got Y) → Got X → Walk
 pairWalk lx ly s rest (got x n) = walkBy ly n (lx x) (rest (drop n s))
-pairWalk lx ly s rest (bad f) = walk.Fault f
+pairWalk lx ly s rest (bad f) = Stop f
 
 -- k bytes in front and one level on top
 abbrev pub up : ℕ → Walk → Walk
-up k (walk.End n l) = walk.End (n + k) (l + 1)
-up k (walk.Fault f) = walk.Fault f
+up k (End n l) = End (n + k) (l + 1)
+up k (Stop f) = Stop f
 
--- there is room for that
-abbrev pub Room : Walk → ℕ → Type 0
-Room (walk.End n l) k = (n + k < 2 ^ 64) × (l + 1 < 2 ^ 64)
-Room (walk.Fault f) k = Unit {0}
+-- the answer of the code: the bytes taken, 0 for a fault
+abbrev pub sizeIn : Walk → ℕ
+sizeIn (End n l) = n
+sizeIn (Stop f) = 0
 
--- a walk that ended did so within n bytes, and its level is small
+-- and what it leaves behind: the level, or the fault's number
+abbrev pub toldIn : Walk → ℕ
+toldIn (End n l) = l
+toldIn (Stop f) = place f
+
+-- a walk that ended took some bytes, at most n, and its level is small
 abbrev pub Inside : Walk → ℕ → Type 0
-Inside (walk.End size lv) n = (size ≤ n) × (lv ≤ size)
-Inside (walk.Fault f) n = Unit {0}
+Inside (End size lv) n = (1 ≤ size) × ((size ≤ n) × (lv ≤ size))
+Inside (Stop f) n = Unit {0}
 
--- a short way past n bytes, taken where n is not 0: the walk is one of a leaf of n bytes, and there is room for them
-abbrev pub Short : Walk → ℕ → ℕ → Type 0
-Short w n room = 0 < n → (w ≡ walk.End n 1) × (n ≤ room)
+-- the code's answer r, with t left behind, is that of the walk w, which stays within n bytes
+pub record Told (w : Walk) (n r t : ℕ) : Type 0 where
+  pub size : r ≡ sizeIn w
+  pub told : t ≡ toldIn w
+  pub inside : Inside w n
 
--- a walk in one number, size * 64 + level, taken where it is not 0: the walk ended so, within n bytes, and its level is small
-abbrev pub Packed : Walk → ℕ → ℕ → Type 0
-Packed w r n = 0 < r → (w ≡ walk.End (r / 64) (r % 64)) × ((r / 64 ≤ n) × (r % 64 ≤ r / 64))
+-- the bytes of what was read where it is a leaf, 0 where it is none
+unfoldable pub leafIn : {X : Type 0} → (X → Bool) → Got X → ℕ
+leafIn isLeaf (got x n) = pick (isLeaf x) n 0
+leafIn isLeaf (bad f) = 0
+
+-- a short way past a leaf: n is its bytes, 0 where there is none, and there is room for them
+pub record Short {X : Type 0} (isLeaf : X → Bool) (g : Got X) (n len : ℕ) : Type 0 where
+  pub size : n ≡ leafIn isLeaf g
+  pub room : n ≤ len
 
 -- the largest operand byte of a leaf of data: a null's trace, a boolean's byte; a key or a text has any
 unfoldable pub operandEnd : ℕ → ℕ
@@ -55,9 +72,8 @@ operandEnd b = pick (eqb b 0x00) 3 (pick (eqb b 0x01) 1 255)
 
 -- a leaf with one operand byte, at most m
 abbrev pub flagWalk : ℕ → ℕ → Walk
-flagWalk x m = pick (leb x m) (walk.End 2 1) (walk.Fault Shape)
+flagWalk x m = pick (leb x m) (End 2 1) (Stop Shape)
 
 -- a whole of n bytes, after its walk
-unfoldable pub settled : ℕ → ℕ → Walk → Outcome ℕ
-settled base n (walk.End size lv) = pick (eqb size n) (done lv) (refused (base + 4))
-settled base n (walk.Fault f) = refused (numberOf base f)
+unfoldable pub settled : ℕ → ℕ → ℕ → ℕ → Outcome ℕ
+settled base n size told = pick (eqb size 0) (refused (base + told)) (pick (eqb size n) (done told) (refused (base + 4)))

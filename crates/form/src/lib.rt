@@ -1,12 +1,15 @@
 // The byte form of document 01: one walk over a value or a type says where it ends and its level, or the first fault.
 ghost use mathlib.Core.Path.{_≡_};
-ghost use Prim.Native.Nat.{ℕ, _+_, _*_, _-_, _/_, _%_, _<_, _≤_, max};
-ghost use lib.ListN.{length, drop};
+ghost use Prim.Native.Nat.{ℕ, _+_, _*_, _-_, _<_, _≤_, _^_, max};
+ghost use lib.ListN.{length, drop, getD};
+ghost use lib.Dec.{ltb};
 ghost use Rattle.form.specs.Limits.{nameWidth, nameEnd};
+ghost use Rattle.form.specs.Trees.{simple, isDataLeaf};
+ghost use Rattle.form.specs.Outcome.{pick};
 ghost use Rattle.form.specs.Form.{numAt, level, levelFields, levelTys, levelParams, levelV, levelVals, levelEntries, Bytes};
 ghost use Rattle.form.specs.Layout.{widthOf};
-ghost use Rattle.form.specs.Read.{readT, readFields, readTys, readParams, readV, readVals, readEntries, numberOf, checkType, checkValue};
-ghost use Rattle.form.specs.Walks.{walkOf, walkBy, pairWalk, up, Room, Inside, Short, Packed, operandEnd, flagWalk, settled};
+ghost use Rattle.form.specs.Read.{readT, readFields, readTys, readParams, readV, readVals, readEntries, checkType, checkValue};
+ghost use Rattle.form.specs.Walks.{walkOf, walkBy, pairWalk, up, Told, Short, operandEnd, flagWalk, settled};
 ghost use Rattle.form.specs.Answers.{checked};
 
 // The limits of document 01; specs/Limits.antt has the same numbers.
@@ -23,17 +26,11 @@ const VALUE_REFUSALS: u8 = 1;
 const TYPE_REFUSALS: u8 = 6;
 
 // The first fault from the left: ends inside, unknown command or operand; names not ascending; too deep.
-pub enum Fault {
-    Shape,
-    Names,
-    Level,
-}
+const SHAPE: usize = 1;
 
-// Where a walk ended, and the level of what it passed.
-pub enum Walk {
-    End { size: usize, level: usize },
-    Fault(Fault),
-}
+const NAMES: usize = 2;
+
+const LEVEL: usize = 3;
 
 // What a reader of a whole answers: its level, or the number of the refusal.
 pub enum Checked {
@@ -150,28 +147,30 @@ pub fn larger(a: usize, b: usize) -> usize
     if a < b { b } else { a }
 }
 
-// A parent over what was walked: k bytes in front, one level on top.
-fn lift(w: Walk, k: usize) -> Walk
-    requires { ⌜ Room w k ⌝ }
-    ensures { λ r. ⌜ r ≡ up k w ⌝ }
+// ---- walks: each answers the bytes that it took, 0 for a fault, and leaves the level, or the fault, in `told`. An enum would come back through memory, a number does not.
+
+fn end(size: usize, level: usize, told: &mut usize) -> usize
+    ensures { λ r. ⌜ (r ≡ size) × (now (told .exit) ≡ level) ⌝ }
 {
-    match w {
-        Walk::End { size, level } => Walk::End {
-            size: size + k,
-            level: level + 1,
-        },
-        Walk::Fault(f) => Walk::Fault(f),
-    }
+    *told = level;
+    size
+}
+
+fn fault(f: usize, told: &mut usize) -> usize
+    ensures { λ r. ⌜ (r ≡ 0) × (now (told .exit) ≡ f) ⌝ }
+{
+    *told = f;
+    0
 }
 
 // A leaf with one operand byte, which is at most `most`.
-fn flag(x: u8, most: u8) -> Walk
-    ensures { λ r. ⌜ r ≡ flagWalk x most ⌝ }
+fn flag(x: u8, most: u8, told: &mut usize) -> usize
+    ensures { λ r. ⌜ Told (flagWalk x most) 2 r (now (told .exit)) ⌝ }
 {
     if x <= most {
-        Walk::End { size: 2, level: 1 }
+        end(2, 1, told)
     } else {
-        Walk::Fault(Fault::Shape)
+        fault(SHAPE, told)
     }
 }
 
@@ -180,7 +179,7 @@ fn flag(x: u8, most: u8) -> Walk
 // The size of the type at `at` where it is a simple one, 0 where it is not: a short way past most types.
 pub fn simple_at(s: &[u8], at: usize, left: usize) -> usize
     requires { ⌜ at ≤ length (now s) ⌝ }
-    ensures { λ r. ⌜ Short (walkOf level (readT left (drop at (now (s .entry))))) r (length (now (s .entry)) - at) ⌝ }
+    ensures { λ r. ⌜ Short simple (readT left (drop at (now (s .entry)))) r (length (now (s .entry)) - at) ⌝ }
 {
     if left == 0 {
         return 0;
@@ -194,34 +193,39 @@ pub fn simple_at(s: &[u8], at: usize, left: usize) -> usize
     }
 }
 
-pub fn walk_type(s: &[u8], left: usize) -> Walk
-    ensures { λ r. ⌜ r ≡ walkOf level (readT left (now (s .entry))) ⌝ }
-    ensures { λ r. ⌜ Inside r (length (now (s .entry))) ⌝ }
+pub fn walk_type(s: &[u8], left: usize, told: &mut usize) -> usize
+    ensures { λ r. ⌜ Told (walkOf level (readT left (now (s .entry)))) (length (now (s .entry))) r (now (told .exit)) ⌝ }
 {
     if s.len() == 0 {
-        return Walk::Fault(Fault::Shape);
+        return fault(SHAPE, told);
     }
     if left == 0 {
-        return Walk::Fault(Fault::Level);
+        return fault(LEVEL, told);
     }
-    let c = s[0];
-    let w = width(c);
-    if s.len() - 1 < w {
-        return Walk::Fault(Fault::Shape);
-    }
-    match c {
-        0x20..=0x29 => Walk::End { size: 1, level: 1 },
-        0x2A | 0x2B => lift(walk_type(&s[1..], left - 1), 1),
-        0x2C => lift(walk_fields(&s[3..], word_at(s, 1), left - 1), 3),
-        0x2D => lift(walk_types(&s[2..], wide(s[1]) + 1, left - 1), 2),
-        _ => Walk::Fault(Fault::Shape),
+    match s[0] {
+        0x20..=0x29 => end(1, 1, told),
+        0x2A => walk_types(&s[1..], 1, 1, left - 1, told),
+        0x2B => walk_types(&s[1..], 1, 1, left - 1, told),
+        0x2C => {
+            if s.len() < 3 {
+                return fault(SHAPE, told);
+            }
+            walk_fields(&s[3..], word_at(s, 1), left - 1, told)
+        }
+        0x2D => {
+            if s.len() < 2 {
+                return fault(SHAPE, told);
+            }
+            walk_types(&s[2..], 2, wide(s[1]) + 1, left - 1, told)
+        }
+        _ => fault(SHAPE, told),
     }
 }
 
-// `count` entries of a context type, their names strictly ascending.
-fn walk_fields(s: &[u8], count: usize, left: usize) -> Walk
-    ensures { λ r. ⌜ r ≡ walkBy levelFields 0 0 (readFields (readT left) count 0 (now (s .entry))) ⌝ }
-    ensures { λ r. ⌜ Inside r (length (now (s .entry))) ⌝ }
+// `count` entries of a context type, their names strictly ascending; behind three bytes of their parent.
+fn walk_fields(s: &[u8], count: usize, left: usize, told: &mut usize) -> usize
+    requires { ⌜ length (now s) + 3 < 2 ^ 64 ⌝ }
+    ensures { λ r. ⌜ Told (up 3 (walkBy levelFields 0 0 (readFields (readT left) count 0 (now (s .entry))))) (length (now (s .entry)) + 3) r (now (told .exit)) ⌝ }
 {
     let mut at: usize = 0;
     let mut deep: usize = 0;
@@ -229,73 +233,62 @@ fn walk_fields(s: &[u8], count: usize, left: usize) -> Walk
     let mut i: usize = 0;
     while i < count {
         if s.len() - at < NAME_WIDTH {
-            return Walk::Fault(Fault::Shape);
+            return fault(SHAPE, told);
         }
         let name = name_at(s, at);
         if name < least {
-            return Walk::Fault(Fault::Names);
+            return fault(NAMES, told);
         }
         let from = at + NAME_WIDTH;
+        least = name + 1;
+        i += 1;
         let n = simple_at(s, from, left);
         if n != 0 {
             at = from + n;
             deep = larger(deep, 1);
-            least = name + 1;
-            i += 1;
             continue;
         }
-        match walk_type(&s[from..], left) {
-            Walk::End { size, level } => {
-                at = from + size;
-                deep = larger(deep, level);
-            }
-            Walk::Fault(f) => return Walk::Fault(f),
+        let size = walk_type(&s[from..], left, told);
+        if size == 0 {
+            return 0;
         }
-        least = name + 1;
-        i += 1;
+        at = from + size;
+        deep = larger(deep, *told);
     }
-    Walk::End {
-        size: at,
-        level: deep,
-    }
+    end(at + 3, deep + 1, told)
 }
 
-// `count` types, one behind the other.
-fn walk_types(s: &[u8], count: usize, left: usize) -> Walk
-    ensures { λ r. ⌜ r ≡ walkBy levelTys 0 0 (readTys (readT left) count (now (s .entry))) ⌝ }
-    ensures { λ r. ⌜ Inside r (length (now (s .entry))) ⌝ }
+// `count` types, one behind the other; behind k bytes of their parent.
+fn walk_types(s: &[u8], k: usize, count: usize, left: usize, told: &mut usize) -> usize
+    requires { ⌜ (1 ≤ k) × (length (now s) + k < 2 ^ 64) ⌝ }
+    ensures { λ r. ⌜ Told (up k (walkBy levelTys 0 0 (readTys (readT left) count (now (s .entry))))) (length (now (s .entry)) + k) r (now (told .exit)) ⌝ }
 {
     let mut at: usize = 0;
     let mut deep: usize = 0;
     let mut i: usize = 0;
     while i < count {
+        i += 1;
         let n = simple_at(s, at, left);
         if n != 0 {
             at = at + n;
             deep = larger(deep, 1);
-            i += 1;
             continue;
         }
-        match walk_type(&s[at..], left) {
-            Walk::End { size, level } => {
-                at = at + size;
-                deep = larger(deep, level);
-            }
-            Walk::Fault(f) => return Walk::Fault(f),
+        let size = walk_type(&s[at..], left, told);
+        if size == 0 {
+            return 0;
         }
-        i += 1;
+        at = at + size;
+        deep = larger(deep, *told);
     }
-    Walk::End {
-        size: at,
-        level: deep,
-    }
+    end(at + k, deep + 1, told)
 }
 
 // ---- values
 
 // The size of a leaf of data by its command, 0 for every other command.
 pub fn leaf_size(c: u8) -> usize
-    ensures { λ r. ⌜ (0 < r → (c < 9) × (r ≡ widthOf c + 1)) ⌝ }
+    ensures { λ r. ⌜ r ≡ pick (ltb c 9) (widthOf c + 1) 0 ⌝ }
 {
     match c {
         0x00 | 0x01 => 2,
@@ -319,7 +312,7 @@ fn operand_end(c: u8) -> u8
 // The size of the value at `at` where it is a leaf of data, 0 where it is not: a short way past most values.
 pub fn key_at(s: &[u8], at: usize, left: usize) -> usize
     requires { ⌜ at ≤ length (now s) ⌝ }
-    ensures { λ r. ⌜ Short (walkOf levelV (readV left (drop at (now (s .entry))))) r (length (now (s .entry)) - at) ⌝ }
+    ensures { λ r. ⌜ Short isDataLeaf (readV left (drop at (now (s .entry)))) r (length (now (s .entry)) - at) ⌝ }
 {
     if left == 0 {
         return 0;
@@ -335,430 +328,175 @@ pub fn key_at(s: &[u8], at: usize, left: usize) -> usize
     if s.len() - at < n {
         return 0;
     }
-    if operand_end(c) < s[at + 1] {
-        return 0;
+    if c < 2 {
+        if operand_end(c) < s[at + 1] {
+            return 0;
+        }
     }
     n
 }
 
-// `count` names and types of a definition, in any order, behind `start` bytes of level `top`.
-fn walk_parameters(s: &[u8], start: usize, top: usize, count: usize, left: usize) -> Walk
-    requires { ⌜ (start ≤ length (now s)) × (top ≤ start) ⌝ }
-    ensures { λ r. ⌜ r ≡ walkBy levelParams start top (readParams (readT left) count 0 (drop start (now (s .entry)))) ⌝ }
-    ensures { λ r. ⌜ Inside r (length (now (s .entry))) ⌝ }
+// A definition behind its four bytes: the result type, then `count` names and types in any order.
+fn walk_definition(s: &[u8], count: usize, left: usize, told: &mut usize) -> usize
+    requires { ⌜ length (now s) + 4 < 2 ^ 64 ⌝ }
+    ensures { λ r. ⌜ Told (up 4 (pairWalk level levelParams (now (s .entry)) (readParams (readT left) count 0) (readT left (now (s .entry))))) (length (now (s .entry)) + 4) r (now (told .exit)) ⌝ }
 {
-    let mut at = start;
-    let mut deep = top;
+    let mut at = walk_type(s, left, told);
+    if at == 0 {
+        return 0;
+    }
+    let mut deep = *told;
     let mut i: usize = 0;
     while i < count {
         if s.len() - at < NAME_WIDTH {
-            return Walk::Fault(Fault::Shape);
+            return fault(SHAPE, told);
         }
         let from = at + NAME_WIDTH;
-        match walk_type(&s[from..], left) {
-            Walk::End { size, level } => {
-                at = from + size;
-                deep = larger(deep, level);
-            }
-            Walk::Fault(f) => return Walk::Fault(f),
+        let size = walk_type(&s[from..], left, told);
+        if size == 0 {
+            return 0;
         }
+        at = from + size;
+        deep = larger(deep, *told);
         i += 1;
     }
-    Walk::End {
-        size: at,
-        level: deep,
-    }
+    end(at + 4, deep + 1, told)
 }
 
-// The result type of a definition, then its parameters.
-fn walk_definition(s: &[u8], count: usize, left: usize) -> Walk
-    ensures { λ r. ⌜ r ≡ pairWalk level levelParams (now (s .entry)) (readParams (readT left) count 0) (readT left (now (s .entry))) ⌝ }
-    ensures { λ r. ⌜ Inside r (length (now (s .entry))) ⌝ }
-{
-    match walk_type(s, left) {
-        Walk::End { size, level } => walk_parameters(s, size, level, count, left),
-        Walk::Fault(f) => Walk::Fault(f),
-    }
-}
-
-pub fn walk_value(s: &[u8], left: usize) -> Walk
-    ensures { λ r. ⌜ r ≡ walkOf levelV (readV left (now (s .entry))) ⌝ }
-    ensures { λ r. ⌜ Inside r (length (now (s .entry))) ⌝ }
+// A value that is no range, list or context.
+fn walk_other(s: &[u8], left: usize, told: &mut usize) -> usize
+    requires { ⌜ (3 ≤ length (now s) → 9 ≤ getD (now s) 0 0 → 11 < getD (now s) 0 0) ⌝ }
+    ensures { λ r. ⌜ Told (walkOf levelV (readV left (now (s .entry)))) (length (now (s .entry))) r (now (told .exit)) ⌝ }
 {
     if s.len() == 0 {
-        return Walk::Fault(Fault::Shape);
+        return fault(SHAPE, told);
     }
     if left == 0 {
-        return Walk::Fault(Fault::Level);
+        return fault(LEVEL, told);
     }
     let c = s[0];
     let w = width(c);
     if s.len() - 1 < w {
-        return Walk::Fault(Fault::Shape);
+        return fault(SHAPE, told);
     }
     match c {
-        0x00 => flag(s[1], 3),
-        0x01 => flag(s[1], 1),
-        0x02 => Walk::End {
-            size: w + 1,
-            level: 1,
-        },
-        0x03 => Walk::End {
-            size: w + 1,
-            level: 1,
-        },
-        0x04..=0x08 => Walk::End {
-            size: w + 1,
-            level: 1,
-        },
-        0x09 => {
-            let a = s[1];
-            let b = s[2];
-            if 3 < a {
-                return Walk::Fault(Fault::Shape);
-            }
-            if 3 < b {
-                return Walk::Fault(Fault::Shape);
-            }
-            lift(walk_items(&s[3..], 2, left - 1), 3)
-        }
-        0x0A => lift(walk_items(&s[3..], word_at(s, 1), left - 1), 3),
-        0x0B => lift(walk_entries(&s[3..], word_at(s, 1), left - 1), 3),
-        0x0C => lift(walk_definition(&s[4..], wide(s[1]), left - 1), 4),
-        0x0D => flag(s[1], 85),
-        0x0E => lift(walk_type(&s[1..], left - 1), 1),
-        0x0F => Walk::End { size: 1, level: 1 },
-        _ => Walk::Fault(Fault::Shape),
+        0x00 => flag(s[1], 3, told),
+        0x01 => flag(s[1], 1, told),
+        0x02..=0x08 => end(w + 1, 1, told),
+        0x0C => walk_definition(&s[4..], wide(s[1]), left - 1, told),
+        0x0D => flag(s[1], 85, told),
+        0x0E => walk_types(&s[1..], 1, 1, left - 1, told),
+        0x0F => end(1, 1, told),
+        _ => fault(SHAPE, told),
     }
 }
 
-// `count` values, one behind the other.
-fn walk_items(s: &[u8], count: usize, left: usize) -> Walk
-    ensures { λ r. ⌜ r ≡ walkBy levelVals 0 0 (readVals (readV left) count (now (s .entry))) ⌝ }
-    ensures { λ r. ⌜ Inside r (length (now (s .entry))) ⌝ }
+// The commands that most records have stand here, so that the call is short.
+pub fn walk_value(s: &[u8], left: usize, told: &mut usize) -> usize
+    ensures { λ r. ⌜ Told (walkOf levelV (readV left (now (s .entry)))) (length (now (s .entry))) r (now (told .exit)) ⌝ }
 {
-    let mut at: usize = 0;
-    let mut deep: usize = 0;
-    let mut i: usize = 0;
-    while i < count {
-        let n = key_at(s, at, left);
-        if n != 0 {
-            at = at + n;
-            deep = larger(deep, 1);
-            i += 1;
-            continue;
-        }
-        match walk_value(&s[at..], left) {
-            Walk::End { size, level } => {
-                at = at + size;
-                deep = larger(deep, level);
-            }
-            Walk::Fault(f) => return Walk::Fault(f),
-        }
-        i += 1;
-    }
-    Walk::End {
-        size: at,
-        level: deep,
-    }
-}
-
-// `count` entries of a context, their names strictly ascending.
-fn walk_entries(s: &[u8], count: usize, left: usize) -> Walk
-    ensures { λ r. ⌜ r ≡ walkBy levelEntries 0 0 (readEntries (readV left) count 0 (now (s .entry))) ⌝ }
-    ensures { λ r. ⌜ Inside r (length (now (s .entry))) ⌝ }
-{
-    let mut at: usize = 0;
-    let mut deep: usize = 0;
-    let mut least: usize = 0;
-    let mut i: usize = 0;
-    while i < count {
-        if s.len() - at < NAME_WIDTH {
-            return Walk::Fault(Fault::Shape);
-        }
-        let name = name_at(s, at);
-        if name < least {
-            return Walk::Fault(Fault::Names);
-        }
-        let from = at + NAME_WIDTH;
-        let n = key_at(s, from, left);
-        if n != 0 {
-            at = from + n;
-            deep = larger(deep, 1);
-            least = name + 1;
-            i += 1;
-            continue;
-        }
-        match walk_value(&s[from..], left) {
-            Walk::End { size, level } => {
-                at = from + size;
-                deep = larger(deep, level);
-            }
-            Walk::Fault(f) => return Walk::Fault(f),
-        }
-        least = name + 1;
-        i += 1;
-    }
-    Walk::End {
-        size: at,
-        level: deep,
-    }
-}
-
-// ---- passes: walks with size and level in one number, size * 64 + level, and 0 where the plain walk must tell. An enum comes back through memory, a number does not.
-
-// The number of a size and a level, 0 where they are too large for it.
-fn pack(size: usize, level: usize) -> usize
-    ensures { λ r. ⌜ (0 < r → (r / 64 ≡ size) × (r % 64 ≡ level)) ⌝ }
-{
-    if MOST_BYTES < size {
-        return 0;
-    }
-    if 63 < level {
-        return 0;
-    }
-    size * 64 + level
-}
-
-// The number of a parent over children of this size and level: k bytes in front, one level on top.
-fn pack_parent(size: usize, level: usize, k: usize) -> usize
-    ensures { λ r. ⌜ (0 < r → (r / 64 ≡ size + k) × (r % 64 ≡ level + 1)) ⌝ }
-{
-    if MOST_BYTES < size {
-        return 0;
-    }
-    if MOST_BYTES < k {
-        return 0;
-    }
-    if 62 < level {
-        return 0;
-    }
-    (size + k) * 64 + (level + 1)
-}
-
-// The plain walk over a type as a pass.
-fn plain_type(s: &[u8], left: usize) -> usize
-    ensures { λ r. ⌜ Packed (walkOf level (readT left (now (s .entry)))) r (length (now (s .entry))) ⌝ }
-{
-    match walk_type(s, left) {
-        Walk::End { size, level } => pack(size, level),
-        Walk::Fault(_) => 0,
-    }
-}
-
-// A pass over a type that is no simple one.
-pub fn pass_type(s: &[u8], left: usize) -> usize
-    ensures { λ r. ⌜ Packed (walkOf level (readT left (now (s .entry)))) r (length (now (s .entry))) ⌝ }
-{
-    if left == 0 {
-        return 0;
-    }
     if s.len() < 3 {
-        return plain_type(s, left);
+        return walk_other(&s[0..], left, told);
     }
-    match s[0] {
-        0x2A => pass_types(&s[1..], 1, 1, left - 1),
-        0x2B => pass_types(&s[1..], 1, 1, left - 1),
-        0x2C => pass_fields(&s[3..], 3, word_at(s, 1), left - 1),
-        0x2D => pass_types(&s[2..], 2, wide(s[1]) + 1, left - 1),
-        _ => plain_type(s, left),
-    }
-}
-
-// A pass over `count` types behind k bytes of their parent.
-fn pass_types(s: &[u8], k: usize, count: usize, left: usize) -> usize
-    requires { ⌜ 1 ≤ k ⌝ }
-    ensures { λ r. ⌜ Packed (up k (walkBy levelTys 0 0 (readTys (readT left) count (now (s .entry))))) r (length (now (s .entry)) + k) ⌝ }
-{
-    let mut at: usize = 0;
-    let mut deep: usize = 0;
-    let mut i: usize = 0;
-    while i < count {
-        let n = simple_at(s, at, left);
-        if n != 0 {
-            at = at + n;
-            deep = larger(deep, 1);
-            i += 1;
-            continue;
-        }
-        let w = pass_type(&s[at..], left);
-        if w == 0 {
-            return 0;
-        }
-        at = at + w / 64;
-        deep = larger(deep, w % 64);
-        i += 1;
-    }
-    pack_parent(at, deep, k)
-}
-
-// A pass over `count` entries of a context type behind k bytes of their parent.
-fn pass_fields(s: &[u8], k: usize, count: usize, left: usize) -> usize
-    requires { ⌜ 1 ≤ k ⌝ }
-    ensures { λ r. ⌜ Packed (up k (walkBy levelFields 0 0 (readFields (readT left) count 0 (now (s .entry))))) r (length (now (s .entry)) + k) ⌝ }
-{
-    let mut at: usize = 0;
-    let mut deep: usize = 0;
-    let mut least: usize = 0;
-    let mut i: usize = 0;
-    while i < count {
-        if s.len() - at < NAME_WIDTH {
-            return 0;
-        }
-        let name = name_at(s, at);
-        if name < least {
-            return 0;
-        }
-        let from = at + NAME_WIDTH;
-        let n = simple_at(s, from, left);
-        if n != 0 {
-            at = from + n;
-            deep = larger(deep, 1);
-            least = name + 1;
-            i += 1;
-            continue;
-        }
-        let w = pass_type(&s[from..], left);
-        if w == 0 {
-            return 0;
-        }
-        at = from + w / 64;
-        deep = larger(deep, w % 64);
-        least = name + 1;
-        i += 1;
-    }
-    pack_parent(at, deep, k)
-}
-
-// The plain walk over a value as a pass.
-fn plain_value(s: &[u8], left: usize) -> usize
-    ensures { λ r. ⌜ Packed (walkOf levelV (readV left (now (s .entry)))) r (length (now (s .entry))) ⌝ }
-{
-    match walk_value(s, left) {
-        Walk::End { size, level } => pack(size, level),
-        Walk::Fault(_) => 0,
-    }
-}
-
-// A pass over a value that is a range, a list or a context.
-pub fn pass_value(s: &[u8], left: usize) -> usize
-    ensures { λ r. ⌜ Packed (walkOf levelV (readV left (now (s .entry)))) r (length (now (s .entry))) ⌝ }
-{
     if left == 0 {
-        return 0;
-    }
-    if s.len() < 3 {
-        return plain_value(s, left);
+        return fault(LEVEL, told);
     }
     match s[0] {
         0x09 => {
             if 3 < s[1] {
-                return 0;
+                return fault(SHAPE, told);
             }
             if 3 < s[2] {
-                return 0;
+                return fault(SHAPE, told);
             }
-            pass_items(&s[3..], 3, 2, left - 1)
+            walk_items(&s[3..], 2, left - 1, told)
         }
-        0x0A => pass_items(&s[3..], 3, word_at(s, 1), left - 1),
-        0x0B => pass_entries(&s[3..], 3, word_at(s, 1), left - 1),
-        _ => plain_value(s, left),
+        0x0A => walk_items(&s[3..], word_at(s, 1), left - 1, told),
+        0x0B => walk_entries(&s[3..], word_at(s, 1), left - 1, told),
+        _ => walk_other(&s[0..], left, told),
     }
 }
 
-// A pass over `count` values behind k bytes of their parent.
-fn pass_items(s: &[u8], k: usize, count: usize, left: usize) -> usize
-    requires { ⌜ 1 ≤ k ⌝ }
-    ensures { λ r. ⌜ Packed (up k (walkBy levelVals 0 0 (readVals (readV left) count (now (s .entry))))) r (length (now (s .entry)) + k) ⌝ }
+// `count` values, one behind the other; behind three bytes of their parent.
+fn walk_items(s: &[u8], count: usize, left: usize, told: &mut usize) -> usize
+    requires { ⌜ length (now s) + 3 < 2 ^ 64 ⌝ }
+    ensures { λ r. ⌜ Told (up 3 (walkBy levelVals 0 0 (readVals (readV left) count (now (s .entry))))) (length (now (s .entry)) + 3) r (now (told .exit)) ⌝ }
 {
+    if 0 == count {
+        return end(3, 1, told);
+    }
     let mut at: usize = 0;
-    let mut deep: usize = 0;
+    let mut deep: usize = 1;
     let mut i: usize = 0;
     while i < count {
+        i += 1;
         let n = key_at(s, at, left);
         if n != 0 {
             at = at + n;
-            deep = larger(deep, 1);
-            i += 1;
             continue;
         }
-        let w = pass_value(&s[at..], left);
-        if w == 0 {
+        let size = walk_value(&s[at..], left, told);
+        if size == 0 {
             return 0;
         }
-        at = at + w / 64;
-        deep = larger(deep, w % 64);
-        i += 1;
+        at = at + size;
+        deep = larger(deep, *told);
     }
-    pack_parent(at, deep, k)
+    end(at + 3, deep + 1, told)
 }
 
-// A pass over `count` entries of a context behind k bytes of their parent.
-fn pass_entries(s: &[u8], k: usize, count: usize, left: usize) -> usize
-    requires { ⌜ 1 ≤ k ⌝ }
-    ensures { λ r. ⌜ Packed (up k (walkBy levelEntries 0 0 (readEntries (readV left) count 0 (now (s .entry))))) r (length (now (s .entry)) + k) ⌝ }
+// `count` entries of a context, their names strictly ascending; behind three bytes of their parent.
+fn walk_entries(s: &[u8], count: usize, left: usize, told: &mut usize) -> usize
+    requires { ⌜ length (now s) + 3 < 2 ^ 64 ⌝ }
+    ensures { λ r. ⌜ Told (up 3 (walkBy levelEntries 0 0 (readEntries (readV left) count 0 (now (s .entry))))) (length (now (s .entry)) + 3) r (now (told .exit)) ⌝ }
 {
+    if 0 == count {
+        return end(3, 1, told);
+    }
     let mut at: usize = 0;
-    let mut deep: usize = 0;
+    let mut deep: usize = 1;
     let mut least: usize = 0;
     let mut i: usize = 0;
     while i < count {
         if s.len() - at < NAME_WIDTH {
-            return 0;
+            return fault(SHAPE, told);
         }
         let name = name_at(s, at);
         if name < least {
-            return 0;
+            return fault(NAMES, told);
         }
         let from = at + NAME_WIDTH;
+        least = name + 1;
+        i += 1;
         let n = key_at(s, from, left);
         if n != 0 {
             at = from + n;
-            deep = larger(deep, 1);
-            least = name + 1;
-            i += 1;
             continue;
         }
-        let w = pass_value(&s[from..], left);
-        if w == 0 {
+        let size = walk_value(&s[from..], left, told);
+        if size == 0 {
             return 0;
         }
-        at = from + w / 64;
-        deep = larger(deep, w % 64);
-        least = name + 1;
-        i += 1;
+        at = from + size;
+        deep = larger(deep, *told);
     }
-    pack_parent(at, deep, k)
+    end(at + 3, deep + 1, told)
 }
 
 // ---- the whole
 
-fn number(f: Fault, base: u8) -> u8
-    requires { ⌜ base ≤ 6 ⌝ }
-    ensures { λ r. ⌜ r ≡ numberOf base f ⌝ }
-{
-    match f {
-        Fault::Shape => base + 1,
-        Fault::Names => base + 2,
-        Fault::Level => base + 3,
-    }
-}
-
 // The answer to a whole of `len` bytes after its walk. Refusals are counted from `base`: 1 for values, 6 for types.
-fn settle(w: Walk, len: usize, base: u8) -> Checked
-    requires { ⌜ base ≤ 6 ⌝ }
-    ensures { λ r. ⌜ checked r ≡ settled base len w ⌝ }
+fn settle(size: usize, told: usize, len: usize, base: u8) -> Checked
+    requires { ⌜ (base ≤ 6) × (size ≡ 0 → told ≤ 3) ⌝ }
+    ensures { λ r. ⌜ checked r ≡ settled base len size told ⌝ }
 {
-    match w {
-        Walk::End { size, level } => {
-            if size == len {
-                Checked::Accepted { level }
-            } else {
-                Checked::Refused(base + 4)
-            }
-        }
-        Walk::Fault(f) => Checked::Refused(number(f, base)),
+    if size == 0 {
+        return Checked::Refused(base + told as u8);
     }
+    if size == len {
+        return Checked::Accepted { level: told };
+    }
+    Checked::Refused(base + 4)
 }
 
 // The reader of a whole type: its level, or refusal 6 to 10.
@@ -772,11 +510,9 @@ pub fn check_type(s: &[u8]) -> Checked
     if MOST_BYTES < s.len() {
         return Checked::Refused(TYPE_REFUSALS);
     }
-    let w = pass_type(s, TYPE_LEVELS);
-    if w / 64 == s.len() {
-        return Checked::Accepted { level: w % 64 };
-    }
-    settle(walk_type(s, TYPE_LEVELS), s.len(), TYPE_REFUSALS)
+    let mut told: usize = 0;
+    let size = walk_type(s, TYPE_LEVELS, &mut told);
+    settle(size, told, s.len(), TYPE_REFUSALS)
 }
 
 // The reader of a whole value: its level, or refusal 1 to 5.
@@ -790,9 +526,7 @@ pub fn check_value(s: &[u8]) -> Checked
     if MOST_BYTES < s.len() {
         return Checked::Refused(VALUE_REFUSALS);
     }
-    let w = pass_value(s, VALUE_LEVELS);
-    if w / 64 == s.len() {
-        return Checked::Accepted { level: w % 64 };
-    }
-    settle(walk_value(s, VALUE_LEVELS), s.len(), VALUE_REFUSALS)
+    let mut told: usize = 0;
+    let size = walk_value(s, VALUE_LEVELS, &mut told);
+    settle(size, told, s.len(), VALUE_REFUSALS)
 }

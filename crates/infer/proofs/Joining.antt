@@ -22,13 +22,11 @@ use Rattle.order.proofs.Laws.{le-refl}
 use Rattle.order.proofs.Equal.{eq-ty-same, eq-ty-self}
 use Rattle.order.proofs.Size.{length-enc, size-positive, size-sup}
 use Rattle.order.proofs.WellFormed.{asc-of}
-use Rattle.types.specs.At.{typeAt, Ok}
-use Rattle.types.specs.Conform.{judge, conformBy, conformOf}
-use Rattle.types.specs.declared.Conform.{Conform}
-use Rattle.types.specs.declared.Conform.the-variants.{Yes, No}
-use Rattle.types.proofs.Reading.{rest, is-ok}
+use Rattle.types.specs.At.{typeAt}
+use Rattle.types.specs.Conform.{conformOf, Met}
+use Rattle.types.proofs.Reading.{rest}
 use Rattle.types.proofs.Instances.{front-bytes}
-use Rattle.types.proofs.Conforming.{judge-yes, judge-no}
+use Rattle.types.proofs.Pairs.{told-no, told-yes}
 use Rattle.bounds.specs.Writing.{ofTypes, Ready, Combined, Wrote}
 use Rattle.bounds.proofs.Building.{ready, combined-is}
 use Rattle.bounds.proofs.Trees.{self}
@@ -48,10 +46,6 @@ same-bool : (r q : Bool) → (r ≡ true → q ≡ true) → (q ≡ true → r �
 same-bool true q f g = sym (f refl)
 same-bool false true f g = g refl
 same-bool false false f g = refl
-
-both : (r q : Option Ty) (x y : Ty) → r ≡ some x → q ≡ some y → conformOf r q ≡ judge (conformsTo x y) (size x) (size y)
-unfolding conformBy
-both r q x y e f = ap₂ (λ a b. conformOf a b) e f
 
 -- ---- the two types
 pub record Two (x y : Option Ty) (s : List ℕ) (n m spare : ℕ) : Type 0 where
@@ -103,12 +97,6 @@ module _ (s : List ℕ) (n m spare : ℕ) (h : Sides (typeAt typeLevels s) (type
   pub first-byte : 0 < length s
   first-byte = omega (arith, T .side .first, T .side .inside, size-positive (T .t))
 
-  pub ok-second : Ok (typeAt typeLevels (take (length s - n) (drop n s)))
-  ok-second = rw (rest s n) (is-ok (typeAt typeLevels (drop n s)) (T .u) (T .read-u))
-
-  pub ok-first : Ok (typeAt typeLevels s)
-  ok-first = is-ok (typeAt typeLevels s) (T .t) (T .read-t)
-
   -- ---- `keeps`
   first-bytes : Bytes s → take n s ≡ enc (T .t)
   first-bytes bs = ap (λ k. take k s) (T .side .first) ∙ front-bytes typeLevels s (T .t) bs (T .read-t) .1
@@ -126,18 +114,19 @@ module _ (s : List ℕ) (n m spare : ℕ) (h : Sides (typeAt typeLevels s) (type
       (λ p. g .1 (first-bytes bs ∙ ap enc (eq-ty-same (T .t) (T .u) p) ∙ sym d))
       ∙ ap (λ x. keepsFirst x (T .t) (T .u)) (sym e))
 
-  conform-is : (w : Conform) → w ≡ conformOf (typeAt typeLevels (take (length s - n) (drop n s))) (typeAt typeLevels s) → w ≡ judge (conformsTo (T .u) (T .t)) (size (T .u)) (size (T .t))
-  conform-is w e = e ∙ ap (λ r. conformOf (typeAt typeLevels r) (typeAt typeLevels s)) (rest s n) ∙ both (typeAt typeLevels (drop n s)) (typeAt typeLevels s) (T .u) (T .t) (T .read-u) (T .read-t)
+  module _ (q : Bool) (e : q ≡ false) (r t : ℕ) (w : Met (conformOf (typeAt typeLevels (take (length s - n) (drop n s))) (typeAt typeLevels s)) r t) where
+    told : Met (conformOf (typeAt typeLevels (drop n s)) (typeAt typeLevels s)) r t
+    told = rw (rest s n) at w
 
-  pub kept-conforms : (q : Bool) → q ≡ false → (w : Conform) (x y : ℕ) → w ≡ Yes x y → w ≡ conformOf (typeAt typeLevels (take (length s - n) (drop n s))) (typeAt typeLevels s) → Kept q (typeAt typeLevels s) (typeAt typeLevels (drop n s)) true
-  kept-conforms q e w x y p f =
-      is-kept (typeAt typeLevels s) (typeAt typeLevels (drop n s)) (T .t) (T .u) q true (T .read-t) (T .read-u)
-      (sym (judge-yes (conformsTo (T .u) (T .t)) (size (T .u)) (size (T .t)) x y (sym (conform-is w f) ∙ p) .0) ∙ ap (λ z. keepsFirst z (T .t) (T .u)) (sym e))
+    pub kept-conforms : (r ≡ 0 → ⊥) → Kept q (typeAt typeLevels s) (typeAt typeLevels (drop n s)) true
+    kept-conforms z =
+        is-kept (typeAt typeLevels s) (typeAt typeLevels (drop n s)) (T .t) (T .u) q true (T .read-t) (T .read-u)
+        (sym (told-yes size size conformsTo size-positive r t told (T .u) (T .t) (T .read-u) (T .read-t) z .0) ∙ ap (λ z. keepsFirst z (T .t) (T .u)) (sym e))
 
-  pub kept-not : (q : Bool) → q ≡ false → (w : Conform) → w ≡ No → w ≡ conformOf (typeAt typeLevels (take (length s - n) (drop n s))) (typeAt typeLevels s) → Kept q (typeAt typeLevels s) (typeAt typeLevels (drop n s)) false
-  kept-not q e w p f =
-      is-kept (typeAt typeLevels s) (typeAt typeLevels (drop n s)) (T .t) (T .u) q false (T .read-t) (T .read-u)
-      (sym (judge-no (conformsTo (T .u) (T .t)) (size (T .u)) (size (T .t)) (sym (conform-is w f) ∙ p)) ∙ ap (λ z. keepsFirst z (T .t) (T .u)) (sym e))
+    pub kept-not : r ≡ 0 → Kept q (typeAt typeLevels s) (typeAt typeLevels (drop n s)) false
+    kept-not z =
+        is-kept (typeAt typeLevels s) (typeAt typeLevels (drop n s)) (T .t) (T .u) q false (T .read-t) (T .read-u)
+        (sym (told-no size size conformsTo size-positive r t told (T .u) (T .t) (T .read-u) (T .read-t) z) ∙ ap (λ z. keepsFirst z (T .t) (T .u)) (sym e))
 
   -- ---- `join`
   pub keeps-ask : Sides (typeAt typeLevels s) (typeAt typeLevels (drop n s)) s n m (n + m)

@@ -19,7 +19,6 @@ use form::NAME_WIDTH;
 use form::TYPE_LEVELS;
 use form::VALUE_LEVELS;
 use form::Written;
-use types::Conform;
 
 // The simple types Any and Null.
 const ANY: u8 = 0x20;
@@ -41,7 +40,7 @@ struct Ends {
 // The size of the value at the front where it is a boolean, a number, a string or a temporal, 0 where it is not: a short way past most values.
 fn leaf(v: &[u8]) -> usize
     requires { ⌜ 0 < length (now v) ⌝ }
-    ensures { λ r. ⌜ (0 < r → Plain (getD (now (v .entry)) 0 0) r) ⌝ }
+    ensures { λ r. ⌜ (0 < r → Plain (getD (now (v .entry)) 0 0) r) × (r ≡ 0 → 0 < getD (now (v .entry)) 0 0 → 9 ≤ getD (now (v .entry)) 0 0) ⌝ }
 {
     match v[0] {
         0x01 => 2,
@@ -142,10 +141,11 @@ fn keeps(equal: bool, s: &[u8], n: usize, m: usize) -> bool
         let p = n + m;
         return check::same(&s[..n], &s[n..p]);
     }
-    match types::conforms(&s[n..], s, TYPE_LEVELS) {
-        Conform::Yes { a: _, b: _ } => true,
-        Conform::No => false,
+    let mut other: usize = 0;
+    if types::conforms(&s[n..], s, TYPE_LEVELS, &mut other) == 0 {
+        return false;
     }
+    true
 }
 
 // The type at the front, n bytes, and the one behind it, m bytes, become one at the front; answers its length. Of equal ones the first stays as it is.

@@ -9,14 +9,14 @@ use mathlib.Core.List.{_++_}
 use lib.ListN.{length, length-append}
 use lib.Dec.{eqb, ltb, leb}
 use borrow.Author.Tests.{eqb-true, leb-true, leb-false, le-leb}
-use Rattle.form.specs.Trees.{any, Ty, leaf, built, Built, list, range, context, function, Fields, no-fields, field, Tys, no-params, param}
+use Rattle.form.specs.Trees.{any, Ty, leaf, built, Built, list, range, context, function, Fields, no-fields, field, Tys, no-params, param, l-null, l-boolean, l-number, l-string, l-temporal, Val, v-leaf, v-range, v-list, v-context, v-function, v-built-in, v-type, v-irrelevant}
 use Rattle.form.specs.Limits.{nameWidth}
 use Rattle.form.specs.Form.{enc, encBuilt, encFields, encTys, countFields, level, levelBuilt, levelFields, levelTys}
 use Rattle.form.proofs.Exact.{length-front}
 use Rattle.order.specs.Order.{Dir, up, down, flip, pick, Order, top, bottom, scmp}
 use Rattle.order.specs.Types.{look, same-count, ignores, reduce, reduce-built, reduce-fields, reduce-tys, keep, place, bound, bound-built, common, merge, bounds, sup, sub}
 use Rattle.order.specs.Ascending.{Asc, AscBuilt, AscFields, AscTys}
-use Rattle.order.specs.Size.{size, size-built, size-fields, size-tys}
+use Rattle.order.specs.Size.{size, size-built, size-fields, size-tys, size-val}
 
 -- the size is the length of the encoding
 mutual
@@ -199,6 +199,21 @@ module _ (O : Order) where
 level-cond : (q : Bool) (a b : Ty) (k : ℕ) → level a ≤ k → level b ≤ k → level (cond q a b) ≤ k
 level-cond true a b k x y = x
 level-cond false a b k x y = y
+
+pub size-val-positive : (v : Val) → 1 ≤ size-val v
+unfolding size-val
+size-val-positive (v-leaf (l-null x)) = omega arith
+size-val-positive (v-leaf (l-boolean x)) = omega arith
+size-val-positive (v-leaf (l-number x)) = omega arith
+size-val-positive (v-leaf (l-string x)) = omega arith
+size-val-positive (v-leaf (l-temporal k x)) = omega arith
+size-val-positive (v-range i j v w) = omega arith
+size-val-positive (v-list vs) = omega arith
+size-val-positive (v-context es) = omega arith
+size-val-positive (v-function ps b r) = omega arith
+size-val-positive (v-built-in x) = omega arith
+size-val-positive (v-type t) = omega arith
+size-val-positive v-irrelevant = omega arith
 
 pub level-positive : (a : Ty) → 1 ≤ level a
 unfolding level

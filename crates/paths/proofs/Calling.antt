@@ -14,7 +14,7 @@ use Rattle.form.specs.Trees.{Val, Entries, no-entries, entry}
 use Rattle.form.specs.Form.{numAt, Bytes, encV, countEntries}
 use Rattle.form.specs.Outcome.{Outcome, done, refused, _>>=_, _>>_, pick, check, orRefuse}
 use Rattle.form.specs.Read.{Got, got, bad, readV, numberOf, all, readWhole, readValue}
-use Rattle.form.specs.declared.Fault.the-variants.{Shape, Names, Level}
+use Rattle.form.specs.Faults.{Shape, Names, Level}
 use Rattle.form.proofs.Accepted.{refused-done, whole-got}
 use Rattle.order.specs.Size.{size-entries}
 use Rattle.order.proofs.LeastSize.{length-encV}

@@ -3,46 +3,42 @@
 use Prim.Native.Nat.{ℕ, _+_, _-_, _<_, _≤_}
 use native.Mathlib.Omega.{arith}
 use mathlib.Core.Path.{_≡_, refl, sym, ap, ap₂, _∙_}
-use mathlib.Core.Bool.{Bool, true, false, cond, _&&_, false≢true}
+use mathlib.Core.Bool.{true, false, cond, _&&_}
 use mathlib.Core.Option.{Option, none, some}
 use mathlib.Core.List.{List, [], _∷_}
-use lib.ListN.{length, getD, take, drop, length-take}
-use lib.Dec.{leb, eqb}
+use lib.ListN.{length, getD, take, length-take}
 use borrow.Author.Tests.{le-leb, eq-eqb, ne-eqb}
-use Rattle.form.specs.Limits.{typeLevels, valueLevels, mostBytes, valueRefusals, typeRefusals}
-use Rattle.form.specs.Trees.{Simple, null, code, Ty, leaf, built, list, range, context, function, Val, v-leaf, l-null}
-use Rattle.form.specs.Form.{Bytes, enc, encV, encLeaf, level, levelV, Wf, WfV}
-use Rattle.form.specs.Outcome.{Outcome, done, refused, _>>=_, _>>_, check, orRefuse, fits, pick}
-use Rattle.form.specs.Read.{readT, readV, readType, readValue, checkType, checkValue}
+use Rattle.form.specs.Limits.{typeLevels, valueLevels, mostBytes, valueRefusals}
+use Rattle.form.specs.Trees.{null, code, Ty, leaf, built, list, range, context, function, Val}
+use Rattle.form.specs.Form.{Bytes, encV, encLeaf, levelV, WfV}
+use Rattle.form.specs.Outcome.{done, refused, _>>=_, _>>_, fits}
+use Rattle.form.specs.Read.{readV, readType, readValue, checkType, checkValue}
 use Rattle.form.specs.Answers.{Built}
 use Rattle.form.specs.declared.Written.{Written}
 use Rattle.form.specs.declared.Written.the-variants as written-is
 use Rattle.form.proofs.Accepted.{whole-got}
 use Rattle.form.proofs.Types.{type-accepted, type-told}
 use Rattle.form.proofs.Values.{value-accepted, value-told, read-upV}
-use Rattle.order.specs.Order.{same}
 use Rattle.order.specs.Size.{size, size-val}
 use Rattle.order.specs.Inferred.{valueConformsTo}
 use Rattle.order.proofs.LeastSize.{length-encV}
 use Rattle.order.proofs.WellFormed.{asc-of}
 use Rattle.types.specs.At.{typeAt, Ok}
 use Rattle.types.proofs.Reading.{got-seen, is-ok, some-byte, cmd, cmd-is}
-use Rattle.types.specs.Conform.{judge}
-use Rattle.types.specs.declared.Conform.{Conform}
-use Rattle.types.specs.declared.Conform.the-variants as conform
-use Rattle.types.proofs.Conforming.{judge-yes, judge-no}
+use Rattle.types.specs.Calls.{isYes}
+use Rattle.types.proofs.Asking.{fails, agree}
+use Rattle.types.proofs.Calling.{whole-type}
 use Rattle.values.specs.At.{valueAt}
-use Rattle.values.specs.Held.{held}
-use Rattle.values.proofs.Holding as holding
+use Rattle.values.specs.Calls.{isConformant}
 use Rattle.bounds.proofs.Laws.{length-onto}
 use Rattle.bounds.proofs.Outcomes.{built-refused}
-use Rattle.retrieval.specs.Retrieve.{mapped, retrieve, getValueChecked, nothing, is-null, or-nothing, getConformantValue}
+use Rattle.retrieval.specs.Retrieve.{mapped, retrieve, nothing, is-null, or-nothing, getConformantValue}
 use Rattle.retrieval.specs.Filling.{fill, Accepted, answered, Filled, Gave, Retrieves}
 use Rattle.retrieval.specs.Calls.{small, result, getValueCheckedCall, getConformantValueCall}
 use Rattle.retrieval.specs.declared.Retrieved.{Retrieved}
 use Rattle.retrieval.specs.declared.Retrieved.the-variants.{Yes, No}
 use Rattle.retrieval.proofs.Pieces.{handed}
-use Rattle.retrieval.proofs.Theorems.{less-val, there}
+use Rattle.retrieval.proofs.Theorems.{less-val, there, conformant-value}
 
 small-result : (room : ℕ) (w : Val) → small w ≡ true → fits room (encV w) ≡ result room w
 unfolding _>>_
@@ -51,8 +47,7 @@ small-result room w h = rw h
 -- ---- the two that were accepted
 module _ (t v : List ℕ) (A : Accepted t v) where
   type-there : typeAt typeLevels t ≡ some (A .type)
-  unfolding typeAt
-  type-there = got-seen (readT typeLevels t) (A .type) (length t) (whole-got typeRefusals (readT typeLevels) t (A .type) (A .read-t))
+  type-there = whole-type .stands t (A .type) (A .read-t)
 
   value-there : valueAt typeLevels v ≡ some (A .value)
   unfolding valueAt
@@ -183,27 +178,33 @@ module _ (t v : List ℕ) (A : Accepted t v) where
   pub null-target : getD t 0 0 ≡ 0x29 → (room : ℕ) → fits room (0 ∷ 0 ∷ []) ≡ getConformantValueCall t v room
   null-target e room = sym (conformant-is room ∙ ap (λ q. result room (cond q (nothing 0) (cond (valueConformsTo (A .value) (A .type)) (or-nothing (retrieve (A .value) (A .type))) (nothing 2)))) (null-type e) ∙ nothing-is room 0)
 
-  module _ (d : getD t 0 0 ≡ 0x29 → ⊥) (c : Conform) (h : c ≡ held (valueAt typeLevels v) (typeAt typeLevels t)) where
-    judged : c ≡ judge (valueConformsTo (A .value) (A .type)) (size-val (A .value)) (size (A .type))
-    judged = h ∙ holding.both size-val size valueConformsTo (valueAt typeLevels v) (typeAt typeLevels t) (A .value) (A .type) value-there type-there
+  pub not-held : false ≡ isYes (isConformant v t) → valueConformsTo (A .value) (A .type) ≡ false
+  unfolding isConformant
+  not-held e = fails valueConformsTo (readType t) (A .read-v) (A .read-t) e
 
-    pub not-conformant : c ≡ conform.No → (room : ℕ) → fits room (0 ∷ 2 ∷ []) ≡ getConformantValueCall t v room
-    not-conformant p room =
-        let n = judge-no (valueConformsTo (A .value) (A .type)) (size-val (A .value)) (size (A .type)) (sym judged ∙ p) in
-        sym (conformant-is room
-        ∙ ap (λ q. result room (cond q (nothing 0) (cond (valueConformsTo (A .value) (A .type)) (or-nothing (retrieve (A .value) (A .type))) (nothing 2)))) (other-type d)
-        ∙ ap (λ q. result room (cond q (or-nothing (retrieve (A .value) (A .type))) (nothing 2))) n ∙ nothing-is room 2)
+  pub not-conformant : (getD t 0 0 ≡ 0x29 → ⊥) → false ≡ isYes (isConformant v t) → (room : ℕ) → fits room (0 ∷ 2 ∷ []) ≡ getConformantValueCall t v room
+  not-conformant d e room =
+      sym (conformant-is room
+      ∙ ap (λ q. result room (cond q (nothing 0) (cond (valueConformsTo (A .value) (A .type)) (or-nothing (retrieve (A .value) (A .type))) (nothing 2)))) (other-type d)
+      ∙ ap (λ q. result room (cond q (or-nothing (retrieve (A .value) (A .type))) (nothing 2))) (not-held e) ∙ nothing-is room 2)
 
-    pub is-conformant : (x y : ℕ) → c ≡ conform.Yes x y → (room : ℕ) → getValueCheckedCall t v room ≡ getConformantValueCall t v room
-    is-conformant x y p room =
-        let n = judge-yes (valueConformsTo (A .value) (A .type)) (size-val (A .value)) (size (A .type)) x y (sym judged ∙ p) .0 in
-        let T = there (A .value) (A .type) well (asc-of (A .type) (type-accepted t (A .bytes-t) (A .type) (A .read-t) .well)) n in
-        checked-is room (T .w) (T .is)
-        ∙ small-result room (T .w) (retrieved-small (T .w) (T .is))
-        ∙ sym (conformant-is room
-        ∙ ap (λ q. result room (cond q (nothing 0) (cond (valueConformsTo (A .value) (A .type)) (or-nothing (retrieve (A .value) (A .type))) (nothing 2)))) (other-type d)
-        ∙ ap (λ q. result room (cond q (or-nothing (retrieve (A .value) (A .type))) (nothing 2))) n
-        ∙ ap (λ o. result room (or-nothing o)) (T .is))
+  pub is-conformant : valueConformsTo (A .value) (A .type) ≡ true → (room : ℕ) → getValueCheckedCall t v room ≡ getConformantValueCall t v room
+  is-conformant h room =
+      let T = there (A .value) (A .type) well (asc-of (A .type) (type-accepted t (A .bytes-t) (A .type) (A .read-t) .well)) h in
+      checked-is room (T .w) (T .is)
+      ∙ small-result room (T .w) (retrieved-small (T .w) (T .is))
+      ∙ sym (conformant-is room ∙ ap (result room) (conformant-value (A .value) (A .type) h ∙ ap or-nothing (T .is)))
+
+-- both were accepted, and the value conforms
+pub record Passed (t v : List ℕ) : Type 0 where
+  pub both : Accepted t v
+  pub holds : valueConformsTo (both .value) (both .type) ≡ true
+
+pub passed : (t v : List ℕ) → Bytes t → Bytes v → true ≡ isYes (isConformant v t) → Passed t v
+unfolding isConformant
+passed t v bt bv e =
+    let G = agree valueConformsTo (readValue v) (readType t) e in
+    record { both = record { bytes-t = bt; bytes-v = bv; type = G .y; value = G .x; read-t = G .second; read-v = G .first }; holds = G .holds }
 
 -- ---- arguments that are refused
 pub checked-refused-t : (t v : List ℕ) (n k : ℕ) → readType t ≡ refused n → getValueCheckedCall t v k ≡ refused n

@@ -1,27 +1,25 @@
 -- What is proved of retrieval on trees: a retrieved value is never longer nor deeper than the value and is well-formed; behind conformance there is always one,
 -- and it conforms.
 -- Assumes nothing.
-use Prim.Native.Nat.{ℕ, suc, _+_, _<_, _≤_, max}
+use Prim.Native.Nat.{ℕ, suc, _+_, _<_, _≤_}
 use native.Mathlib.Omega.{arith}
 use mathlib.Core.Path.{_≡_, refl, sym, ap, ap₂, _∙_}
 use mathlib.Core.Bool.{Bool, true, false, cond, _&&_, _||_, false≢true}
 use mathlib.Core.Option.{Option, none, some}
-use lib.ListN.{length}
 use lib.Dec.{eqb, ltb}
 use borrow.Author.Tests.{eqb-true, eqb-false, eq-eqb, ne-eqb, ltb-true, ltb-false}
-use Rattle.form.specs.Trees.{Simple, any, boolean, number, string, date, time, dateTime, daysAndTime, yearsAndMonths, null, code, Tys, Ty, leaf, built, list, range, context, function, Fields, no-fields, field, Temporal, on-date, at-time, at-dateTime, for-daysAndTime, for-yearsAndMonths, Leaf, l-null, l-boolean, l-number, l-string, l-temporal, Val, v-leaf, v-range, v-list, v-context, v-function, v-built-in, v-type, v-irrelevant, Vals, no-items, item, Entries, no-entries, entry}
-use Rattle.form.specs.Limits.{nameWidth}
-use Rattle.form.specs.Form.{encV, level, levelV, levelVals, levelEntries, countVals, countEntries, WfLeaf, Wf, WfV, WfVals, WfEntries}
+use Rattle.form.specs.Trees.{Simple, any, boolean, number, string, date, time, dateTime, daysAndTime, yearsAndMonths, null, code, Tys, Ty, leaf, built, list, range, context, function, Fields, no-fields, field, on-date, at-time, at-dateTime, for-daysAndTime, for-yearsAndMonths, Leaf, l-null, l-boolean, l-number, l-string, l-temporal, Val, v-leaf, v-range, v-list, v-context, v-function, v-built-in, v-type, v-irrelevant, Vals, no-items, item, Entries, no-entries, entry}
+use Rattle.form.specs.Form.{levelV, levelVals, levelEntries, countVals, countEntries, WfLeaf, Wf, WfV, WfVals, WfEntries}
 use Rattle.order.specs.Order.{up, fixed, same, flat}
 use Rattle.order.specs.Ascending.{Asc, AscFields}
 use Rattle.order.proofs.Conform.{look-below}
-use Rattle.order.proofs.Simple.{and-both}
+use Rattle.order.proofs.Simple.{and-both, same-eq}
 use Rattle.order.proofs.WellFormed.{asc-of}
-use Rattle.order.specs.Size.{size-val, size-vals, size-entries, size-leaf}
+use Rattle.order.specs.Size.{size-val, size-vals, size-entries}
 use Rattle.order.specs.Types.{look, cmp, cmps, all-fields}
-use Rattle.order.specs.Values.{temporal-type, leaf-type, types-of, to-range, to-list, to-context, to-function, is-any, definition-conforms, conforms, all-conform, has-value}
+use Rattle.order.specs.Values.{temporal-type, leaf-type, types-of, to-range, to-function, is-any, conforms, all-conform, has-value}
 use Rattle.order.specs.Inferred.{valueConformsTo}
-use Rattle.retrieval.specs.Retrieve.{mapped, both, copied, retrieve-leaf, by-range, by-function, by-any, by-list, by-context, kept, retrieve, retrieve-items, retrieve-entries}
+use Rattle.retrieval.specs.Retrieve.{mapped, both, copied, retrieve-leaf, by-range, by-function, by-any, by-list, by-context, kept, retrieve, retrieve-items, retrieve-entries, getValueChecked, nothing, or-nothing, getConformantValue}
 
 -- ---- what was retrieved is no longer and no deeper, with as many items, and at most as many entries
 pub none-some : {X : Type 0} {x : X} → none ≡ some x → ⊥
@@ -394,6 +392,36 @@ mutual
   there-entries (entry n v es) k fs w a h =
       entries-there n v es k 0 fs a w h (λ u b c. there v u (well-first n v es k fs w h) b c)
       (there-entries es (n + 1) fs (well-rest n v es k fs w h) a (have-rest n v es k fs w h))
+
+-- ---- a value that conforms is retrieved: to Null only Null conforms
+null-there : (v : Val) → valueConformsTo v (leaf null) ≡ true → retrieve v (leaf null) ≡ some (nothing 0)
+unfolding retrieve conforms cmp
+null-there (v-leaf (l-null x)) h = refl
+null-there (v-leaf (l-boolean x)) h = absurd (false≢true h)
+null-there (v-leaf (l-number x)) h = absurd (false≢true h)
+null-there (v-leaf (l-string x)) h = absurd (false≢true h)
+null-there (v-leaf (l-temporal on-date x)) h = absurd (false≢true h)
+null-there (v-leaf (l-temporal at-time x)) h = absurd (false≢true h)
+null-there (v-leaf (l-temporal at-dateTime x)) h = absurd (false≢true h)
+null-there (v-leaf (l-temporal for-daysAndTime x)) h = absurd (false≢true h)
+null-there (v-leaf (l-temporal for-yearsAndMonths x)) h = absurd (false≢true h)
+null-there (v-range i j x y) h = absurd (false≢true h)
+null-there (v-list vs) h = absurd (false≢true h)
+null-there (v-context es) h = absurd (false≢true h)
+null-there (v-function ps b r) h = absurd (false≢true h)
+null-there (v-built-in b) h = absurd (false≢true h)
+null-there (v-type a) h = absurd (false≢true h)
+null-there v-irrelevant h = absurd (false≢true h)
+
+pub conformant-value : (v : Val) (t : Ty) → valueConformsTo v t ≡ true → getConformantValue t v ≡ or-nothing (getValueChecked t v)
+conformant-value v (built x) h = ap (λ q. cond q (or-nothing (retrieve v (built x))) (nothing 2)) h
+conformant-value v (leaf s) h = go (same s null) refl
+  where
+    go : (q : Bool) → same s null ≡ q → cond q (nothing 0) (cond (valueConformsTo v (leaf s)) (or-nothing (retrieve v (leaf s))) (nothing 2)) ≡ or-nothing (retrieve v (leaf s))
+    go false e = ap (λ q. cond q (or-nothing (retrieve v (leaf s))) (nothing 2)) h
+    go true e =
+        let n = same-eq s null e in
+        sym (ap or-nothing (ap (λ x. retrieve v (leaf x)) n ∙ null-there v (sym (ap (λ x. valueConformsTo v (leaf x)) n) ∙ h)))
 
 -- ---- in one place
 pub record Retrieval : Type 0 where

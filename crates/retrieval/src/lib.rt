@@ -6,14 +6,15 @@ ghost use lib.ListN.{length, getD};
 ghost use Rattle.form.specs.Answers.{onto, Built};
 ghost use Rattle.form.specs.Outcome.{fits};
 ghost use Rattle.types.specs.At.{typeAt, Ok};
+ghost use Rattle.types.specs.Calls.{isYes};
 ghost use Rattle.values.specs.At.{valueAt};
+ghost use Rattle.values.specs.Calls.{isConformant};
 ghost use Rattle.retrieval.specs.Filling.{fill, puts, Retrieves, outerKind, Accepted};
 ghost use Rattle.retrieval.specs.Calls.{getValueCheckedCall, getConformantValueCall};
 use form::Checked;
 use form::NAME_WIDTH;
 use form::TYPE_LEVELS;
 use form::Written;
-use types::Conform;
 use types::NAME_END;
 
 // What was retrieved: how many bytes of the type and of the value were read, and how many the answer has; or Err.
@@ -268,27 +269,31 @@ pub fn get_value_checked(t: &[u8], v: &[u8], out: &mut [u8]) -> Written
     }
 }
 
+// `get_conformant_value` where one of the two is refused or the value does not conform.
+fn give_nothing(t: &[u8], v: &[u8], out: &mut [u8]) -> Written
+    requires { ⌜ false ≡ isYes (isConformant (now v) (now t)) ⌝ }
+    ensures { λ r. ⌜ Built (getConformantValueCall (now (t .entry)) (now (v .entry)) (length (now (out .entry)))) (now (out .entry)) (now (out .exit)) r ⌝ }
+{
+    if let Checked::Refused(n) = form::check_type(t) {
+        return Written::Refused(n);
+    }
+    if let Checked::Refused(n) = form::check_value(v) {
+        return Written::Refused(n);
+    }
+    if t[0] == 0x29 {
+        let nothing = [0u8; 2];
+        return give(&nothing, out);
+    }
+    let not = [0x00, 0x02];
+    give(&not, out)
+}
+
 // `FeelType::get_conformant_value`. Refusals 6 to 10 of the type, 1 to 5 of the value, 17, 18; 17 is never met.
 pub fn get_conformant_value(t: &[u8], v: &[u8], out: &mut [u8]) -> Written
     ensures { λ r. ⌜ Built (getConformantValueCall (now (t .entry)) (now (v .entry)) (length (now (out .entry)))) (now (out .entry)) (now (out .exit)) r ⌝ }
 {
-    match form::check_type(t) {
-        Checked::Refused(n) => Written::Refused(n),
-        Checked::Accepted { level: _ } => match form::check_value(v) {
-            Checked::Refused(n) => Written::Refused(n),
-            Checked::Accepted { level: _ } => {
-                if t[0] == 0x29 {
-                    let nothing = [0u8; 2];
-                    return give(&nothing, out);
-                }
-                match values::conforms(v, t, TYPE_LEVELS) {
-                    Conform::Yes { a: _, b: _ } => write_retrieved(t, v, out),
-                    Conform::No => {
-                        let not = [0x00, 0x02];
-                        give(&not, out)
-                    }
-                }
-            }
-        },
+    if values::passes(v, t) {
+        return write_retrieved(t, v, out);
     }
+    give_nothing(t, v, out)
 }

@@ -10,15 +10,14 @@ use lib.ListN.{length, take, drop, length-drop}
 use lib.Seq.{drop-drop}
 use lib.Dec.{ltb}
 use borrow.Author.Tests.{ltb-true, ltb-false}
-use Rattle.form.specs.Trees.{Ty, Fields, no-fields, field}
+use Rattle.form.specs.Trees.{Ty, Fields, no-fields, field, simple}
 use Rattle.form.specs.Limits.{nameWidth, nameEnd}
-use Rattle.form.specs.Form.{num, numAt}
+use Rattle.form.specs.Form.{numAt}
 use Rattle.form.specs.Read.{Got, got, bad, readT}
-use Rattle.form.specs.Walks.{walkOf}
+use Rattle.form.specs.Walks.{walkOf, sizeIn, Short}
 use Rattle.form.specs.Form.{level}
-use Rattle.form.specs.declared.Walk.{Walk}
-use Rattle.form.specs.declared.Walk.the-variants as walk
-use Rattle.form.specs.declared.Fault.{Fault}
+use Rattle.form.proofs.Told.{short-end}
+use Rattle.form.proofs.TypeLaws.{simple-level}
 use Rattle.order.specs.Ascending.{Asc, AscFields}
 use Rattle.order.specs.Size.{size, size-fields}
 use Rattle.types.specs.At.{seen, typeAt, fieldsAt, Ok, sizeAt}
@@ -28,25 +27,17 @@ pub step : (i n : ℕ) → i < n → n - i ≡ suc (n - (i + 1))
 step i n h = omega arith
 
 -- ---- what `skip` answers
-skip-got : (l : ℕ) (s : List ℕ) (r : Got Ty) → readT l s ≡ r → (w : Walk) (n d : ℕ) → w ≡ walk.End n d → w ≡ walkOf level r → n ≡ sizeAt (seen r)
+skip-got : (l : ℕ) (s : List ℕ) (r : Got Ty) → readT l s ≡ r → sizeIn (walkOf level r) ≡ sizeAt (seen r)
 unfolding walkOf seen sizeAt
-skip-got l s (got t m) e w n d p q =
-    let x : n ≡ m = cc in
-    x ∙ type-told l s t m e .sized
-skip-got l s (bad f) e w n d p q = absurd (let z : _≡_ {A = ℕ} 0 1 = cc in omega arith)
+skip-got l s (got t m) e = type-told l s t m e .sized
+skip-got l s (bad f) e = refl
 
-pub skip-end : (l : ℕ) (s : List ℕ) (w : Walk) (n d : ℕ) → w ≡ walk.End n d → w ≡ walkOf level (readT l s) → n ≡ sizeAt (typeAt l s)
+pub skip-is : (l : ℕ) (s : List ℕ) → sizeIn (walkOf level (readT l s)) ≡ sizeAt (typeAt l s)
 unfolding typeAt
-skip-end l s w n d p q = skip-got l s (readT l s) refl w n d p q
+skip-is l s = skip-got l s (readT l s) refl
 
-skip-bad : (r : Got Ty) (w : Walk) (f : Fault) → w ≡ walk.Fault f → w ≡ walkOf level r → 0 ≡ sizeAt (seen r)
-unfolding walkOf seen sizeAt
-skip-bad (got t m) w f p q = absurd (let z : _≡_ {A = ℕ} 0 1 = cc in omega arith)
-skip-bad (bad g) w f p q = refl
-
-pub skip-fault : (l : ℕ) (s : List ℕ) (w : Walk) (f : Fault) → w ≡ walk.Fault f → w ≡ walkOf level (readT l s) → 0 ≡ sizeAt (typeAt l s)
-unfolding typeAt
-skip-fault l s w f p q = skip-bad (readT l s) w f p q
+pub skip-short : (l : ℕ) (s : List ℕ) (n room : ℕ) → Short simple (readT l s) n room → (n ≡ 0 → ⊥) → n ≡ sizeAt (typeAt l s)
+skip-short l s n room h z = ap sizeIn (sym (short-end level simple simple-level (readT l s) n room h z)) ∙ skip-is l s
 
 pub size-got : (r : Option Ty) (t : Ty) → r ≡ some t → sizeAt r ≡ size t
 unfolding sizeAt

@@ -1,9 +1,9 @@
 -- What stands at the front of the bytes says of its parts, and that its names ascend and that it ends within the bytes.
 -- Assumes nothing.
 use Prim.Native.Nat.{ℕ, zero, suc, _+_, _-_, _<_, _≤_}
-use mathlib.Core.Path.{_≡_, refl, sym, ap, ap₂, subst, _∙_}
+use mathlib.Core.Path.{_≡_, refl, sym, ap, subst, _∙_}
 use mathlib.Core.Option.{Option, none, some}
-use mathlib.Core.List.{List, [], _∷_}
+use mathlib.Core.List.{List}
 use native.Mathlib.Omega.{arith}
 use native.Mathlib.Numerals.{add-one}
 use lib.ListN.{length, getD, take, drop, length-drop}
@@ -14,8 +14,8 @@ use Rattle.form.specs.Form.{num, numAt}
 use Rattle.form.specs.Read.{Got, got, bad, andThen, readRun, readNamed, readT, readTys, readFields, ascending}
 use Rattle.form.proofs.Exact.{got-parts, then-parts}
 use Rattle.form.proofs.ExactTypes.{code-decode}
-use Rattle.form.proofs.Nodes.{item-parts, named-parts, NodeT, nSimple, nList, nRange, nContext, nFunction, TypeRead, type-read}
-use Rattle.order.specs.Ascending.{Asc, AscBuilt, AscFields, AscTys}
+use Rattle.form.proofs.Nodes.{item-parts, named-parts, NodeT, nSimple, nList, nRange, nContext, nFunction, type-read}
+use Rattle.order.specs.Ascending.{Asc, AscFields, AscTys}
 use Rattle.order.specs.Size.{size, size-fields, size-tys}
 use Rattle.types.specs.At.{seen, typeAt, fieldsAt, Sig, sig, cons, funOf, size-sig, sigAt, Ok}
 
@@ -281,9 +281,6 @@ result l s f e =
     then-parts sig 0 s (readT l) (readTys (readT l) 0 s) f m q (λ ts k pt u j pu pz pn.
     got-parts no-params ts 0 k pt (λ a b.
     (u, got-seen (readT l s) u j (ap (λ (z : ℕ). readT l (drop z s)) b ∙ pu), sym pz ∙ ap (λ (z : Tys). sig z u) (sym a)))))
-
-abbrev pub AscSig : Sig → Type 0
-AscSig (sig ps r) = AscTys ps × Asc r
 
 pub size-cons : (t : Ty) (f : Sig) → size-sig (cons t f) ≡ size t + size-sig f
 unfolding size

@@ -3,8 +3,8 @@
 use mathlib.Core.Bool.{Bool, true, false}
 use mathlib.Core.List.{List}
 use Prim.Native.Nat.{ℕ}
-use Rattle.form.specs.Trees.{null, Ty, leaf, built}
-use Rattle.form.specs.Outcome.{Outcome, done, _>>=_}
+use Rattle.form.specs.Trees.{null, Ty, leaf, built, simple}
+use Rattle.form.specs.Outcome.{Outcome, done, refused, _>>=_}
 use Rattle.form.specs.Read.{readType}
 use Rattle.order.specs.Order.{same}
 use Rattle.order.specs.Document.{conformsTo, isInstanceOf}
@@ -16,17 +16,17 @@ isConformant a b = do
   t ← readType b
   done (conformsTo s t)
 
+-- it answers yes
+abbrev pub isYes : Outcome Bool → Bool
+isYes (done q) = q
+isYes (refused n) = false
+
 -- FeelType::instance_of: self, then the other
 unfoldable pub instanceOf : List ℕ → List ℕ → Outcome Bool
 instanceOf a b = do
   s ← readType a
   t ← readType b
   done (isInstanceOf s t)
-
--- one of the ten simple types
-abbrev pub simple : Ty → Bool
-simple (leaf s) = true
-simple (built x) = false
 
 -- FeelType::is_simple_built_in_type
 unfoldable pub isSimpleBuiltInType : List ℕ → Outcome Bool

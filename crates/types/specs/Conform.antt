@@ -1,28 +1,36 @@
--- Conformance of two types that were read: yes with both sizes, or no.
+-- Two things read at once and held against each other: yes with both sizes, or no.
 -- Assumes nothing.
-use Prim.Native.Nat.{ℕ, _+_, _<_, _/_, _%_}
+use Prim.Native.Nat.{ℕ, _+_}
 use mathlib.Core.Path.{_≡_}
 use mathlib.Core.Bool.{Bool, true, false, _&&_, _||_}
 use mathlib.Core.Option.{Option, none, some}
-use Rattle.form.specs.Trees.{Ty, Fields}
+use Rattle.form.specs.Trees.{Ty, Fields, simple}
 use Rattle.order.specs.Order.{up, fixed}
 use Rattle.order.specs.Types.{look, found, all-fields, le, cmps}
 use Rattle.order.specs.Size.{size}
+use Rattle.order.specs.Document.{eqTy}
 use Rattle.types.specs.At.{Sig, sig}
-use Rattle.types.specs.declared.Conform.{Conform}
-use Rattle.types.specs.declared.Conform.the-variants.{Yes, No}
+
+pub data Conform : Type 0 where
+  Yes : ℕ → ℕ → Conform
+  No : Conform
 
 abbrev pub judge : Bool → ℕ → ℕ → Conform
 judge true x y = Yes x y
 judge false x y = No
 
-unfoldable pub conformBy : {X : Type 0} → (X → ℕ) → (X → X → Bool) → Option X → Option X → Conform
-conformBy sz test (some x) (some y) = judge (test x y) (sz x) (sz y)
-conformBy sz test (some x) none = No
-conformBy sz test none y = No
+-- yes where both were read and the first passes the test against the second
+unfoldable pub conformBy : {X Y : Type 0} → (X → ℕ) → (Y → ℕ) → (X → Y → Bool) → Option X → Option Y → Conform
+conformBy sx sy test (some x) (some y) = judge (test x y) (sx x) (sy y)
+conformBy sx sy test (some x) none = No
+conformBy sx sy test none y = No
+
+-- a type against a type, by some test
+abbrev pub typesBy : (Ty → Ty → Bool) → Option Ty → Option Ty → Conform
+typesBy test x y = conformBy size size test x y
 
 abbrev pub conformOf : Option Ty → Option Ty → Conform
-conformOf x y = conformBy size (le fixed) x y
+conformOf x y = typesBy (le fixed) x y
 
 -- each name of the second is in the first, with a type that passes the test
 abbrev pub entries : (Ty → Ty → Bool) → Fields → Fields → Bool
@@ -32,11 +40,20 @@ entries test fs gs = all-fields (λ n t. found (look n fs) (λ a. test a t)) gs
 abbrev pub le-sig : Bool → Sig → Sig → Bool
 le-sig ignored (sig ps r) (sig qs s) = cmps fixed up qs ps && (ignored || le fixed r s)
 
+-- nothing is asked but that both were read
+abbrev pub anyTwo : Ty → Ty → Bool
+anyTwo x y = true
+
+-- the same simple type
+abbrev pub sameSimple : Ty → Ty → Bool
+sameSimple x y = simple x && eqTy x y
+
 -- i and j bytes in front
 abbrev pub grown : ℕ → ℕ → Conform → Conform
 grown i j (Yes x y) = Yes (x + i) (y + j)
 grown i j No = No
 
--- both sizes in one number, second * 65536 + first, taken where it is not 0: the first conforms to the second, with these sizes
-abbrev pub Met : Conform → ℕ → Type 0
-Met w r = 0 < r → w ≡ Yes (r % 65536) (r / 65536)
+-- the code's answer r, with t left behind: the two sizes, or 0
+abbrev pub Met : Conform → ℕ → ℕ → Type 0
+Met (Yes x y) r t = (r ≡ x) × (t ≡ y)
+Met No r t = r ≡ 0

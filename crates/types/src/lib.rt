@@ -1,32 +1,24 @@
 // types.rs over the byte form: conformance of types in one pass over both.
 ghost use mathlib.Core.Path.{_≡_};
-ghost use mathlib.Core.Bool.{cond, true};
-ghost use Prim.Native.Nat.{ℕ, _+_, _<_, _≤_, _/_, _%_};
-ghost use lib.ListN.{length};
+ghost use mathlib.Core.Bool.{cond};
+ghost use Prim.Native.Nat.{_+_, _<_, _≤_, _^_};
+ghost use lib.ListN.{length, drop};
 ghost use lib.Dec.{ltb, eqb};
 ghost use Rattle.form.specs.Limits.{nameWidth, nameEnd};
 ghost use Rattle.form.specs.Form.{numAt};
 ghost use Rattle.order.specs.Order.{fixed};
 ghost use Rattle.order.specs.Types.{le};
-ghost use Rattle.order.specs.Document.{nullOrSame};
-ghost use Rattle.order.specs.Size.{size, size-fields};
-ghost use Rattle.types.specs.At.{typeAt, fieldsAt, sigAt, size-sig, sizeAt, Ok};
-ghost use Rattle.types.specs.Conform.{conformOf, conformBy, entries, le-sig, grown, Met};
-ghost use Rattle.form.specs.Outcome.{done};
+ghost use Rattle.order.specs.Document.{nullOrSame, isInstanceOf};
+ghost use Rattle.order.specs.Size.{size-fields};
+ghost use Rattle.types.specs.At.{typeAt, fieldsAt, sigAt, size-sig, sizeAt};
+ghost use Rattle.types.specs.Conform.{conformOf, conformBy, typesBy, entries, le-sig, anyTwo, sameSimple, grown, Met};
 ghost use Rattle.form.specs.Answers.{verdict};
-ghost use Rattle.types.specs.Calls.{isConformant, instanceOf, isSimpleBuiltInType, isNull};
+ghost use Rattle.types.specs.Calls.{isYes, isConformant, instanceOf, isSimpleBuiltInType, isNull};
 use form::Checked;
 use form::MOST_BYTES;
 use form::NAME_WIDTH;
 use form::TYPE_LEVELS;
 use form::Verdict;
-use form::Walk;
-
-// Whether the first conforms to the second, with the sizes of both.
-pub enum Conform {
-    Yes { a: usize, b: usize },
-    No,
-}
 
 // One past the largest name.
 pub const NAME_END: usize = 65536;
@@ -39,14 +31,8 @@ pub fn skip(s: &[u8], left: usize) -> usize
     if n != 0 {
         return n;
     }
-    let w = form::pass_type(s, left);
-    if w != 0 {
-        return w / 64;
-    }
-    match form::walk_type(s, left) {
-        Walk::End { size, level: _ } => size,
-        Walk::Fault(_) => 0,
-    }
+    let mut told: usize = 0;
+    form::walk_type(s, left, &mut told)
 }
 
 // The name of entry i of n, which stands at `at`; NAME_END behind the last.
@@ -61,176 +47,46 @@ pub fn peek(s: &[u8], at: usize, i: usize, n: usize) -> usize
     NAME_END
 }
 
-// i and j bytes in front of what was compared.
-pub fn grow(w: Conform, i: usize, j: usize, p: usize, q: usize) -> Conform
-    requires { ⌜ ((x y : ℕ) → w ≡ Conform.Yes x y → (x + i ≤ p) × (y + j ≤ q)) ⌝ }
-    ensures { λ r. ⌜ r ≡ grown i j w ⌝ }
-{
-    match w {
-        Conform::Yes { a, b } => Conform::Yes { a: a + i, b: b + j },
-        Conform::No => Conform::No,
-    }
-}
+// ---- conformance: both are read and compared at once. The answer is the size of the first, with that of the second left in `other`,
+// where both are read and the first conforms to the second, and 0 where not.
 
-// Whether the type at the front of `a` conforms to the one at the front of `b`: one pass over both.
-pub fn conforms(a: &[u8], b: &[u8], left: usize) -> Conform
-    requires { ⌜ Ok (typeAt left (now a)) ⌝ }
-    requires { ⌜ Ok (typeAt left (now b)) ⌝ }
-    ensures { λ r. ⌜ r ≡ conformOf (typeAt left (now (a .entry))) (typeAt left (now (b .entry))) ⌝ }
+// The types at the front of both, passed over.
+fn skip_both(a: &[u8], b: &[u8], left: usize, other: &mut usize) -> usize
+    ensures { λ r. ⌜ Met (typesBy anyTwo (typeAt left (now (a .entry))) (typeAt left (now (b .entry)))) r (now (other .exit)) ⌝ }
 {
-    let c = a[0];
-    let d = b[0];
-    if c != d {
-        if c == 0x29 {
-            return Conform::Yes {
-                a: 1,
-                b: skip(b, left),
-            };
-        }
-        if d == 0x20 {
-            return Conform::Yes {
-                a: skip(a, left),
-                b: 1,
-            };
-        }
-        return Conform::No;
-    }
-    match c {
-        0x2A => grow(conforms(&a[1..], &b[1..], left - 1), 1, 1, a.len(), b.len()),
-        0x2B => grow(conforms(&a[1..], &b[1..], left - 1), 1, 1, a.len(), b.len()),
-        0x2C => grow(
-            conform_fields(
-                &a[3..],
-                form::word_at(a, 1),
-                &b[3..],
-                form::word_at(b, 1),
-                left - 1,
-            ),
-            3,
-            3,
-            a.len(),
-            b.len(),
-        ),
-        0x2D => {
-            let n = a[1];
-            let m = b[1];
-            if n != m {
-                return Conform::No;
-            }
-            grow(
-                conform_sig(&a[2..], &b[2..], form::wide(n), left - 1),
-                2,
-                2,
-                a.len(),
-                b.len(),
-            )
-        }
-        _ => Conform::Yes { a: 1, b: 1 },
-    }
-}
-
-// `count` parameters, the other way round, and the results behind them, which count 0 only passes over.
-fn conform_sig(a: &[u8], b: &[u8], count: usize, left: usize) -> Conform
-    requires { ⌜ Ok (sigAt left count (now a)) ⌝ }
-    requires { ⌜ Ok (sigAt left count (now b)) ⌝ }
-    ensures { λ r. ⌜ r ≡ conformBy size-sig (le-sig (eqb count 0)) (sigAt left count (now (a .entry))) (sigAt left count (now (b .entry))) ⌝ }
-{
-    let mut at: usize = 0;
-    let mut bt: usize = 0;
-    let mut i: usize = 0;
-    while i < count {
-        match conforms(&b[bt..], &a[at..], left) {
-            Conform::Yes { a: y, b: x } => {
-                at = at + x;
-                bt = bt + y;
-            }
-            Conform::No => return Conform::No,
-        }
-        i += 1;
-    }
-    if count == 0 {
-        return Conform::Yes {
-            a: skip(a, left),
-            b: skip(b, left),
-        };
-    }
-    grow(conforms(&a[at..], &b[bt..], left), at, bt, a.len(), b.len())
-}
-
-// n entries of one context against m of another: the two ascending lists of names are taken in step.
-fn conform_fields(a: &[u8], n: usize, b: &[u8], m: usize, left: usize) -> Conform
-    requires { ⌜ Ok (fieldsAt left n 0 (now a)) ⌝ }
-    requires { ⌜ Ok (fieldsAt left m 0 (now b)) ⌝ }
-    ensures { λ r. ⌜ r ≡ conformBy size-fields (entries (le fixed)) (fieldsAt left n 0 (now (a .entry))) (fieldsAt left m 0 (now (b .entry))) ⌝ }
-{
-    let mut at: usize = 0;
-    let mut i: usize = 0;
-    let mut bt: usize = 0;
-    let mut j: usize = 0;
-    while i < n {
-        let x = form::name_at(a, at);
-        let y = peek(b, bt, j, m);
-        let p = at + NAME_WIDTH;
-        if y < x {
-            return Conform::No;
-        }
-        if x < y {
-            at = p + skip(&a[p..], left);
-            i += 1;
-            continue;
-        }
-        let q = bt + NAME_WIDTH;
-        match conforms(&a[p..], &b[q..], left) {
-            Conform::Yes { a: u, b: v } => {
-                at = p + u;
-                bt = q + v;
-            }
-            Conform::No => return Conform::No,
-        }
-        i += 1;
-        j += 1;
-    }
-    if j < m {
-        return Conform::No;
-    }
-    Conform::Yes { a: at, b: bt }
-}
-
-// ---- passes: both are read and compared at once. A pass answers both sizes in one number, second * 65536 + first, and 0 where the plain way must tell.
-
-// The number of two sizes with i and j bytes in front of them, 0 where they are too large for it.
-pub fn sizes(first: usize, second: usize, i: usize, j: usize) -> usize
-    requires { ⌜ (i ≤ 4) × (j ≤ 4) ⌝ }
-    ensures { λ r. ⌜ (0 < r → (r % 65536 ≡ first + i) × (r / 65536 ≡ second + j)) ⌝ }
-{
-    if MOST_BYTES < first {
+    let x = skip(a, left);
+    if x == 0 {
         return 0;
     }
-    if MOST_BYTES < second {
+    let y = skip(b, left);
+    if y == 0 {
         return 0;
     }
-    (second + j) * 65536 + (first + i)
+    *other = y;
+    x
 }
 
-// A pass over two types of which the first is Null or the second Any: they conform where both are read.
-fn pass_ends(a: &[u8], b: &[u8], left: usize) -> usize
-    requires { ⌜ ((Ok (typeAt left (now a)) × Ok (typeAt left (now b))) → conformOf (typeAt left (now a)) (typeAt left (now b)) ≡ Conform.Yes (sizeAt (typeAt left (now a))) (sizeAt (typeAt left (now b)))) ⌝ }
-    ensures { λ r. ⌜ Met (conformOf (typeAt left (now (a .entry))) (typeAt left (now (b .entry)))) r ⌝ }
+// The size of the type at `at`, and of the one at `bt`, where they are the same simple type, 0 where not: a short way past most pairs.
+fn same_simple(a: &[u8], at: usize, b: &[u8], bt: usize, left: usize) -> usize
+    requires { ⌜ (at ≤ length (now a)) × (bt ≤ length (now b)) ⌝ }
+    ensures { λ r. ⌜ Met (typesBy sameSimple (typeAt left (drop at (now (a .entry)))) (typeAt left (drop bt (now (b .entry))))) r r ⌝ }
 {
-    let k = skip(a, left);
-    if k == 0 {
+    let n = form::simple_at(a, at, left);
+    if n == 0 {
         return 0;
     }
-    let w = skip(b, left);
-    if w == 0 {
+    if b.len() == bt {
         return 0;
     }
-    sizes(k, w, 0, 0)
+    if a[at] != b[bt] {
+        return 0;
+    }
+    n
 }
 
-// A pass over the type at the front of `a` and the one at the front of `b`.
-fn pass_both(a: &[u8], b: &[u8], left: usize) -> usize
-    ensures { λ r. ⌜ Met (conformOf (typeAt left (now (a .entry))) (typeAt left (now (b .entry)))) r ⌝ }
+// Whether the type at the front of `a` conforms to the one at the front of `b`.
+pub fn conforms(a: &[u8], b: &[u8], left: usize, other: &mut usize) -> usize
+    ensures { λ r. ⌜ Met (conformOf (typeAt left (now (a .entry))) (typeAt left (now (b .entry)))) r (now (other .exit)) ⌝ }
 {
     if left == 0 {
         return 0;
@@ -245,17 +101,20 @@ fn pass_both(a: &[u8], b: &[u8], left: usize) -> usize
     let f = b[0];
     if e != f {
         if e == 0x29 {
-            return pass_ends(&a[0..], &b[0..], left);
+            return skip_both(&a[0..], &b[0..], left, other);
         }
         if f == 0x20 {
-            return pass_ends(&a[0..], &b[0..], left);
+            return skip_both(&a[0..], &b[0..], left, other);
         }
         return 0;
     }
     match e {
-        0x20..=0x29 => 65537,
-        0x2A => pass_inner(&a[1..], &b[1..], left - 1),
-        0x2B => pass_inner(&a[1..], &b[1..], left - 1),
+        0x20..=0x29 => {
+            *other = 1;
+            1
+        }
+        0x2A => conform_inner(&a[1..], &b[1..], left - 1, other),
+        0x2B => conform_inner(&a[1..], &b[1..], left - 1, other),
         0x2C => {
             if a.len() < 3 {
                 return 0;
@@ -263,12 +122,13 @@ fn pass_both(a: &[u8], b: &[u8], left: usize) -> usize
             if b.len() < 3 {
                 return 0;
             }
-            pass_fields(
+            conform_fields(
                 &a[3..],
                 form::word_at(a, 1),
                 &b[3..],
                 form::word_at(b, 1),
                 left - 1,
+                other,
             )
         }
         0x2D => {
@@ -282,60 +142,73 @@ fn pass_both(a: &[u8], b: &[u8], left: usize) -> usize
             if k != b[1] {
                 return 0;
             }
-            pass_sig(&a[2..], &b[2..], form::wide(k), left - 1)
+            conform_sig(&a[2..], &b[2..], form::wide(k), left - 1, other)
         }
         _ => 0,
     }
 }
 
-// A pass over two inner types, behind one byte each.
-fn pass_inner(a: &[u8], b: &[u8], left: usize) -> usize
-    ensures { λ r. ⌜ Met (grown 1 1 (conformOf (typeAt left (now (a .entry))) (typeAt left (now (b .entry))))) r ⌝ }
+// Two inner types, behind one byte each.
+fn conform_inner(a: &[u8], b: &[u8], left: usize, other: &mut usize) -> usize
+    requires { ⌜ (length (now a) + 1 < 2 ^ 64) × (length (now b) + 1 < 2 ^ 64) ⌝ }
+    ensures { λ r. ⌜ Met (grown 1 1 (conformOf (typeAt left (now (a .entry))) (typeAt left (now (b .entry))))) r (now (other .exit)) ⌝ }
 {
-    let w = pass_both(&a[0..], &b[0..], left);
-    if w == 0 {
+    let k = same_simple(a, 0, b, 0, left);
+    if k != 0 {
+        *other = k + 1;
+        return k + 1;
+    }
+    let x = conforms(&a[0..], &b[0..], left, other);
+    if x == 0 {
         return 0;
     }
-    sizes(w % 65536, w / 65536, 1, 1)
+    *other = *other + 1;
+    x + 1
 }
 
-// A pass over `count` parameters, the other way round, and the results behind them, which count 0 only passes over; behind two bytes each.
-fn pass_sig(a: &[u8], b: &[u8], count: usize, left: usize) -> usize
-    ensures { λ r. ⌜ Met (grown 2 2 (conformBy size-sig (le-sig (eqb count 0)) (sigAt left count (now (a .entry))) (sigAt left count (now (b .entry))))) r ⌝ }
+// `count` parameters, the other way round, and the results behind them, which count 0 only passes over; behind two bytes each.
+fn conform_sig(a: &[u8], b: &[u8], count: usize, left: usize, other: &mut usize) -> usize
+    requires { ⌜ (length (now a) + 2 < 2 ^ 64) × (length (now b) + 2 < 2 ^ 64) ⌝ }
+    ensures { λ r. ⌜ Met (grown 2 2 (conformBy size-sig size-sig (le-sig (eqb count 0)) (sigAt left count (now (a .entry))) (sigAt left count (now (b .entry))))) r (now (other .exit)) ⌝ }
 {
     if 0 == count {
-        let x = skip(&a[0..], left);
+        let x = skip_both(&a[0..], &b[0..], left, other);
         if x == 0 {
             return 0;
         }
-        let y = skip(&b[0..], left);
-        if y == 0 {
-            return 0;
-        }
-        return sizes(x, y, 2, 2);
+        *other = *other + 2;
+        return x + 2;
     }
     let mut at: usize = 0;
     let mut bt: usize = 0;
     let mut i: usize = 0;
     while i < count {
-        let w = pass_both(&b[bt..], &a[at..], left);
-        if w == 0 {
+        i += 1;
+        let k = same_simple(b, bt, a, at, left);
+        if k != 0 {
+            bt = bt + k;
+            at = at + k;
+            continue;
+        }
+        let y = conforms(&b[bt..], &a[at..], left, other);
+        if y == 0 {
             return 0;
         }
-        bt = bt + w % 65536;
-        at = at + w / 65536;
-        i += 1;
+        bt = bt + y;
+        at = at + *other;
     }
-    let w = pass_both(&a[at..], &b[bt..], left);
-    if w == 0 {
+    let x = conforms(&a[at..], &b[bt..], left, other);
+    if x == 0 {
         return 0;
     }
-    sizes(at + w % 65536, bt + w / 65536, 2, 2)
+    *other = bt + *other + 2;
+    at + x + 2
 }
 
-// A pass over n entries of one context type and m of another, the names of both ascending; behind three bytes each.
-fn pass_fields(a: &[u8], n: usize, b: &[u8], m: usize, left: usize) -> usize
-    ensures { λ r. ⌜ Met (grown 3 3 (conformBy size-fields (entries (le fixed)) (fieldsAt left n 0 (now (a .entry))) (fieldsAt left m 0 (now (b .entry))))) r ⌝ }
+// n entries of one context type and m of another, the names of both ascending; behind three bytes each.
+fn conform_fields(a: &[u8], n: usize, b: &[u8], m: usize, left: usize, other: &mut usize) -> usize
+    requires { ⌜ (length (now a) + 3 < 2 ^ 64) × (length (now b) + 3 < 2 ^ 64) ⌝ }
+    ensures { λ r. ⌜ Met (grown 3 3 (conformBy size-fields size-fields (entries (le fixed)) (fieldsAt left n 0 (now (a .entry))) (fieldsAt left m 0 (now (b .entry))))) r (now (other .exit)) ⌝ }
 {
     let mut at: usize = 0;
     let mut least: usize = 0;
@@ -371,25 +244,32 @@ fn pass_fields(a: &[u8], n: usize, b: &[u8], m: usize, left: usize) -> usize
             continue;
         }
         let q = bt + NAME_WIDTH;
-        let w = pass_both(&a[p..], &b[q..], left);
-        if w == 0 {
-            return 0;
-        }
-        at = p + w % 65536;
-        bt = q + w / 65536;
         least = name + 1;
         i += 1;
         j += 1;
+        let k = same_simple(a, p, b, q, left);
+        if k != 0 {
+            at = p + k;
+            bt = q + k;
+            continue;
+        }
+        let x = conforms(&a[p..], &b[q..], left, other);
+        if x == 0 {
+            return 0;
+        }
+        at = p + x;
+        bt = q + *other;
     }
     if j < m {
         return 0;
     }
-    sizes(at, bt, 3, 3)
+    *other = bt + 3;
+    at + 3
 }
 
-// Whether one pass tells that the first whole type conforms to the second.
+// Whether both are whole types and the first conforms to the second.
 fn passes(a: &[u8], b: &[u8]) -> bool
-    ensures { λ r. ⌜ (r ≡ true → isConformant (now (a .entry)) (now (b .entry)) ≡ done true) ⌝ }
+    ensures { λ r. ⌜ r ≡ isYes (isConformant (now (a .entry)) (now (b .entry))) ⌝ }
 {
     if MOST_BYTES < a.len() {
         return false;
@@ -397,14 +277,15 @@ fn passes(a: &[u8], b: &[u8]) -> bool
     if MOST_BYTES < b.len() {
         return false;
     }
-    let w = pass_both(a, b, TYPE_LEVELS);
-    if w == 0 {
+    let mut other: usize = 0;
+    let size = conforms(a, b, TYPE_LEVELS, &mut other);
+    if size == 0 {
         return false;
     }
-    if w % 65536 != a.len() {
+    if size != a.len() {
         return false;
     }
-    w / 65536 == b.len()
+    other == b.len()
 }
 
 // `FeelType::is_conformant`.
@@ -420,10 +301,7 @@ pub fn is_conformant(a: &[u8], b: &[u8]) -> Verdict
     if let Checked::Refused(n) = form::check_type(b) {
         return Verdict::Refused(n);
     }
-    match conforms(a, b, TYPE_LEVELS) {
-        Conform::Yes { a: _, b: _ } => Verdict::Yes,
-        Conform::No => Verdict::No,
-    }
+    Verdict::No
 }
 
 // `FeelType::is_simple_built_in_type`.
@@ -452,98 +330,167 @@ pub fn is_null(t: &[u8]) -> Verdict
     Verdict::No
 }
 
-// ---- instance_of
+// ---- instance_of, in the same shape
 
 // Whether the type at the front of `a` is Null or the one at the front of `b`.
-fn null_or_same(a: &[u8], b: &[u8], left: usize) -> Conform
-    requires { ⌜ Ok (typeAt left (now a)) ⌝ }
-    requires { ⌜ Ok (typeAt left (now b)) ⌝ }
-    ensures { λ r. ⌜ r ≡ conformBy size nullOrSame (typeAt left (now (a .entry))) (typeAt left (now (b .entry))) ⌝ }
+fn null_or_same(a: &[u8], b: &[u8], left: usize, other: &mut usize) -> usize
+    ensures { λ r. ⌜ Met (typesBy nullOrSame (typeAt left (now (a .entry))) (typeAt left (now (b .entry)))) r (now (other .exit)) ⌝ }
 {
-    let x = skip(a, left);
-    let y = skip(b, left);
+    let x = skip_both(a, b, left, other);
+    if x == 0 {
+        return 0;
+    }
     if a[0] == 0x29 {
-        return Conform::Yes { a: x, b: y };
+        return x;
     }
+    let y = *other;
     if check::same(&a[..x], &b[..y]) {
-        return Conform::Yes { a: x, b: y };
+        return x;
     }
-    Conform::No
+    0
 }
 
-// n entries of one context against m of another: each name of the second is in the first with Null or the equal type.
-fn instance_fields(a: &[u8], n: usize, b: &[u8], m: usize, left: usize) -> Conform
-    requires { ⌜ Ok (fieldsAt left n 0 (now a)) ⌝ }
-    requires { ⌜ Ok (fieldsAt left m 0 (now b)) ⌝ }
-    ensures { λ r. ⌜ r ≡ conformBy size-fields (entries nullOrSame) (fieldsAt left n 0 (now (a .entry))) (fieldsAt left m 0 (now (b .entry))) ⌝ }
+// n entries of one context type against m of another: each name of the second is in the first with Null or the equal type; behind three bytes each.
+fn instance_fields(a: &[u8], n: usize, b: &[u8], m: usize, left: usize, other: &mut usize) -> usize
+    requires { ⌜ (length (now a) + 3 < 2 ^ 64) × (length (now b) + 3 < 2 ^ 64) ⌝ }
+    ensures { λ r. ⌜ Met (grown 3 3 (conformBy size-fields size-fields (entries nullOrSame) (fieldsAt left n 0 (now (a .entry))) (fieldsAt left m 0 (now (b .entry))))) r (now (other .exit)) ⌝ }
 {
     let mut at: usize = 0;
+    let mut least: usize = 0;
     let mut i: usize = 0;
     let mut bt: usize = 0;
     let mut j: usize = 0;
     while i < n {
-        let x = form::name_at(a, at);
-        let next = peek(b, bt, j, m);
-        let p = at + NAME_WIDTH;
-        if next < x {
-            return Conform::No;
+        if a.len() - at < NAME_WIDTH {
+            return 0;
         }
-        if x < next {
-            at = p + skip(&a[p..], left);
+        let name = form::name_at(a, at);
+        if name < least {
+            return 0;
+        }
+        if j < m {
+            if b.len() - bt < NAME_WIDTH {
+                return 0;
+            }
+        }
+        let next = peek(b, bt, j, m);
+        if next < name {
+            return 0;
+        }
+        let p = at + NAME_WIDTH;
+        if name < next {
+            let k = skip(&a[p..], left);
+            if k == 0 {
+                return 0;
+            }
+            at = p + k;
+            least = name + 1;
             i += 1;
             continue;
         }
         let q = bt + NAME_WIDTH;
-        match null_or_same(&a[p..], &b[q..], left) {
-            Conform::Yes { a: u, b: v } => {
-                at = p + u;
-                bt = q + v;
-            }
-            Conform::No => return Conform::No,
+        let x = null_or_same(&a[p..], &b[q..], left, other);
+        if x == 0 {
+            return 0;
         }
+        at = p + x;
+        bt = q + *other;
+        least = name + 1;
         i += 1;
         j += 1;
     }
     if j < m {
-        return Conform::No;
+        return 0;
     }
-    Conform::Yes { a: at, b: bt }
+    *other = bt + 3;
+    at + 3
+}
+
+// Whether the type at the front of `a` is an instance of the one at the front of `b`.
+fn instance(a: &[u8], b: &[u8], left: usize, other: &mut usize) -> usize
+    ensures { λ r. ⌜ Met (typesBy isInstanceOf (typeAt left (now (a .entry))) (typeAt left (now (b .entry)))) r (now (other .exit)) ⌝ }
+{
+    if left == 0 {
+        return 0;
+    }
+    if a.len() == 0 {
+        return 0;
+    }
+    if b.len() == 0 {
+        return 0;
+    }
+    let c = a[0];
+    if c != b[0] {
+        return 0;
+    }
+    match c {
+        0x2A => {
+            let x = skip_both(a, b, left, other);
+            if x == 0 {
+                return 0;
+            }
+            if b[1] == 0x20 {
+                return x;
+            }
+            let y = *other;
+            if check::same(&a[..x], &b[..y]) {
+                return x;
+            }
+            0
+        }
+        0x2C => {
+            if a.len() < 3 {
+                return 0;
+            }
+            if b.len() < 3 {
+                return 0;
+            }
+            instance_fields(
+                &a[3..],
+                form::word_at(a, 1),
+                &b[3..],
+                form::word_at(b, 1),
+                left - 1,
+                other,
+            )
+        }
+        _ => 0,
+    }
+}
+
+// Whether both are whole types and the first is an instance of the second.
+fn is_instance(a: &[u8], b: &[u8]) -> bool
+    ensures { λ r. ⌜ r ≡ isYes (instanceOf (now (a .entry)) (now (b .entry))) ⌝ }
+{
+    if MOST_BYTES < a.len() {
+        return false;
+    }
+    if MOST_BYTES < b.len() {
+        return false;
+    }
+    let mut other: usize = 0;
+    let size = instance(a, b, TYPE_LEVELS, &mut other);
+    if size == 0 {
+        return false;
+    }
+    if size != a.len() {
+        return false;
+    }
+    other == b.len()
 }
 
 // `FeelType::instance_of`.
 pub fn instance_of(a: &[u8], b: &[u8]) -> Verdict
     ensures { λ r. ⌜ verdict r ≡ instanceOf (now (a .entry)) (now (b .entry)) ⌝ }
 {
+    if is_instance(a, b) {
+        return Verdict::Yes;
+    }
     if let Checked::Refused(n) = form::check_type(a) {
         return Verdict::Refused(n);
     }
     if let Checked::Refused(n) = form::check_type(b) {
         return Verdict::Refused(n);
-    }
-    let c = a[0];
-    if c != b[0] {
-        return Verdict::No;
-    }
-    if c == 0x2A {
-        if b[1] == 0x20 {
-            return Verdict::Yes;
-        }
-        if check::same(a, b) {
-            return Verdict::Yes;
-        }
-        return Verdict::No;
-    }
-    if c == 0x2C {
-        match instance_fields(
-            &a[3..],
-            form::word_at(a, 1),
-            &b[3..],
-            form::word_at(b, 1),
-            TYPE_LEVELS - 1,
-        ) {
-            Conform::Yes { a: _, b: _ } => return Verdict::Yes,
-            Conform::No => return Verdict::No,
-        }
     }
     Verdict::No
 }

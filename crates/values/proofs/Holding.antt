@@ -1,490 +1,321 @@
--- Laws of a value held to a type over bytes: by the command bytes, and what stands behind them.
+-- A value and a type read and held to each other at once: what each return of the walks owes. What is left of both decides, whether it is read or not.
 -- Assumes nothing.
-use Prim.Native.Nat.{ℕ, zero, suc, _+_, _-_, _<_, _≤_}
+use Prim.Native.Nat.{ℕ, _+_, _-_, _<_, _≤_}
 use mathlib.Core.Path.{_≡_, refl, sym, ap, ap₂, _∙_}
-use mathlib.Core.Bool.{Bool, true, false, _&&_}
-use mathlib.Core.Option.{Option, some}
+use mathlib.Core.Bool.{Bool, true, false, _&&_, true≢false}
+use mathlib.Core.Option.{Option, none, some}
 use mathlib.Core.List.{List}
 use native.Mathlib.Omega.{arith}
-use lib.ListN.{length, getD, take, drop}
-use borrow.Author.Tests.{ne-eqb}
-use Rattle.form.specs.Trees.{Simple, any, Ty, leaf, built, list, range, context, function, Tys, no-params, param, Temporal, on-date, at-time, at-dateTime, for-daysAndTime, for-yearsAndMonths, code, code-temporal, decode, decode-temporal, Params, parameter, Leaf, l-null, l-boolean, l-number, l-string, l-temporal, Val, v-leaf, v-range, v-list, v-context, v-function, v-built-in, v-type, v-irrelevant, Vals, no-items, item, Entries}
-use Rattle.form.specs.Limits.{nameWidth}
-use Rattle.form.specs.Form.{numAt, countTys}
-use Rattle.form.specs.Layout.{ofValue, kTemporal, operands, operandsV, kindOf, widthOf}
-use Rattle.form.proofs.Commands.{kind-temporal, width-is}
-use Rattle.form.proofs.ExactTypes.{decode-code}
-use Rattle.form.proofs.ExactValues.{code-decode}
-use Rattle.order.specs.Order.{up, fixed, flat}
-use Rattle.order.specs.Types.{cmp, cmps}
-use Rattle.order.specs.Values.{temporal-type, leaf-type, types-of, conforms, all-conform}
+use lib.ListN.{length, getD, take, drop, length-drop}
+use lib.Dec.{leb, eqb}
+use borrow.Author.Tests.{leb-true, leb-false, eqb-true, eqb-false}
+use Rattle.form.specs.Trees.{Ty, leaf, decode, built, list, range, context, simple, Val, v-range, v-list, v-context, v-function, Vals, no-items, item, Entries, isDataLeaf}
+use Rattle.form.specs.Form.{numAt}
+use Rattle.form.specs.Outcome.{pick}
+use Rattle.form.specs.Read.{Got, got, bad, readV}
+use Rattle.form.specs.Walks.{Short, leafIn}
+use Rattle.form.proofs.Nodes.{value-read}
+use Rattle.form.proofs.Runs.{first-at}
+use Rattle.order.specs.Order.{fixed}
+use Rattle.order.specs.Size.{size, size-fields, size-val, size-vals, size-entries}
+use Rattle.order.specs.Values.{conforms, all-conform}
 use Rattle.order.specs.Inferred.{valueConformsTo}
-use Rattle.order.specs.Size.{size, size-fields, size-leaf, size-params, size-val, size-vals, size-entries}
-use Rattle.order.proofs.Simple.{fixed-laws}
+use Rattle.order.proofs.Size.{size-val-positive}
 use Rattle.order.proofs.Bools.{and-true, and-false}
-use Rattle.types.specs.At.{typeAt, fieldsAt, Sig, sig, cons, funOf, size-sig, sigAt, Ok, sizeAt}
-use Rattle.types.specs.Conform.{judge, grown}
-use Rattle.types.specs.declared.Conform.{Conform}
-use Rattle.types.specs.declared.Conform.the-variants.{Yes, No}
+use Rattle.types.specs.At.{typeAt, fieldsAt, funOf, size-sig, sigAt, sizeAt, Ok}
+use Rattle.types.specs.Conform.{Conform, Yes, No, judge, conformBy, grown, Met}
 use Rattle.types.proofs.Reading as types
-use Rattle.types.proofs.Reading.{rest, ok-got, is-ok, cmd, cmd-is, IsCtx, IsFun, t-good, size-fun, result}
-use Rattle.types.proofs.Entries as entries
-use Rattle.types.proofs.Conforming.{judge-is, grown-judge, judge-yes, count-sig, sig-count}
-use Rattle.values.specs.At.{valueAt, itemsAt, entriesAt, Definition, definition, size-definition, definitionAt, sizeAtV}
-use Rattle.values.specs.Held.{heldBy, held, entriesConform, definitionConforms}
-use Rattle.values.proofs.Reading as values
-use Rattle.values.proofs.Reading.{IsVal, is-null, is-boolean, is-number, is-string, is-temporal, is-range, is-list, is-context, is-definition, is-built-in, is-type, is-irrelevant, is-val, v-inside, size-got, paramsAt, next-parameter, no-parameter, definition-parts}
+use Rattle.types.proofs.Reading.{rest, is-ok, seen-got, got-seen, cmd, cmd-is, is-ctx, is-fun, size-fun}
+use Rattle.types.proofs.Conforming.{sig-count}
+use Rattle.types.proofs.Passing.{cmd-in, sized, unsized}
+use Rattle.types.proofs.Forward as forward
+use Rattle.types.proofs.Names.{readable-type}
+use Rattle.types.proofs.Short.{Passed, passed, not-passed}
+use Rattle.types.proofs.Pairs.{mapO, Both, both, taken, yes-of, no-when, mapped, same-test, grown-on, grown-none, met-yes, met-no, met-as, Readable, Sized, Pair, MetAt, met-here, pair-yes, pair-none, pair-no, pair-in}
+use Rattle.values.specs.At.{valueAt, itemsAt, entriesAt, definition, size-definition, definitionAt, sizeAtV}
+use Rattle.values.specs.Held.{heldBy, held, leafConforms, heldItems, entriesConform, heldEntries, definitionConforms, heldDefinition}
+use Rattle.values.proofs.Reading.{value-told, some-byte, some-level, v-inside, size-got, next-item, no-item}
+use Rattle.values.proofs.Forward.{rangeOf, node-range, no-range, node-list, node-context, item-on, items-gone}
+use Rattle.values.proofs.ByKind.{kind, kindAt, kind-plain, kind-other, kind-is, leaf-is, long-is, small-is, definition-is, kinds-differ, to-any, leaf-null, leaf-same, simple-is, simple-cmd, not-simple, held-function, counts-differ}
 
--- ---- verdicts
-pub both : {X Y : Type 0} (sx : X → ℕ) (sy : Y → ℕ) (test : X → Y → Bool) (r : Option X) (s : Option Y) (x : X) (y : Y) → r ≡ some x → s ≡ some y → heldBy sx sy test r s ≡ judge (test x y) (sx x) (sy y)
-unfolding heldBy
-both sx sy test r s x y p q = ap₂ (heldBy sx sy test) p q
+pub readable-value : (l : ℕ) → Readable size-val (valueAt l)
+readable-value l = record { positive = size-val-positive; inside = λ s x e. v-inside l s x e }
 
--- a callee's verdict on two parts
-pub called : {X Y : Type 0} (sx : X → ℕ) (sy : Y → ℕ) (test : X → Y → Bool) (f : List ℕ → Option X) (g : List ℕ → Option Y) (v : List ℕ) (i : ℕ) (t : List ℕ) (j : ℕ) (x : X) (y : Y) (w : Conform) → f (drop i v) ≡ some x → g (drop j t) ≡ some y → w ≡ heldBy sx sy test (f (take (length v - i) (drop i v))) (g (take (length t - j) (drop j t))) → w ≡ judge (test x y) (sx x) (sy y)
-called sx sy test f g v i t j x y w p q e = rw (rest v i, rest t j) at e ∙ both sx sy test (f (drop i v)) (g (drop j t)) x y p q
+-- ---- a value at a place, from its size
+sized-at : (r : Option Val) (n : ℕ) → n ≡ sizeAtV r → (n ≡ 0 → ⊥) → (x : Val) × (r ≡ some x) × (n ≡ size-val x)
+unfolding sizeAtV
+sized-at (some x) n e z = (x, refl, e)
+sized-at none n e z = absurd (z e)
 
--- ---- a value by what the code does with it
-data Sort (l : ℕ) (s : List ℕ) : Val → Type 0 where
-  s-null : (x : ℕ) → getD s 0 0 ≡ 0 → Sort l s (v-leaf (l-null x))
-  s-simple : (f : Leaf) → 1 ≤ getD s 0 0 → getD s 0 0 ≤ 8 → code (leaf-type f) ≡ getD s 0 0 → size-leaf f ≡ widthOf (getD s 0 0) + 1 → Sort l s (v-leaf f)
-  s-range : (i j : ℕ) (a b : Val) → getD s 0 0 ≡ 9 → 3 ≤ length s → itemsAt (l - 1) 2 (drop 3 s) ≡ some (item a (item b no-items)) → Sort l s (v-range i j a b)
-  s-list : (vs : Vals) → getD s 0 0 ≡ 10 → 3 ≤ length s → itemsAt (l - 1) (numAt 2 1 s) (drop 3 s) ≡ some vs → Sort l s (v-list vs)
-  s-context : (es : Entries) → getD s 0 0 ≡ 11 → 3 ≤ length s → entriesAt (l - 1) (numAt 2 1 s) 0 (drop 3 s) ≡ some es → Sort l s (v-context es)
-  s-definition : (r : Ty) (ps : Params) (b : ℕ) → getD s 0 0 ≡ 12 → 4 ≤ length s → definitionAt (l - 1) (getD s 1 0) (drop 4 s) ≡ some (definition r ps) → Sort l s (v-function ps b r)
-  s-other : (v : Val) → 13 ≤ getD s 0 0 → ((u : Ty) → (cmd u ≡ 32 → ⊥) → conforms fixed v u ≡ false) → Sort l s v
+pub sized-value : (l : ℕ) (s : List ℕ) (k n : ℕ) → n ≡ sizeAtV (valueAt l (take (length s - k) (drop k s))) → (n ≡ 0 → ⊥) → Sized size-val (valueAt l) (drop k s) n
+sized-value l s k n e z = let g = sized-at (valueAt l (drop k s)) n (e ∙ ap (λ r. sizeAtV (valueAt l r)) (rest s k)) z in record { x = g .0; read = g .1; is = g .2 }
 
-code-type : (k : Temporal) → code (temporal-type k) ≡ 4 + code-temporal k
-code-type on-date = refl
-code-type at-time = refl
-code-type at-dateTime = refl
-code-type for-daysAndTime = refl
-code-type for-yearsAndMonths = refl
+pub unsized-value : (l : ℕ) (s : List ℕ) (k n : ℕ) → n ≡ sizeAtV (valueAt l (take (length s - k) (drop k s))) → n ≡ 0 → (x : Val) → valueAt l (drop k s) ≡ some x → ⊥
+unsized-value l s k n e z x r = omega (arith, size-got (valueAt l (drop k s)) x r, e ∙ ap (λ y. sizeAtV (valueAt l y)) (rest s k), size-val-positive x)
 
--- only Any
-not-any : (s : Simple) → (cmd (leaf s) ≡ 32 → ⊥) → flat any s ≡ false
-not-any s a = simp (ne-eqb (code s) 0 (λ e. a (omega arith)), ne-eqb 0 (code s) (λ e. a (omega arith)))
+-- ---- no, whatever the test is; a value has l levels, a type m
+module _ (test : Val → Ty → Bool) (l m : ℕ) (v t : List ℕ) (u : ℕ) where
+  pub fails : ((x : Val) (y : Ty) → valueAt l v ≡ some x → typeAt m t ≡ some y → test x y ≡ false) → Met (heldBy test (valueAt l v) (typeAt m t)) 0 u
+  fails f = met-no 0 u (no-when size-val size test (valueAt l v) (typeAt m t) f) refl
 
-other-built-in : (x : ℕ) (u : Ty) → (cmd u ≡ 32 → ⊥) → conforms fixed (v-built-in x) u ≡ false
-unfolding conforms
-other-built-in x (leaf s) a = not-any s a
-other-built-in x (built y) a = refl
+  pub never : ((x : Val) (y : Ty) → valueAt l v ≡ some x → typeAt m t ≡ some y → ⊥) → Met (heldBy test (valueAt l v) (typeAt m t)) 0 u
+  never f = fails (λ x y e g. absurd (f x y e g))
 
-other-type : (t u : Ty) → (cmd u ≡ 32 → ⊥) → conforms fixed (v-type t) u ≡ false
-unfolding conforms
-other-type t (leaf s) a = not-any s a
-other-type t (built y) a = refl
+  pub no-level : l ≡ 0 → Met (heldBy test (valueAt l v) (typeAt m t)) 0 u
+  no-level z = never (λ x y e f. omega (arith, some-level l v x e))
 
-other-irrelevant : (u : Ty) → (cmd u ≡ 32 → ⊥) → conforms fixed v-irrelevant u ≡ false
-unfolding conforms
-other-irrelevant (leaf s) a = not-any s a
-other-irrelevant (built y) a = refl
+  pub no-value : length v ≡ 0 → Met (heldBy test (valueAt l v) (typeAt m t)) 0 u
+  no-value z = never (λ x y e f. omega (arith, some-byte l v x e))
 
-width-temporal : (b : ℕ) → 4 ≤ b → b < 9 → widthOf b ≡ 8
-unfolding operands operandsV
-width-temporal b h i = width-is b (ofValue kTemporal) (kind-temporal b h i)
+  pub no-type : length t ≡ 0 → Met (heldBy test (valueAt l v) (typeAt m t)) 0 u
+  no-type z = never (λ x y e f. omega (arith, types.some-byte m t y f))
 
-sort : (l : ℕ) (s : List ℕ) (v : Val) → IsVal l s v → Sort l s v
-unfolding widthOf kindOf operands operandsV
-sort l s v (is-null x c) = s-null x c
-sort l s v (is-boolean x c) = s-simple (l-boolean x) (omega arith) (omega arith) (sym c) (ap (λ k. widthOf k + 1) (sym c))
-sort l s v (is-number x c) = s-simple (l-number x) (omega arith) (omega arith) (sym c) (ap (λ k. widthOf k + 1) (sym c))
-sort l s v (is-string x c) = s-simple (l-string x) (omega arith) (omega arith) (sym c) (ap (λ k. widthOf k + 1) (sym c))
-sort l s v (is-temporal x h i) =
-    s-simple (l-temporal (decode-temporal (getD s 0 0 - 4)) x) (omega arith) (omega arith)
-    (omega (arith, code-type (decode-temporal (getD s 0 0 - 4)), code-decode (getD s 0 0 - 4) (omega arith))) (omega (arith, width-temporal (getD s 0 0) h i))
-sort l s v (is-range i j a b c k p) = s-range i j a b c k p
-sort l s v (is-list vs c k p) = s-list vs c k p
-sort l s v (is-context es c k p) = s-context es c k p
-sort l s v (is-definition r ps b c k p) = s-definition r ps b c k p
-sort l s v (is-built-in x c) = s-other (v-built-in x) (omega arith) (other-built-in x)
-sort l s v (is-type t c p) = s-other (v-type t) (omega arith) (other-type t)
-sort l s v (is-irrelevant c) = s-other v-irrelevant (omega arith) other-irrelevant
+-- ---- the returns of `leaf`
+module _ (l : ℕ) (s : List ℕ) (n room : ℕ) (h : Short isDataLeaf (readV l s) n room) where
+  passed-leaf : (n ≡ 0 → ⊥) → Passed size-val isDataLeaf (valueAt l s) n
+  unfolding valueAt
+  passed-leaf z = passed size-val isDataLeaf (readV l s) (λ x m r. value-told l s x m r .sized) n room h z
 
--- ---- values against types, by the command bytes
-any-is : (s : Simple) → 32 + code s ≡ 32 → s ≡ any
-any-is s e = let f : code s ≡ 0 = omega arith in sym (decode-code s) ∙ ap decode f
+  no-leaf : n ≡ 0 → (x : Val) → valueAt l s ≡ some x → isDataLeaf x ≡ false
+  unfolding valueAt
+  no-leaf z x e = not-passed size-val isDataLeaf (readV l s) (λ y m r. value-told l s y m r .sized) n room h size-val-positive z x e
 
-to-any : (v : Val) → conforms fixed v (leaf any) ≡ true
-unfolding conforms cmp
-to-any (v-leaf f) = fixed-laws .any-greatest (leaf-type f)
-to-any (v-range i j a b) = refl
-to-any (v-list vs) = refl
-to-any (v-context es) = refl
-to-any (v-function ps b r) = refl
-to-any (v-built-in x) = refl
-to-any (v-type t) = refl
-to-any v-irrelevant = refl
+-- a test that is three
+three : (a b c : Bool) → a ≡ true → b ≡ true → c ≡ true → a && (b && c) ≡ true
+three a b c p q r = rw (p, q, r)
 
-held-any : (v : Val) (u : Ty) → cmd u ≡ 32 → (size u ≡ 1) × (conforms fixed v u ≡ true)
-unfolding size
-held-any v (leaf s) e = (refl, ap (λ x. conforms fixed v (leaf x)) (any-is s e) ∙ to-any v)
-held-any v (built (list t)) e = absurd (omega arith)
-held-any v (built (range t)) e = absurd (omega arith)
-held-any v (built (context fs)) e = absurd (omega arith)
-held-any v (built (function ps r)) e = absurd (omega arith)
+module _ (l m : ℕ) (v : List ℕ) (at : ℕ) (t : List ℕ) (bt : ℕ) where
+  pub leaf-no-type : length t ≡ bt → (u : ℕ) → Met (heldBy leafConforms (valueAt l (drop at v)) (typeAt m (drop bt t))) 0 u
+  leaf-no-type e u = no-type leafConforms l m (drop at v) (drop bt t) u (simp length-drop (omega arith))
 
-simple-size : (u : Ty) → cmd u < 42 → size u ≡ 1
-unfolding size
-simple-size (leaf s) h = refl
-simple-size (built (list t)) h = absurd (omega arith)
-simple-size (built (range t)) h = absurd (omega arith)
-simple-size (built (context fs)) h = absurd (omega arith)
-simple-size (built (function ps r)) h = absurd (omega arith)
+  cmd-there : (y : Ty) → typeAt m (drop bt t) ≡ some y → cmd y ≡ getD t bt 0
+  cmd-there y f = cmd-is m (drop bt t) y f ∙ first-at t bt
 
-held-null : (x : ℕ) (u : Ty) → conforms fixed (v-leaf (l-null x)) u ≡ true
-unfolding conforms cmp
-held-null x (leaf s) = fixed-laws .null-least s
-held-null x (built y) = refl
+  pub leaf-below : getD t bt 0 < 32 → (u : ℕ) → Met (heldBy leafConforms (valueAt l (drop at v)) (typeAt m (drop bt t))) 0 u
+  leaf-below h u = never leafConforms l m (drop at v) (drop bt t) u (λ x y e f. let c = cmd-in y in omega (arith, cmd-there y f))
 
-simple-other : (f : Leaf) (u : Ty) (c : ℕ) → code (leaf-type f) ≡ c → c ≤ 8 → (cmd u ≡ 32 → ⊥) → (cmd u ≡ c + 32 → ⊥) → conforms fixed (v-leaf f) u ≡ false
-unfolding conforms cmp
-simple-other f (leaf s) c e h a n = simp (ne-eqb (code (leaf-type f)) 9 (λ z. omega arith), ne-eqb (code s) 0 (λ z. a (omega arith)), ne-eqb (code (leaf-type f)) (code s) (λ z. n (omega arith)))
-simple-other f (built y) c e h a n = simp (ne-eqb (code (leaf-type f)) 9 (λ z. omega arith))
-
-simple-same : (f : Leaf) (u : Ty) (c : ℕ) → code (leaf-type f) ≡ c → c ≤ 8 → cmd u ≡ c + 32 → (size u ≡ 1) × (conforms fixed (v-leaf f) u ≡ true)
-unfolding conforms cmp size
-simple-same f (leaf s) c e h n =
-    let k : code (leaf-type f) ≡ code s = omega arith in
-    let q : leaf-type f ≡ s = sym (decode-code (leaf-type f)) ∙ ap decode k ∙ decode-code s in
-    (refl, ap (λ x. flat x s) q ∙ fixed-laws .reflexive s)
-simple-same f (built (list t)) c e h n = absurd (omega arith)
-simple-same f (built (range t)) c e h n = absurd (omega arith)
-simple-same f (built (context fs)) c e h n = absurd (omega arith)
-simple-same f (built (function ps r)) c e h n = absurd (omega arith)
-
-range-other : (i j : ℕ) (a b : Val) (u : Ty) → (cmd u ≡ 32 → ⊥) → (cmd u ≡ 43 → ⊥) → conforms fixed (v-range i j a b) u ≡ false
-unfolding conforms
-range-other i j a b (leaf s) y n = not-any s y
-range-other i j a b (built (list t)) y n = refl
-range-other i j a b (built (range t)) y n = absurd (n refl)
-range-other i j a b (built (context fs)) y n = refl
-range-other i j a b (built (function ps r)) y n = refl
-
-list-other : (vs : Vals) (u : Ty) → (cmd u ≡ 32 → ⊥) → (cmd u ≡ 42 → ⊥) → conforms fixed (v-list vs) u ≡ false
-unfolding conforms
-list-other vs (leaf s) y n = not-any s y
-list-other vs (built (list t)) y n = absurd (n refl)
-list-other vs (built (range t)) y n = refl
-list-other vs (built (context fs)) y n = refl
-list-other vs (built (function ps r)) y n = refl
-
-context-other : (es : Entries) (u : Ty) → (cmd u ≡ 32 → ⊥) → (cmd u ≡ 44 → ⊥) → conforms fixed (v-context es) u ≡ false
-unfolding conforms
-context-other es (leaf s) y n = not-any s y
-context-other es (built (list t)) y n = refl
-context-other es (built (range t)) y n = refl
-context-other es (built (context fs)) y n = absurd (n refl)
-context-other es (built (function ps r)) y n = refl
-
-function-other : (ps : Params) (b : ℕ) (r u : Ty) → (cmd u ≡ 32 → ⊥) → (cmd u ≡ 45 → ⊥) → conforms fixed (v-function ps b r) u ≡ false
-unfolding conforms
-function-other ps b r (leaf s) y n = not-any s y
-function-other ps b r (built (list t)) y n = refl
-function-other ps b r (built (range t)) y n = refl
-function-other ps b r (built (context fs)) y n = refl
-function-other ps b r (built (function qs s)) y n = absurd (n refl)
-
--- ---- definitions
-held-function : (ps : Params) (b : ℕ) (r : Ty) (f : Sig) → conforms fixed (v-function ps b r) (funOf f) ≡ definitionConforms (definition r ps) f
-unfolding conforms
-held-function ps b r (sig qs s) = refl
-
-cmps-count : (ps qs : Tys) → (countTys ps ≡ countTys qs → ⊥) → cmps fixed up ps qs ≡ false
-unfolding cmp countTys
-cmps-count no-params no-params d = absurd (d refl)
-cmps-count no-params (param t qs) d = refl
-cmps-count (param t ps) no-params d = refl
-cmps-count (param t ps) (param u qs) d = ap (λ x. cmp fixed up t u && x) (cmps-count ps qs (λ e. d (ap suc e))) ∙ and-false (cmp fixed up t u)
-
-params-count : (l n : ℕ) (s : List ℕ) (ps : Params) → paramsAt l n s ≡ some ps → countTys (types-of ps) ≡ n
-unfolding countTys types-of
-params-count l zero s ps e = ap (λ x. countTys (types-of x)) (no-parameter l s ps e)
-params-count l (suc n) s ps e =
-    let g = next-parameter l n s ps e in
-    ap (λ x. countTys (types-of x)) (g .is) ∙ ap suc (params-count l n (drop (size (g .t)) (drop 2 s)) (g .more) (g .second))
-
-abbrev params-of : Definition → Params
-params-of (definition r ps) = ps
-
-definition-count : (l n : ℕ) (s : List ℕ) (r : Ty) (ps : Params) → definitionAt l n s ≡ some (definition r ps) → countTys (types-of ps) ≡ n
-definition-count l n s r ps e =
-    let g = definition-parts l n s (definition r ps) e in
-    ap (λ d. countTys (types-of (params-of d))) (g .is) ∙ params-count l n (drop (size (g .r)) s) (g .ps) (g .second)
-
-counts-differ : (r : Ty) (ps : Params) (f : Sig) → (countTys (types-of ps) ≡ count-sig f → ⊥) → definitionConforms (definition r ps) f ≡ false
-counts-differ r ps (sig qs s) d = ap (λ x. x && cmp fixed up r s) (cmps-count (types-of ps) qs d)
-
--- ---- the returns of `conforms`
-module _ (l : ℕ) (v t : List ℕ) (p : Ok (valueAt l v)) (q : Ok (typeAt l t)) where
-  abbrev whole : Conform
-  whole = held (valueAt l v) (typeAt l t)
-
-  pub byte-v : 0 < length v
-  byte-v = let g = ok-got (valueAt l v) p in values.some-byte l v (g .0) (g .1)
-
-  pub byte-t : 0 < length t
-  byte-t = let g = ok-got (typeAt l t) q in types.some-byte l t (g .0) (g .1)
-
-  pub level : 0 < l
-  level = let g = ok-got (typeAt l t) q in types.some-level l t (g .0) (g .1)
-
-  -- from the trees that were read
-  trees : {X : Type 0} → ((x : Val) (u : Ty) → valueAt l v ≡ some x → typeAt l t ≡ some u → Sort l v x → X) → X
-  trees k = let g = ok-got (valueAt l v) p in let h = ok-got (typeAt l t) q in k (g .0) (h .0) (g .1) (h .1) (sort l v (g .0) (is-val l v (g .0) (g .1)))
-
-  judged : (x : Val) (u : Ty) → valueAt l v ≡ some x → typeAt l t ≡ some u → whole ≡ judge (conforms fixed x u) (size-val x) (size u)
-  judged x u e f = both size-val size valueConformsTo (valueAt l v) (typeAt l t) x u e f
-
-  no-is : (x : Val) (u : Ty) → valueAt l v ≡ some x → typeAt l t ≡ some u → conforms fixed x u ≡ false → No ≡ whole
-  no-is x u e f k = sym (judged x u e f ∙ ap (λ z. judge z (size-val x) (size u)) k)
-
-  yes-is : (x : Val) (u : Ty) (m n : ℕ) → valueAt l v ≡ some x → typeAt l t ≡ some u → conforms fixed x u ≡ true → m ≡ size-val x → n ≡ size u → Yes m n ≡ whole
-  yes-is x u m n e f k a b = ap₂ Yes a b ∙ sym (judged x u e f ∙ ap (λ z. judge z (size-val x) (size u)) k)
-
-  pub by-any : (n : ℕ) → getD t 0 0 ≡ 32 → n ≡ sizeAtV (valueAt l v) → Yes n 1 ≡ whole
-  by-any n d k = trees (λ x u e f s. let h = held-any x u (cmd-is l t u f ∙ d) in yes-is x u n 1 e f (h .1) (k ∙ size-got (valueAt l v) x e) (sym (h .0)))
-
-  pub by-null : (n : ℕ) → getD v 0 0 ≡ 0 → n ≡ sizeAt (typeAt l t) → Yes 2 n ≡ whole
-  unfolding size-val
-  by-null n c k = trees go
+  pub leaf-above : 41 < getD t bt 0 → (u : ℕ) → Met (heldBy leafConforms (valueAt l (drop at v)) (typeAt m (drop bt t))) 0 u
+  leaf-above h u = fails leafConforms l m (drop at v) (drop bt t) u (λ x y e f. go (simple y) x y refl (cmd-there y f))
     where
-      go : (x : Val) (u : Ty) → valueAt l v ≡ some x → typeAt l t ≡ some u → Sort l v x → Yes 2 n ≡ whole
-      go x u e f (s-null y d) = yes-is (v-leaf (l-null y)) u 2 n e f (held-null y u) refl (k ∙ entries.size-got (typeAt l t) u f)
-      go x u e f (s-simple y h i d z) = absurd (omega arith)
-      go x u e f (s-range i j a b d h r) = absurd (omega arith)
-      go x u e f (s-list vs d h r) = absurd (omega arith)
-      go x u e f (s-context es d h r) = absurd (omega arith)
-      go x u e f (s-definition r ps b d h z) = absurd (omega arith)
-      go x u e f (s-other y d h) = absurd (omega arith)
+      go : (q : Bool) (x : Val) (y : Ty) → simple y ≡ q → cmd y ≡ getD t bt 0 → leafConforms x y ≡ false
+      go true x y s c = absurd (let k = simple-cmd y s in omega arith)
+      go false x y s c = rw s (and-false (isDataLeaf x))
 
-  pub simple-yes : (n : ℕ) → (getD v 0 0 ≡ 0 → ⊥) → getD v 0 0 < 9 → getD t 0 0 ≡ getD v 0 0 + 32 → n ≡ widthOf (getD v 0 0) → Yes (n + 1) 1 ≡ whole
-  unfolding size-val
-  simple-yes n y0 y8 d k = trees go
+  module _ (n room : ℕ) (h : Short isDataLeaf (readV l (drop at v)) n room) where
+    pub leaf-none : n ≡ 0 → (u : ℕ) → Met (heldBy leafConforms (valueAt l (drop at v)) (typeAt m (drop bt t))) 0 u
+    leaf-none z u = fails leafConforms l m (drop at v) (drop bt t) u (λ x y e f. ap (λ q. q && (simple y && conforms fixed x y)) (no-leaf l (drop at v) n room h z x e))
+
+    module _ (z : n ≡ 0 → ⊥) where
+      P : Passed size-val isDataLeaf (valueAt l (drop at v)) n
+      P = passed-leaf l (drop at v) n room h z
+
+      leaf-kind : kind (P .x) ≡ kindAt (getD v at 0)
+      leaf-kind = kind-is l (drop at v) (P .x) (P .read) ∙ ap kindAt (first-at v at)
+
+      -- its command is at most 8
+      pub small : getD v at 0 ≤ 8
+      small = let f = first-at v at in omega (arith, small-is l (drop at v) (P .x) (P .read) (P .leafy))
+
+      -- neither null nor of this type
+      pub leaf-to-none : (getD v at 0 ≡ 0 → ⊥) → (getD t bt 0 ≡ 32 → ⊥) → (getD t bt 0 ≡ getD v at 0 + 32 → ⊥) → (u : ℕ) → Met (heldBy leafConforms (valueAt l (drop at v)) (typeAt m (drop bt t))) 0 u
+      leaf-to-none c a d u = fails leafConforms l m (drop at v) (drop bt t) u (λ x y e f.
+          let k : kind x ≡ getD v at 0 + 32 = kind-is l (drop at v) x e ∙ ap kindAt (first-at v at) ∙ kind-plain (getD v at 0) (omega arith) small in
+          let g = cmd-there y f in
+          ap (λ q. isDataLeaf x && (simple y && q)) (kinds-differ x y (λ w. omega (arith, small)) (λ w. a (sym g ∙ w)) (λ w. d (sym g ∙ sym w ∙ k)))
+          ∙ ap (λ q. isDataLeaf x && q) (and-false (simple y)) ∙ and-false (isDataLeaf x))
+
+      module _ (ml : 0 < m) (there : bt < length t) where
+        -- the type
+        module _ (lo : 32 ≤ getD t bt 0) (hi : getD t bt 0 ≤ 41) where
+          T : Sized size (typeAt m) (drop bt t) 1
+          unfolding size
+          T =
+              let f = first-at t bt in
+              let g = forward.read-simple m (drop bt t) ml (simp length-drop (omega arith)) (omega arith) (omega arith) in
+              record { x = _; read = g; is = refl }
+
+          tests : conforms fixed (P .x) (T .x) ≡ true → Met (heldBy leafConforms (valueAt l (drop at v)) (typeAt m (drop bt t))) n 1
+          tests k = met-yes (both size-val size leafConforms (valueAt l (drop at v)) (typeAt m (drop bt t)) (P .x) (T .x) (P .read) (T .read) ∙ ap (λ q. judge q (size-val (P .x)) (size (T .x))) (three (isDataLeaf (P .x)) (simple (T .x)) (conforms fixed (P .x) (T .x)) (P .leafy) (simple-is (T .x) (omega (arith, cmd-there (T .x) (T .read)))) k)) (P .is) (T .is)
+
+          pub leaf-is-null : getD v at 0 ≡ 0 → Met (heldBy leafConforms (valueAt l (drop at v)) (typeAt m (drop bt t))) n 1
+          unfolding kindAt
+          leaf-is-null c = tests (leaf-null (P .x) (T .x) (P .leafy) (leaf-kind ∙ ap kindAt c))
+
+          to-any-leaf : getD t bt 0 ≡ 32 → Met (heldBy leafConforms (valueAt l (drop at v)) (typeAt m (drop bt t))) n 1
+          to-any-leaf d = tests (to-any (P .x) (T .x) (cmd-there (T .x) (T .read) ∙ d))
+
+          own-leaf : 1 ≤ getD v at 0 → getD t bt 0 ≡ getD v at 0 + 32 → Met (heldBy leafConforms (valueAt l (drop at v)) (typeAt m (drop bt t))) n 1
+          own-leaf c d = tests (leaf-same (P .x) (T .x) (P .leafy) (simple-is (T .x) (omega (arith, cmd-there (T .x) (T .read)))) (leaf-kind ∙ kind-plain (getD v at 0) c small ∙ sym d ∙ sym (cmd-there (T .x) (T .read))))
+
+        pub leaf-to-any : getD t bt 0 ≡ 32 → Met (heldBy leafConforms (valueAt l (drop at v)) (typeAt m (drop bt t))) n 1
+        leaf-to-any d = to-any-leaf (omega arith) (omega arith) d
+
+        -- the null's number is Any's
+        pub leaf-to-own : getD t bt 0 ≡ getD v at 0 + 32 → Met (heldBy leafConforms (valueAt l (drop at v)) (typeAt m (drop bt t))) n 1
+        leaf-to-own d = go (eqb (getD v at 0) 0) refl
+          where
+            go : (q : Bool) → eqb (getD v at 0) 0 ≡ q → Met (heldBy leafConforms (valueAt l (drop at v)) (typeAt m (drop bt t))) n 1
+            go true e = leaf-to-any (let c = eqb-true (getD v at 0) 0 e in omega arith)
+            go false e = let s = small in own-leaf (omega arith) (omega arith) (let c = eqb-false (getD v at 0) 0 e in omega arith) d
+
+-- a leaf that conforms conforms as a value
+pub leaf-pair : (l m : ℕ) (v : List ℕ) (at : ℕ) (t : List ℕ) (bt n : ℕ) → Met (heldBy leafConforms (valueAt l (drop at v)) (typeAt m (drop bt t))) n 1 → (n ≡ 0 → ⊥)
+    → Pair (readable-value l) (readable-type m) valueConformsTo v at t bt n 1
+leaf-pair l m v at t bt n w z =
+    let B = taken size-val size leafConforms (valueAt l (drop at v)) (typeAt m (drop bt t)) n 1 (yes-of (heldBy leafConforms (valueAt l (drop at v)) (typeAt m (drop bt t))) n 1 w z) in
+    record { x = B .x; y = B .y; read-a = B .read-a; read-b = B .read-b; holds = last (isDataLeaf (B .x)) (simple (B .y)) (conforms fixed (B .x) (B .y)) (B .holds); size-a = B .size-a; size-b = B .size-b }
+  where
+    last : (a b c : Bool) → a && (b && c) ≡ true → c ≡ true
+    last true true c e = e
+    last true false c e = absurd (true≢false (sym e))
+    last false b c e = absurd (true≢false (sym e))
+
+-- ---- the returns of `conforms` and `conform_other`
+pub met-any : (l m : ℕ) (v t : List ℕ) → 0 < m → 0 < length t → getD t 0 0 ≡ 32 → (n : ℕ) → n ≡ sizeAtV (valueAt l (take (length v - 0) (drop 0 v))) → Met (held (valueAt l v) (typeAt m t)) n 1
+unfolding size sizeAtV
+met-any l m v t p h d n e = go (valueAt l v) refl
+  where
+    T : typeAt m t ≡ some (leaf (decode (getD t 0 0 - 32)))
+    T = forward.read-simple m t p h (omega arith) (omega arith)
+
+    size-is : n ≡ sizeAtV (valueAt l v)
+    size-is = e ∙ ap (λ r. sizeAtV (valueAt l r)) (rest v 0)
+
+    go : (r : Option Val) → valueAt l v ≡ r → Met (held (valueAt l v) (typeAt m t)) n 1
+    go (some x) r = met-yes (both size-val size valueConformsTo (valueAt l v) (typeAt m t) x (leaf (decode (getD t 0 0 - 32))) r T ∙ ap (λ q. judge q (size-val x) 1) (to-any x (leaf (decode (getD t 0 0 - 32))) (cmd-is m t (leaf (decode (getD t 0 0 - 32))) T ∙ d))) (size-is ∙ ap sizeAtV r) refl
+    go none r = met-no n 1 (no-when size-val size valueConformsTo (valueAt l v) (typeAt m t) (λ x y f g. absurd (types.never (sym r ∙ f)))) (size-is ∙ ap sizeAtV r)
+
+-- what `conform_other` is asked, and told
+pub other-short : (v : List ℕ) → length v < 3 → 3 ≤ length (take (length v - 0) (drop 0 v)) → 9 ≤ getD (take (length v - 0) (drop 0 v)) 0 0 → 11 < getD (take (length v - 0) (drop 0 v)) 0 0
+other-short v h a b = absurd (let k = rw (rest v 0) at a in omega arith)
+
+pub other-rest : (v : List ℕ) → (getD v 0 0 ≡ 9 → ⊥) → (getD v 0 0 ≡ 10 → ⊥) → (getD v 0 0 ≡ 11 → ⊥) → 3 ≤ length (take (length v - 0) (drop 0 v))
+    → 9 ≤ getD (take (length v - 0) (drop 0 v)) 0 0 → 11 < getD (take (length v - 0) (drop 0 v)) 0 0
+other-rest v p q r a b = rw (rest v 0) (let h = rw (rest v 0) at b in omega arith)
+
+pub told-other : (l m : ℕ) (v t : List ℕ) (r u : ℕ) → Met (held (valueAt l (take (length v - 0) (drop 0 v))) (typeAt m (take (length t - 0) (drop 0 t)))) r u
+    → Met (held (valueAt l v) (typeAt m t)) r u
+told-other l m v t r u w = rw (rest v 0, rest t 0) at w
+
+module _ (l m : ℕ) (v t : List ℕ) (u : ℕ) where
+  -- of another kind
+  other-kind : (k : ℕ) → kindAt (getD v 0 0) ≡ k → (k ≡ 41 → ⊥) → (getD t 0 0 ≡ 32 → ⊥) → (getD t 0 0 ≡ k → ⊥) → Met (held (valueAt l v) (typeAt m t)) 0 u
+  other-kind k e n a d = fails valueConformsTo l m v t u (λ x y f g.
+      let c = kind-is l v x f ∙ e in
+      let b = cmd-is m t y g in
+      kinds-differ x y (λ w. n (sym c ∙ w)) (λ w. a (sym b ∙ w)) (λ w. d (sym b ∙ sym w ∙ c)))
+
+  pub range-apart : getD v 0 0 ≡ 9 → (getD t 0 0 ≡ 32 → ⊥) → (getD t 0 0 ≡ 43 → ⊥) → Met (held (valueAt l v) (typeAt m t)) 0 u
+  unfolding kindAt
+  range-apart c a d = other-kind 43 (ap kindAt c) (λ z. omega arith) a d
+
+  pub list-apart : getD v 0 0 ≡ 10 → (getD t 0 0 ≡ 32 → ⊥) → (getD t 0 0 ≡ 42 → ⊥) → Met (held (valueAt l v) (typeAt m t)) 0 u
+  unfolding kindAt
+  list-apart c a d = other-kind 42 (ap kindAt c) (λ z. omega arith) a d
+
+  pub context-apart : getD v 0 0 ≡ 11 → (getD t 0 0 ≡ 32 → ⊥) → (getD t 0 0 ≡ 44 → ⊥) → Met (held (valueAt l v) (typeAt m t)) 0 u
+  unfolding kindAt
+  context-apart c a d = other-kind 44 (ap kindAt c) (λ z. omega arith) a d
+
+  pub function-apart : getD v 0 0 ≡ 12 → (getD t 0 0 ≡ 32 → ⊥) → (getD t 0 0 ≡ 45 → ⊥) → Met (held (valueAt l v) (typeAt m t)) 0 u
+  unfolding kindAt
+  function-apart c a d = other-kind 45 (ap kindAt c) (λ z. omega arith) a d
+
+  pub plain-apart : 1 ≤ getD v 0 0 → getD v 0 0 ≤ 8 → (getD t 0 0 ≡ 32 → ⊥) → (getD t 0 0 ≡ getD v 0 0 + 32 → ⊥) → Met (held (valueAt l v) (typeAt m t)) 0 u
+  plain-apart h k a d = other-kind (getD v 0 0 + 32) (kind-plain (getD v 0 0) h k) (λ z. omega arith) a d
+
+  -- no range, list or context that is there whole, no leaf, no definition
+  pub rest-apart : (3 ≤ length v → 9 ≤ getD v 0 0 → 11 < getD v 0 0) → (getD t 0 0 ≡ 32 → ⊥) → 9 ≤ getD v 0 0 → (getD v 0 0 ≡ 12 → ⊥) → Met (held (valueAt l v) (typeAt m t)) 0 u
+  rest-apart w a h n = fails valueConformsTo l m v t u (λ x y f g. go x y f g (leb (getD v 0 0) 11) refl)
     where
-      go : (x : Val) (u : Ty) → valueAt l v ≡ some x → typeAt l t ≡ some u → Sort l v x → Yes (n + 1) 1 ≡ whole
-      go x u e f (s-null y c) = absurd (y0 c)
-      go x u e f (s-simple y h i c z) = let r = simple-same y u (getD v 0 0) c i (cmd-is l t u f ∙ d) in yes-is (v-leaf y) u (n + 1) 1 e f (r .1) (omega arith) (sym (r .0))
-      go x u e f (s-range i j a b c h r) = absurd (omega arith)
-      go x u e f (s-list vs c h r) = absurd (omega arith)
-      go x u e f (s-context es c h r) = absurd (omega arith)
-      go x u e f (s-definition r ps b c h z) = absurd (omega arith)
-      go x u e f (s-other y c h) = absurd (omega arith)
+      go : (x : Val) (y : Ty) → valueAt l v ≡ some x → typeAt m t ≡ some y → (q : Bool) → leb (getD v 0 0) 11 ≡ q → conforms fixed x y ≡ false
+      go x y f g true e = absurd (let k = leb-true (getD v 0 0) 11 e in omega (arith, w (long-is l v x f h k) h))
+      go x y f g false e =
+          let b = cmd-is m t y g in
+          let i = leb-false (getD v 0 0) 11 e in
+          let c = kind-is l v x f ∙ kind-other (getD v 0 0) (omega arith) in
+          kinds-differ x y (λ z. omega arith) (λ z. a (sym b ∙ z)) (λ z. a (sym b ∙ sym z ∙ c))
 
-  -- the short way: a leaf of data against a simple type
-  pub null-simple : getD v 0 0 ≡ 0 → getD t 0 0 < 42 → Yes 2 1 ≡ whole
-  null-simple c d = by-null 1 c (trees (λ x u e f s. sym (entries.size-got (typeAt l t) u f ∙ simple-size u (omega (arith, cmd-is l t u f, d)))))
+  -- a range's interval bytes
+  pub no-interval : 0 < l → 3 ≤ length v → getD v 0 0 ≡ 9 → (getD v 1 0 ≤ 3 → getD v 2 0 ≤ 3 → ⊥) → Met (held (valueAt l v) (typeAt m t)) 0 u
+  no-interval p h c w = never valueConformsTo l m v t u (λ x y f g. types.never (sym (no-range l v p h c w) ∙ f))
 
-  pub any-simple : (n : ℕ) → (getD v 0 0 ≡ 0 → ⊥) → getD v 0 0 < 9 → n ≡ widthOf (getD v 0 0) + 1 → getD t 0 0 ≡ 32 → Yes n 1 ≡ whole
-  unfolding size-val
-  any-simple n y0 y8 k d = by-any n d (trees go)
+  -- a type that is cut short
+  pub no-fields-there : getD t 0 0 ≡ 44 → (3 ≤ length t → ⊥) → Met (held (valueAt l v) (typeAt m t)) 0 u
+  no-fields-there d w = never valueConformsTo l m v t u (λ x y f g. w (is-ctx m t y g d .three))
+
+  pub no-signature-there : getD t 0 0 ≡ 45 → (2 ≤ length t → ⊥) → Met (held (valueAt l v) (typeAt m t)) 0 u
+  no-signature-there d w = never valueConformsTo l m v t u (λ x y f g. w (is-fun m t y g d .two))
+
+  -- a null
+  pub no-null : (n room : ℕ) → Short isDataLeaf (readV l v) n room → n ≡ 0 → getD v 0 0 ≡ 0 → Met (held (valueAt l v) (typeAt m t)) 0 u
+  no-null n room h z c = never valueConformsTo l m v t u (λ x y f g. true≢false (sym (leaf-is l v x f (omega arith)) ∙ no-leaf l v n room h z x f))
+
+pub met-null : (l m : ℕ) (v t : List ℕ) (n room : ℕ) → Short isDataLeaf (readV l v) n room → (n ≡ 0 → ⊥) → getD v 0 0 ≡ 0 → (k : ℕ) → Sized size (typeAt m) t k
+    → Met (held (valueAt l v) (typeAt m t)) n k
+unfolding kindAt
+met-null l m v t n room h z c k T =
+    let P = passed-leaf l v n room h z in
+    met-yes (both size-val size valueConformsTo (valueAt l v) (typeAt m t) (P .x) (T .x) (P .read) (T .read) ∙ ap (λ q. judge q (size-val (P .x)) (size (T .x))) (leaf-null (P .x) (T .x) (P .leafy) (kind-is l v (P .x) (P .read) ∙ ap kindAt c))) (P .is) (T .is)
+
+-- another leaf of data, and its own type
+pub met-plain : (l m : ℕ) (v t : List ℕ) → 0 < m → 0 < length t → 1 ≤ getD v 0 0 → getD v 0 0 ≤ 8 → getD t 0 0 ≡ getD v 0 0 + 32 → (n room : ℕ)
+    → Short isDataLeaf (readV l v) n room → Met (held (valueAt l v) (typeAt m t)) n 1
+met-plain l m v t mp there h k d n room w = go (eqb n 0) refl
+  where
+    go : (q : Bool) → eqb n 0 ≡ q → Met (held (valueAt l v) (typeAt m t)) n 1
+    go true e =
+        let z = eqb-true n 0 e in
+        met-no n 1 (no-when size-val size valueConformsTo (valueAt l v) (typeAt m t) (λ x y f g. absurd (true≢false (sym (leaf-is l v x f k) ∙ no-leaf l v n room w z x f)))) z
+    go false e =
+        let z = eqb-false n 0 e in
+        let P = leaf-pair l m v 0 t 0 n (leaf-to-own l m v 0 t 0 n room w z mp there d) z in
+        met-yes (both size-val size valueConformsTo (valueAt l v) (typeAt m t) (P .x) (P .y) (P .read-a) (P .read-b) ∙ ap (λ q. judge q (size-val (P .x)) (size (P .y))) (P .holds)) (P .size-a) (P .size-b)
+
+-- ---- ranges, lists, contexts
+two-of : (l : ℕ) (s : List ℕ) (vs : Vals) → itemsAt l 2 s ≡ some vs → (a : Val) × (b : Val) × (vs ≡ item a (item b no-items))
+two-of l s vs e =
+    let A = next-item l 1 s vs e in
+    let B = next-item l 0 (drop (size-val (A .v)) s) (A .more) (A .second) in
+    let C = no-item l (drop (size-val (B .v)) (drop (size-val (A .v)) s)) (B .more) (B .second) in
+    (A .v, B .v, A .is ∙ ap (item (A .v)) (B .is ∙ ap (item (B .v)) C))
+
+module _ (l m : ℕ) (v t : List ℕ) (lp : 0 < l) (mp : 0 < m) (three : 3 ≤ length v) (some-t : 0 < length t) (r u : ℕ) where
+  pub met-range : getD v 0 0 ≡ 9 → getD t 0 0 ≡ 43 → getD v 1 0 ≤ 3 → getD v 2 0 ≤ 3
+      → Met (grown 3 1 (heldItems (itemsAt (l - 1) 2 (take (length v - 3) (drop 3 v))) (typeAt (m - 1) (take (length t - 1) (drop 1 t))))) r u
+      → Met (held (valueAt l v) (typeAt m t)) r u
+  unfolding conforms rangeOf size-val size
+  met-range c d i j w = met-as (grown 3 1 (heldItems (itemsAt (l - 1) 2 (drop 3 v)) (typeAt (m - 1) (drop 1 t)))) r u
+      (ap₂ held (node-range l v lp three c i j) (forward.node-range m t mp some-t d)
+      ∙ mapped size-vals size (all-conform fixed) size-val size valueConformsTo (rangeOf (getD v 1 0) (getD v 2 0)) (λ y. built (range y)) 3 1 (itemsAt (l - 1) 2 (drop 3 v)) (typeAt (m - 1) (drop 1 t)) tested sizes wrapped) (rw (rest v 3, rest t 1) at w)
     where
-      go : (x : Val) (u : Ty) → valueAt l v ≡ some x → typeAt l t ≡ some u → Sort l v x → n ≡ sizeAtV (valueAt l v)
-      go x u e f (s-null y c) = absurd (y0 c)
-      go x u e f (s-simple y h i c z) = k ∙ sym (size-got (valueAt l v) (v-leaf y) e ∙ z)
-      go x u e f (s-range i j a b c h r) = absurd (omega arith)
-      go x u e f (s-list vs c h r) = absurd (omega arith)
-      go x u e f (s-context es c h r) = absurd (omega arith)
-      go x u e f (s-definition r ps b c h z) = absurd (omega arith)
-      go x u e f (s-other y c h) = absurd (omega arith)
+      tested : (vs : Vals) (y : Ty) → itemsAt (l - 1) 2 (drop 3 v) ≡ some vs → typeAt (m - 1) (drop 1 t) ≡ some y
+          → conforms fixed (rangeOf (getD v 1 0) (getD v 2 0) vs) (built (range y)) ≡ all-conform fixed vs y
+      tested vs y e f =
+          let g = two-of (l - 1) (drop 3 v) vs e in
+          ap (λ z. conforms fixed (rangeOf (getD v 1 0) (getD v 2 0) z) (built (range y))) (g .2)
+          ∙ ap (λ q. conforms fixed (g .0) y && q) (sym (and-true (conforms fixed (g .1) y))) ∙ sym (ap (λ z. all-conform fixed z y) (g .2))
 
-  pub own-simple : (n : ℕ) → (getD v 0 0 ≡ 0 → ⊥) → getD v 0 0 < 9 → n ≡ widthOf (getD v 0 0) + 1 → getD t 0 0 ≡ getD v 0 0 + 32 → Yes n 1 ≡ whole
-  own-simple n y0 y8 k d = ap (λ (z : ℕ). Yes z 1) k ∙ simple-yes (widthOf (getD v 0 0)) y0 y8 d refl
+      sizes : (vs : Vals) → itemsAt (l - 1) 2 (drop 3 v) ≡ some vs → size-val (rangeOf (getD v 1 0) (getD v 2 0) vs) ≡ size-vals vs + 3
+      sizes vs e =
+          let g = two-of (l - 1) (drop 3 v) vs e in
+          ap (λ z. size-val (rangeOf (getD v 1 0) (getD v 2 0) z)) (g .2) ∙ omega arith ∙ sym (ap (λ z. size-vals z + 3) (g .2))
 
-  -- the width of a simple value is small
-  pub simple-fits : (n : ℕ) → (getD v 0 0 ≡ 0 → ⊥) → getD v 0 0 < 9 → n ≡ widthOf (getD v 0 0) → n + 1 ≤ length v
-  unfolding size-val
-  simple-fits n y0 y8 k = trees go
-    where
-      go : (x : Val) (u : Ty) → valueAt l v ≡ some x → typeAt l t ≡ some u → Sort l v x → n + 1 ≤ length v
-      go x u e f (s-null y c) = absurd (y0 c)
-      go x u e f (s-simple y h i c z) = omega (arith, v-inside l v (v-leaf y) e)
-      go x u e f (s-range i j a b c h r) = absurd (omega arith)
-      go x u e f (s-list vs c h r) = absurd (omega arith)
-      go x u e f (s-context es c h r) = absurd (omega arith)
-      go x u e f (s-definition r ps b c h z) = absurd (omega arith)
-      go x u e f (s-other y c h) = absurd (omega arith)
+      wrapped : (y : Ty) → size (built (range y)) ≡ size y + 1
+      wrapped y = omega arith
 
-  -- neither Any nor the value's own kind
-  by-other : (getD v 0 0 ≡ 0 → ⊥) → (getD t 0 0 ≡ 32 → ⊥) → (getD v 0 0 < 9 → getD t 0 0 ≡ getD v 0 0 + 32 → ⊥) → (getD v 0 0 ≡ 9 → getD t 0 0 ≡ 43 → ⊥) → (getD v 0 0 ≡ 10 → getD t 0 0 ≡ 42 → ⊥) → (getD v 0 0 ≡ 11 → getD t 0 0 ≡ 44 → ⊥) → (getD v 0 0 ≡ 12 → getD t 0 0 ≡ 45 → ⊥) → No ≡ whole
-  by-other y0 y n1 n9 n10 n11 n12 = trees go
-    where
-      go : (x : Val) (u : Ty) → valueAt l v ≡ some x → typeAt l t ≡ some u → Sort l v x → No ≡ whole
-      go x u e f (s-null z c) = absurd (y0 c)
-      go x u e f (s-simple z h i c k) = no-is (v-leaf z) u e f (simple-other z u (getD v 0 0) c i (λ w. y (sym (cmd-is l t u f) ∙ w)) (λ w. n1 (omega arith) (sym (cmd-is l t u f) ∙ w)))
-      go x u e f (s-range i j a b c h r) = no-is (v-range i j a b) u e f (range-other i j a b u (λ w. y (sym (cmd-is l t u f) ∙ w)) (λ w. n9 c (sym (cmd-is l t u f) ∙ w)))
-      go x u e f (s-list vs c h r) = no-is (v-list vs) u e f (list-other vs u (λ w. y (sym (cmd-is l t u f) ∙ w)) (λ w. n10 c (sym (cmd-is l t u f) ∙ w)))
-      go x u e f (s-context es c h r) = no-is (v-context es) u e f (context-other es u (λ w. y (sym (cmd-is l t u f) ∙ w)) (λ w. n11 c (sym (cmd-is l t u f) ∙ w)))
-      go x u e f (s-definition r ps b c h z) = no-is (v-function ps b r) u e f (function-other ps b r u (λ w. y (sym (cmd-is l t u f) ∙ w)) (λ w. n12 c (sym (cmd-is l t u f) ∙ w)))
-      go x u e f (s-other z c h) = no-is z u e f (h u (λ w. y (sym (cmd-is l t u f) ∙ w)))
+  pub met-list : getD v 0 0 ≡ 10 → getD t 0 0 ≡ 42 → (n : ℕ) → n ≡ numAt 2 1 v
+      → Met (grown 3 1 (heldItems (itemsAt (l - 1) n (take (length v - 3) (drop 3 v))) (typeAt (m - 1) (take (length t - 1) (drop 1 t))))) r u
+      → Met (held (valueAt l v) (typeAt m t)) r u
+  unfolding conforms size-val size
+  met-list c d n ne w = met-as (grown 3 1 (heldItems (itemsAt (l - 1) n (drop 3 v)) (typeAt (m - 1) (drop 1 t)))) r u
+      (ap₂ held (node-list l v lp three c ∙ ap (λ k. mapO v-list (itemsAt (l - 1) k (drop 3 v))) (sym ne)) (forward.node-list m t mp some-t d)
+      ∙ mapped size-vals size (all-conform fixed) size-val size valueConformsTo v-list (λ y. built (list y)) 3 1 (itemsAt (l - 1) n (drop 3 v)) (typeAt (m - 1) (drop 1 t)) (λ x y e f. refl) (λ x e. omega arith) (λ y. omega arith)) (rw (rest v 3, rest t 1) at w)
 
-  pub simple-no : (getD v 0 0 ≡ 0 → ⊥) → getD v 0 0 < 9 → (getD t 0 0 ≡ 32 → ⊥) → (getD t 0 0 ≡ getD v 0 0 + 32 → ⊥) → No ≡ whole
-  simple-no y0 h y n = by-other y0 y (λ c. n) (λ c d. omega arith) (λ c d. omega arith) (λ c d. omega arith) (λ c d. omega arith)
-
-  pub range-no : getD v 0 0 ≡ 9 → (getD t 0 0 ≡ 32 → ⊥) → (getD t 0 0 ≡ 43 → ⊥) → No ≡ whole
-  range-no h y n = by-other (λ c. omega arith) y (λ c d. omega arith) (λ c. n) (λ c d. omega arith) (λ c d. omega arith) (λ c d. omega arith)
-
-  pub list-no : getD v 0 0 ≡ 10 → (getD t 0 0 ≡ 32 → ⊥) → (getD t 0 0 ≡ 42 → ⊥) → No ≡ whole
-  list-no h y n = by-other (λ c. omega arith) y (λ c d. omega arith) (λ c d. omega arith) (λ c. n) (λ c d. omega arith) (λ c d. omega arith)
-
-  pub context-no : getD v 0 0 ≡ 11 → (getD t 0 0 ≡ 32 → ⊥) → (getD t 0 0 ≡ 44 → ⊥) → No ≡ whole
-  context-no h y n = by-other (λ c. omega arith) y (λ c d. omega arith) (λ c d. omega arith) (λ c d. omega arith) (λ c. n) (λ c d. omega arith)
-
-  pub function-no : getD v 0 0 ≡ 12 → (getD t 0 0 ≡ 32 → ⊥) → (getD t 0 0 ≡ 45 → ⊥) → No ≡ whole
-  function-no h y n = by-other (λ c. omega arith) y (λ c d. omega arith) (λ c d. omega arith) (λ c d. omega arith) (λ c d. omega arith) (λ c. n)
-
-  pub rest-no : (getD t 0 0 ≡ 32 → ⊥) → (getD v 0 0 ≡ 0 → ⊥) → (getD v 0 0 ≡ 9 → ⊥) → (getD v 0 0 ≡ 10 → ⊥) → (getD v 0 0 ≡ 11 → ⊥) → (getD v 0 0 ≡ 12 → ⊥) → 9 ≤ getD v 0 0 → No ≡ whole
-  rest-no y n0 n9 n10 n11 n12 h = by-other n0 y (λ c d. omega arith) (λ c d. n9 c) (λ c d. n10 c) (λ c d. n11 c) (λ c d. n12 c)
-
-  -- two runs of children behind i and j bytes
-  pub record Runs {X Y : Type 0} (sx : X → ℕ) (sy : Y → ℕ) (test : X → Y → Bool) (f : List ℕ → Option X) (g : List ℕ → Option Y) (i j : ℕ) : Type 0 where
-    pub x : X
-    pub y : Y
-    pub long-v : i ≤ length v
-    pub long-t : j ≤ length t
-    pub fits-v : sx x + i ≤ length v
-    pub fits-t : sy y + j ≤ length t
-    pub read-v : f (drop i v) ≡ some x
-    pub read-t : g (drop j t) ≡ some y
-    pub is : whole ≡ judge (test x y) (sx x + i) (sy y + j)
-
-  pub ranges : getD v 0 0 ≡ 9 → getD t 0 0 ≡ 43 → Runs size-vals size (all-conform fixed) (itemsAt (l - 1) 2) (typeAt (l - 1)) 3 1
-  unfolding conforms size size-val
-  ranges n m = trees (λ x u e f s. go x u e f (types.is-range l t u f m) s)
-    where
-      go : (x : Val) (u : Ty) → valueAt l v ≡ some x → typeAt l t ≡ some u → (y : Ty) × (typeAt (l - 1) (drop 1 t) ≡ some y) × (u ≡ built (range y)) → Sort l v x → Runs size-vals size (all-conform fixed) (itemsAt (l - 1) 2) (typeAt (l - 1)) 3 1
-      go x u e f g (s-null z c) = absurd (omega arith)
-      go x u e f g (s-simple z h i c k) = absurd (omega arith)
-      go x u e f g (s-range i j a b c h r) = record {
-        x = item a (item b no-items);
-        y = g .0;
-        long-v = h;
-        long-t = omega (arith, byte-t);
-        fits-v = omega (arith, v-inside l v (v-range i j a b) e);
-        fits-t = omega (arith, t-good l t (built (range (g .0))) (f ∙ ap some (g .2)) .1);
-        read-v = r;
-        read-t = g .1;
-        is = judged (v-range i j a b) (built (range (g .0))) e (f ∙ ap some (g .2)) ∙ ap (λ z. judge (conforms fixed a (g .0) && z) (3 + size-val a + size-val b) (1 + size (g .0))) (sym (and-true (conforms fixed b (g .0)))) ∙ judge-is (all-conform fixed (item a (item b no-items)) (g .0)) (omega arith) (omega arith);
-      }
-      go x u e f g (s-list vs c h r) = absurd (omega arith)
-      go x u e f g (s-context es c h r) = absurd (omega arith)
-      go x u e f g (s-definition r ps b c h z) = absurd (omega arith)
-      go x u e f g (s-other z c h) = absurd (omega arith)
-
-  pub lists : (n : ℕ) → n ≡ numAt 2 1 v → getD v 0 0 ≡ 10 → getD t 0 0 ≡ 42 → Runs size-vals size (all-conform fixed) (itemsAt (l - 1) n) (typeAt (l - 1)) 3 1
-  unfolding conforms size size-val
-  lists n ne c m = trees (λ x u e f s. go x u e f (types.is-list l t u f m) s)
-    where
-      go : (x : Val) (u : Ty) → valueAt l v ≡ some x → typeAt l t ≡ some u → (y : Ty) × (typeAt (l - 1) (drop 1 t) ≡ some y) × (u ≡ built (list y)) → Sort l v x → Runs size-vals size (all-conform fixed) (itemsAt (l - 1) n) (typeAt (l - 1)) 3 1
-      go x u e f g (s-null z d) = absurd (omega arith)
-      go x u e f g (s-simple z h i d k) = absurd (omega arith)
-      go x u e f g (s-range i j a b d h r) = absurd (omega arith)
-      go x u e f g (s-list vs d h r) = record {
-        x = vs;
-        y = g .0;
-        long-v = h;
-        long-t = omega (arith, byte-t);
-        fits-v = omega (arith, v-inside l v (v-list vs) e);
-        fits-t = omega (arith, t-good l t (built (list (g .0))) (f ∙ ap some (g .2)) .1);
-        read-v = ap (λ k. itemsAt (l - 1) k (drop 3 v)) ne ∙ r;
-        read-t = g .1;
-        is = judged (v-list vs) (built (list (g .0))) e (f ∙ ap some (g .2)) ∙ judge-is (all-conform fixed vs (g .0)) (omega arith) (omega arith);
-      }
-      go x u e f g (s-context es d h r) = absurd (omega arith)
-      go x u e f g (s-definition r ps b d h z) = absurd (omega arith)
-      go x u e f g (s-other z d h) = absurd (omega arith)
-
-  pub contexts : (n m : ℕ) → n ≡ numAt 2 1 v → m ≡ numAt 2 1 t → getD v 0 0 ≡ 11 → getD t 0 0 ≡ 44 → Runs size-entries size-fields entriesConform (entriesAt (l - 1) n 0) (fieldsAt (l - 1) m 0) 3 3
-  unfolding conforms size size-val
-  contexts n m ne me c d = trees (λ x u e f s. go x u e f (types.is-ctx l t u f d) s)
-    where
-      go : (x : Val) (u : Ty) → valueAt l v ≡ some x → typeAt l t ≡ some u → IsCtx l t u → Sort l v x → Runs size-entries size-fields entriesConform (entriesAt (l - 1) n 0) (fieldsAt (l - 1) m 0) 3 3
-      go x u e f g (s-null z k) = absurd (omega arith)
-      go x u e f g (s-simple z h i k j) = absurd (omega arith)
-      go x u e f g (s-range i j a b k h r) = absurd (omega arith)
-      go x u e f g (s-list vs k h r) = absurd (omega arith)
-      go x u e f g (s-context es k h r) = record {
-        x = es;
-        y = g .fs;
-        long-v = h;
-        long-t = g .three;
-        fits-v = omega (arith, v-inside l v (v-context es) e);
-        fits-t = omega (arith, t-good l t (built (context (g .fs))) (f ∙ ap some (g .is)) .1);
-        read-v = ap (λ z. entriesAt (l - 1) z 0 (drop 3 v)) ne ∙ r;
-        read-t = ap (λ z. fieldsAt (l - 1) z 0 (drop 3 t)) me ∙ g .read;
-        is = judged (v-context es) (built (context (g .fs))) e (f ∙ ap some (g .is)) ∙ judge-is (entriesConform es (g .fs)) (omega arith) (omega arith);
-      }
-      go x u e f g (s-definition r ps b k h z) = absurd (omega arith)
-      go x u e f g (s-other z k h) = absurd (omega arith)
-
-  -- a definition against a function type
-  record Functions : Type 0 where
-    r : Ty
-    ps : Params
-    b : ℕ
-    f : Sig
-    four : 4 ≤ length v
-    two : 2 ≤ length t
-    value : valueAt l v ≡ some (v-function ps b r)
-    type : typeAt l t ≡ some (funOf f)
-    read-v : definitionAt (l - 1) (getD v 1 0) (drop 4 v) ≡ some (definition r ps)
-    read-t : sigAt (l - 1) (getD t 1 0) (drop 2 t) ≡ some f
-
-  defined : getD v 0 0 ≡ 12 → getD t 0 0 ≡ 45 → Functions
-  defined c d = trees (λ x u e f s. go x u e f (types.is-fun l t u f d) s)
-    where
-      go : (x : Val) (u : Ty) → valueAt l v ≡ some x → typeAt l t ≡ some u → IsFun l t u → Sort l v x → Functions
-      go x u e f g (s-null z k) = absurd (omega arith)
-      go x u e f g (s-simple z h i k j) = absurd (omega arith)
-      go x u e f g (s-range i j a b k h r) = absurd (omega arith)
-      go x u e f g (s-list vs k h r) = absurd (omega arith)
-      go x u e f g (s-context es k h r) = absurd (omega arith)
-      go x u e f g (s-definition r ps b k h z) = record { r = r; ps = ps; b = b; f = g .f; four = h; two = g .two; value = e; type = f ∙ ap some (g .is); read-v = z; read-t = g .read }
-      go x u e f g (s-other z k h) = absurd (omega arith)
-
-  pub four : getD v 0 0 ≡ 12 → getD t 0 0 ≡ 45 → 4 ≤ length v
-  four c d = defined c d .four
-
-  pub two : getD v 0 0 ≡ 12 → getD t 0 0 ≡ 45 → 2 ≤ length t
-  two c d = defined c d .two
-
-  pub counts-no : getD v 0 0 ≡ 12 → getD t 0 0 ≡ 45 → (getD v 1 0 ≡ getD t 1 0 → ⊥) → No ≡ whole
-  counts-no c d n = go (defined c d)
-    where
-      go : Functions → No ≡ whole
-      go F = no-is (v-function (F .ps) (F .b) (F .r)) (funOf (F .f)) (F .value) (F .type)
-          (held-function (F .ps) (F .b) (F .r) (F .f) ∙ counts-differ (F .r) (F .ps) (F .f)
-          (λ z. n (sym (definition-count (l - 1) (getD v 1 0) (drop 4 v) (F .r) (F .ps) (F .read-v)) ∙ z ∙ sig-count (l - 1) (getD t 1 0) (drop 2 t) (F .f) (F .read-t))))
-
-  pub functions : (n : ℕ) → n ≡ getD v 1 0 → getD v 1 0 ≡ getD t 1 0 → getD v 0 0 ≡ 12 → getD t 0 0 ≡ 45 → Runs size-definition size-sig definitionConforms (definitionAt (l - 1) n) (sigAt (l - 1) n) 4 2
-  unfolding size-val
-  functions n ne vt c d = go (defined c d)
-    where
-      go : Functions → Runs size-definition size-sig definitionConforms (definitionAt (l - 1) n) (sigAt (l - 1) n) 4 2
-      go F = record {
-        x = definition (F .r) (F .ps);
-        y = F .f;
-        long-v = F .four;
-        long-t = F .two;
-        fits-v = omega (arith, v-inside l v (v-function (F .ps) (F .b) (F .r)) (F .value));
-        fits-t = omega (arith, size-fun (F .f), t-good l t (funOf (F .f)) (F .type) .1);
-        read-v = ap (λ k. definitionAt (l - 1) k (drop 4 v)) ne ∙ F .read-v;
-        read-t = ap (λ k. sigAt (l - 1) k (drop 2 t)) (ne ∙ vt) ∙ F .read-t;
-        is = judged (v-function (F .ps) (F .b) (F .r)) (funOf (F .f)) (F .value) (F .type) ∙ ap (λ z. judge z (4 + size (F .r) + size-params (F .ps)) (size (funOf (F .f)))) (held-function (F .ps) (F .b) (F .r) (F .f)) ∙ judge-is (definitionConforms (definition (F .r) (F .ps)) (F .f)) (omega arith) (size-fun (F .f));
-      }
-
-  -- what a callee on the two runs asks and answers
-  module _ {X Y : Type 0} {sx : X → ℕ} {sy : Y → ℕ} {test : X → Y → Bool} {f : List ℕ → Option X} {g : List ℕ → Option Y} {i j : ℕ} (R : Runs sx sy test f g i j) where
-    pub runs-v : Ok (f (take (length v - i) (drop i v)))
-    runs-v = rw (rest v i) (is-ok (f (drop i v)) (R .x) (R .read-v))
-
-    pub runs-t : Ok (g (take (length t - j) (drop j t)))
-    runs-t = rw (rest t j) (is-ok (g (drop j t)) (R .y) (R .read-t))
-
-    pub runs-fit : (w : Conform) → w ≡ heldBy sx sy test (f (take (length v - i) (drop i v))) (g (take (length t - j) (drop j t))) → (x y : ℕ) → w ≡ Yes x y → (x + i ≤ length v) × (y + j ≤ length t)
-    runs-fit w e x y n =
-        let d = judge-yes (test (R .x) (R .y)) (sx (R .x)) (sy (R .y)) x y (sym (called sx sy test f g v i t j (R .x) (R .y) w (R .read-v) (R .read-t) e) ∙ n) in
-        (omega (arith, R .fits-v, d .1), omega (arith, R .fits-t, d .2))
-
-    pub runs-done : (w r : Conform) → r ≡ grown i j w → w ≡ heldBy sx sy test (f (take (length v - i) (drop i v))) (g (take (length t - j) (drop j t))) → r ≡ whole
-    runs-done w r k e = k ∙ ap (grown i j) (called sx sy test f g v i t j (R .x) (R .y) w (R .read-v) (R .read-t) e) ∙ grown-judge (test (R .x) (R .y)) i j (sx (R .x)) (sy (R .y)) ∙ sym (R .is)
+  pub met-context : getD v 0 0 ≡ 11 → getD t 0 0 ≡ 44 → 3 ≤ length t → (n k : ℕ) → n ≡ numAt 2 1 v → k ≡ numAt 2 1 t
+      → Met (grown 3 3 (heldEntries (entriesAt (l - 1) n 0 (take (length v - 3) (drop 3 v))) (fieldsAt (m - 1) k 0 (take (length t - 3) (drop 3 t))))) r u
+      → Met (held (valueAt l v) (typeAt m t)) r u
+  unfolding conforms size-val size
+  met-context c d i n k ne ke w = met-as (grown 3 3 (heldEntries (entriesAt (l - 1) n 0 (drop 3 v)) (fieldsAt (m - 1) k 0 (drop 3 t)))) r u
+      (ap₂ held (node-context l v lp three c ∙ ap (λ z. mapO v-context (entriesAt (l - 1) z 0 (drop 3 v))) (sym ne)) (forward.node-context m t mp some-t d i ∙ ap (λ z. mapO (λ fs. built (context fs)) (fieldsAt (m - 1) z 0 (drop 3 t))) (sym ke))
+      ∙ mapped size-entries size-fields entriesConform size-val size valueConformsTo v-context (λ fs. built (context fs)) 3 3 (entriesAt (l - 1) n 0 (drop 3 v)) (fieldsAt (m - 1) k 0 (drop 3 t)) (λ x y e f. refl) (λ x e. omega arith) (λ y. omega arith)) (rw (rest v 3, rest t 3) at w)

@@ -1,6 +1,8 @@
 pub mod Reading
+pub mod Forward
+pub mod ByKind
 pub mod Holding
-pub mod InStep
-pub mod Merging
-pub mod Passing
+pub mod Items
+pub mod Entries
+pub mod Definitions
 pub mod Calling

@@ -10,14 +10,14 @@ use native.Mathlib.Numerals.{add-one}
 use lib.ListN.{length, getD, take, drop, length-drop}
 use lib.Seq.{drop-drop}
 use lib.Dec.{eqb}
-use Rattle.form.specs.Trees.{Ty, Params, no-parameters, parameter, Leaf, l-null, l-boolean, l-number, l-string, l-temporal, Val, v-leaf, v-range, v-list, v-context, v-function, v-built-in, v-type, v-irrelevant, Vals, no-items, item, Entries, no-entries, entry, decode-temporal}
+use Rattle.form.specs.Trees.{Ty, Params, no-parameters, parameter, Leaf, l-null, l-boolean, l-number, l-string, l-temporal, Val, v-leaf, v-range, v-list, v-context, v-function, v-built-in, v-type, v-irrelevant, Vals, no-items, item, Entries, no-entries, entry, isDataLeaf, decode-temporal}
 use Rattle.form.specs.Limits.{nameWidth}
 use Rattle.form.specs.Form.{num, numAt, levelV}
-use Rattle.form.specs.Walks.{walkOf}
-use Rattle.form.specs.declared.Walk.{Walk}
-use Rattle.form.specs.declared.Walk.the-variants as walk
-use Rattle.form.specs.declared.Fault.{Fault}
+use Rattle.form.specs.Walks.{walkOf, sizeIn, Short}
+use Rattle.form.specs.Walks as walk
 use Rattle.form.specs.Read.{Got, got, bad, andThen, readRun, readNamed, readT, readV, readVals, readEntries, readParams, ascending, anyOrder}
+use Rattle.form.proofs.Told.{short-end}
+use Rattle.form.proofs.ValueLaws.{leaf-level}
 use Rattle.form.proofs.Exact.{got-parts, then-parts}
 use Rattle.form.proofs.Nodes.{item-parts, named-parts, NodeV, nNull, nBoolean, nNumber, nString, nTemporal, nRangeV, nListV, nContextV, nDefinition, nBuiltIn, nType, nIrrelevant, ValueRead, value-read}
 use Rattle.order.specs.Size.{size, size-params, size-leaf, size-val, size-vals, size-entries}
@@ -288,25 +288,20 @@ definition-inside l n s d e =
     subst (λ d. size-definition d ≤ length s) pz (omega (arith, F .sized, F .inside, G .sized, simp length-drop at (G .inside)))))
 
 -- ---- what `skip` answers
-skip-got : (l : ℕ) (s : List ℕ) (r : Got Val) → readV l s ≡ r → (w : Walk) (n d : ℕ) → w ≡ walk.End n d → w ≡ walkOf levelV r → n ≡ sizeAtV (seen r)
+skip-got : (l : ℕ) (s : List ℕ) (r : Got Val) → readV l s ≡ r → sizeIn (walkOf levelV r) ≡ sizeAtV (seen r)
 unfolding walkOf seen sizeAtV
-skip-got l s (got v m) e w n d p q =
-    let x : n ≡ m = cc in
-    x ∙ value-told l s v m e .sized
-skip-got l s (bad f) e w n d p q = absurd (let z : _≡_ {A = ℕ} 0 1 = cc in omega arith)
+skip-got l s (got v m) e = value-told l s v m e .sized
+skip-got l s (bad f) e = refl
 
-pub skip-end : (l : ℕ) (s : List ℕ) (w : Walk) (n d : ℕ) → w ≡ walk.End n d → w ≡ walkOf levelV (readV l s) → n ≡ sizeAtV (valueAt l s)
+pub skip-is : (l : ℕ) (s : List ℕ) → sizeIn (walkOf levelV (readV l s)) ≡ sizeAtV (valueAt l s)
 unfolding valueAt
-skip-end l s w n d p q = skip-got l s (readV l s) refl w n d p q
+skip-is l s = skip-got l s (readV l s) refl
 
-skip-bad : (r : Got Val) (w : Walk) (f : Fault) → w ≡ walk.Fault f → w ≡ walkOf levelV r → 0 ≡ sizeAtV (seen r)
-unfolding walkOf seen sizeAtV
-skip-bad (got v m) w f p q = absurd (let z : _≡_ {A = ℕ} 0 1 = cc in omega arith)
-skip-bad (bad g) w f p q = refl
+pub skip-end : (l : ℕ) (s : List ℕ) (n d : ℕ) → walkOf levelV (readV l s) ≡ walk.End n d → n ≡ sizeAtV (valueAt l s)
+skip-end l s n d e = ap sizeIn (sym e) ∙ skip-is l s
 
-pub skip-fault : (l : ℕ) (s : List ℕ) (w : Walk) (f : Fault) → w ≡ walk.Fault f → w ≡ walkOf levelV (readV l s) → 0 ≡ sizeAtV (valueAt l s)
-unfolding valueAt
-skip-fault l s w f p q = skip-bad (readV l s) w f p q
+pub skip-short : (l : ℕ) (s : List ℕ) (n room : ℕ) → Short isDataLeaf (readV l s) n room → (n ≡ 0 → ⊥) → n ≡ sizeAtV (valueAt l s)
+skip-short l s n room h z = skip-end l s n 1 (short-end levelV isDataLeaf leaf-level (readV l s) n room h z)
 
 pub size-got : (r : Option Val) (v : Val) → r ≡ some v → sizeAtV r ≡ size-val v
 unfolding sizeAtV

@@ -8,26 +8,69 @@ use Rattle.coercion.proofs.coerced.Lts as lts
 use Rattle.coercion.proofs.convert.Reads as convert-reads
 use Rattle.form.proofs.check_type.Reads as check-type-reads
 use Rattle.form.proofs.check_value.Reads as check-value-reads
-use native.Mathlib.Omega.{arith}
-use mathlib.Core.Path.{sym, ap, _∙_}
-use Rattle.form.specs.Answers.{checked}
+use Rattle.retrieval.proofs.give.Reads as give-reads
+use Rattle.values.proofs.passes.Reads as passes-reads
+use mathlib.Core.Path.{sym, ap, _∙_, subst}
+use lib.ListN.{length}
+use Rattle.form.specs.Answers.{checked, Built}
+use Rattle.form.proofs.Whole.{bytes-of}
 use Rattle.types.proofs.Calling.{was-refused}
 use Rattle.values.proofs.Calling.{value-refused, value-accepted}
 use Rattle.bounds.proofs.Outcomes.{built-refused}
-use Rattle.coercion.proofs.Rules.{ready, first-refused, second-refused}
+use Rattle.retrieval.proofs.Calling.{passed}
+use Rattle.coercion.proofs.Rules.{give-conformant, ready, first-refused, second-refused}
 
 pub coerced-spec : {M : Type 1} → statement M
 coerced-spec =
     tie.close
     (tie.spec
     (λ c κs. search needs)
+    (λ c κs. search needs)
+    (λ c. search needs)
+    (λ c.
+    let c2 = c .before .before in
+    let c4 = c2 .before .before in
+    let c7 = c4 .before .before .before in
+    let args = c7 .before .before .args in
+    let passed1 =
+    passed (args .t .now) (args .v .now) (bytes-of (args .t .now) (c7 .shared-slice-known2 .given))
+    (bytes-of (args .v .now) (c7 .before .shared-slice-known .given))
+    (sym (c4 .if1 .taken) ∙ c4 .before .passes .ensures) in
+    subst
+    (λ o. Built o (args .out .now) (c2 .give .last .1 .0) (c2 .give .result))
+    (give-conformant (args .t .now) (args .v .now) (passed1 .both) (passed1 .holds)
+    (length (args .out .now)))
+    (c2 .give .ensures))
+    (λ c κs. search needs)
     (λ c. search needs)
     (λ c. search needs)
     (λ c κs. search needs)
     (λ c. search needs)
     (λ c. search needs)
-    (λ c κs. (ready (c .before .before .before .before .before .before .before .before .before .before .before .args .v .now) (c .before .before .before .before .before .before .before .before .before .before .before .args .t .now) _ _ (c .before .before .before .before .before .before .before .check-value .ensures .1) (c .before .before .before .check-type .ensures .1) (sym (c .before .before .before .before .before .before .before .check-value .ensures .0) ∙ ap checked (c .before .before .before .before .before .level .given .1)) (sym (c .before .before .before .check-type .ensures .0) ∙ ap checked (c .before .enum-told .given .1))))
-    (λ c. built-refused _ _ (c .before .before .before .before .before .before .before .args .out .now) (first-refused (c .before .before .before .before .before .before .before .args .v .now) (c .before .before .before .before .before .before .before .args .t .now) _ _ (value-refused (c .before .before .before .before .before .before .before .args .v .now) _ _ (c .before .n .given .1) (c .before .before .before .check-value .ensures .0))))
-    (λ c. built-refused _ _ (c .before .before .before .before .before .before .before .before .before .before .before .args .out .now) (second-refused (c .before .before .before .before .before .before .before .before .before .before .before .args .v .now) (c .before .before .before .before .before .before .before .before .before .before .before .args .t .now) _ _ _ (value-accepted (c .before .before .before .before .before .before .before .before .before .before .before .args .v .now) (c .before .before .before .before .before .before .before .check-value .ensures .1) _ _ (c .before .before .before .before .before .level .given .1) (c .before .before .before .before .before .before .before .check-value .ensures .0) .whole) (was-refused (c .before .before .before .before .before .before .before .before .before .before .before .args .t .now) _ _ (c .before .n2 .given .1) (c .before .before .before .check-type .ensures .0))))
+    (λ c κs.
+    let c3 = c .before .before .before in
+    let c7 = c3 .before .before .before .before in
+    let args = c7 .before .before .before .before .before .before .args in (
+      ready (args .v .now) (args .t .now) _ _ (c7 .check-value .ensures .1) (c3 .check-type .ensures .1)
+          (sym (c7 .check-value .ensures .0) ∙ ap checked (c3 .before .before .level .given .1))
+          (sym (c3 .check-type .ensures .0) ∙ ap checked (c .before .enum-told .given .1)),
+      sym (c7 .before .if1 .left) ∙ c7 .before .before .passes .ensures,
+    ))
+    (λ c.
+    let args = c .before .before .before .before .before .before .before .before .before .args in
+    built-refused _ _ (args .out .now)
+    (first-refused (args .v .now) (args .t .now) _ _
+    (value-refused (args .v .now) _ _ (c .before .n .given .1)
+    (c .before .before .before .check-value .ensures .0))))
+    (λ c.
+    let c5 = c .before .before .before .before .before in
+    let c7 = c5 .before .before in
+    let args = c7 .before .before .before .before .before .before .args in
+    built-refused _ _ (args .out .now)
+    (second-refused (args .v .now) (args .t .now) _ _ _
+    (value-accepted (args .v .now) (c7 .check-value .ensures .1) _ _ (c5 .level .given .1)
+    (c7 .check-value .ensures .0) .whole)
+    (was-refused (args .t .now) _ _ (c .before .n2 .given .1)
+    (c .before .before .before .check-type .ensures .0))))
     (λ c. search needs)
     (λ c. search needs))

@@ -1,16 +1,33 @@
 -- `coercion::keeps` meets its contract.
 -- Assumes nothing.
-use borrow.Author.Needs.{needs}
 use Rattle.coercion.proofs.keeps.Statement.{statement}
 use Rattle.coercion.proofs.keeps.Tie as tie
 use Rattle.coercion.proofs.keeps.Reads as reads
 use Rattle.coercion.proofs.keeps.Lts as lts
-use Rattle.coercion.proofs.conforms.Reads as conforms-reads
-use Rattle.coercion.proofs.keeps_bif.Reads as keeps-bif-reads
-use native.Mathlib.Omega.{arith}
-use Rattle.coercion.proofs.Rules.{type-ok, value-ok, value-byte, keeps-definition, keeps-other}
+use Rattle.coercion.proofs.bif_conforms.Reads as bif-conforms-reads
+use Rattle.coercion.proofs.Rules.{type-ok, value-byte, keeps-definition, bif-byte, keeps-built-in, keeps-other}
 
 pub keeps-spec : {M : Type 1} → statement M
 keeps-spec =
     tie.close
-    (tie.spec (λ c. value-byte (c .before .before .before .args .t .now) (c .before .before .before .args .v .now) (c .before .before .before .pre)) (λ c. keeps-definition (c .before .before .before .before .args .t .now) (c .before .before .before .before .args .v .now) (c .before .before .before .before .pre) (c .if1 .taken)) (λ c κs. (c .before .before .before .before .before .pre, c .if2 .taken)) (λ c. c .keeps-bif .ensures) (λ c κs. (value-ok (c .before .before .before .before .before .args .t .now) (c .before .before .before .before .before .args .v .now) (c .before .before .before .before .before .pre), type-ok (c .before .before .before .before .before .args .t .now) (c .before .before .before .before .before .args .v .now) (c .before .before .before .before .before .pre))) (λ c. keeps-other (c .before .before .before .before .before .before .args .t .now) (c .before .before .before .before .before .before .args .v .now) (c .before .before .before .before .before .before .pre) (c .before .before .if1 .left) (c .before .if2 .left) _ (c .conforms .ensures)))
+    (tie.spec
+    (λ c.
+    let c3 = c .before .before .before in
+    value-byte (c3 .args .t .now) (c3 .args .v .now) (c3 .pre .0))
+    (λ c.
+    let c4 = c .before .before .before .before in
+    keeps-definition (c4 .args .t .now) (c4 .args .v .now) (c4 .pre .0) (c .if1 .taken))
+    (λ c.
+    let c6 = c .before .before .before .before .before .before in
+    bif-byte (c6 .args .t .now) (c6 .args .v .now) (c6 .pre .0) (c .before .if2 .taken))
+    (λ c κs.
+    let c6 = c .before .before .before .before .before .before in
+    type-ok (c6 .args .t .now) (c6 .args .v .now) (c6 .pre .0))
+    (λ c.
+    let c7 = c .before .before .before .before .before .before .before in
+    keeps-built-in (c7 .args .t .now) (c7 .args .v .now) (c7 .pre .0) (c7 .pre .1)
+    (c .before .before .if2 .taken) _ (c .bif-conforms .ensures))
+    (λ c.
+    let c5 = c .before .before .before .before .before in
+    keeps-other (c5 .args .t .now) (c5 .args .v .now) (c5 .pre .0) (c5 .pre .1) (c .before .if1 .left)
+    (c .if2 .left)))

@@ -6,17 +6,27 @@ use Rattle.coercion.proofs.meets_inner.Tie as tie
 use Rattle.coercion.proofs.meets_inner.Reads as reads
 use Rattle.coercion.proofs.meets_inner.Lts as lts
 use Rattle.coercion.proofs.conforms.Reads as conforms-reads
-use native.Mathlib.Omega.{arith}
-use Rattle.coercion.proofs.Rules.{first-type, inner-no, low-ok, inner-ok, inner-says}
+use Rattle.coercion.proofs.Rules.{first-type, inner-no, inner-says}
 
 pub meets-inner-spec : {M : Type 1} → statement M
 meets-inner-spec =
     tie.close
     (tie.spec
-    (λ c. first-type (c .before .before .before .args .t .now) (c .before .before .before .args .v .now) (c .before .before .before .pre))
-    (λ c. inner-no (c .before .before .before .before .args .t .now) (c .before .before .before .before .args .v .now) (c .before .before .before .before .pre) (c .if1 .taken))
-    (λ c. first-type (c .before .before .before .before .args .t .now) (c .before .before .before .before .args .v .now) (c .before .before .before .before .pre))
-    (λ c. first-type (c .before .before .before .before .args .t .now) (c .before .before .before .before .args .v .now) (c .before .before .before .before .pre))
+    (λ c.
+    let c3 = c .before .before .before in
+    first-type (c3 .args .t .now) (c3 .args .v .now) (c3 .pre))
+    (λ c.
+    let c4 = c .before .before .before .before in
+    inner-no (c4 .args .t .now) (c4 .args .v .now) (c4 .pre) (c .if1 .taken))
+    (λ c.
+    let c4 = c .before .before .before .before in
+    first-type (c4 .args .t .now) (c4 .args .v .now) (c4 .pre))
+    (λ c.
+    let c4 = c .before .before .before .before in
+    first-type (c4 .args .t .now) (c4 .args .v .now) (c4 .pre))
     (λ c. search needs)
-    (λ c κs. (low-ok (c .before .before .before .before .before .args .t .now) (c .before .before .before .before .before .args .v .now) (c .before .before .before .before .before .pre), inner-ok (c .before .before .before .before .before .args .t .now) (c .before .before .before .before .before .args .v .now) (c .before .before .before .before .before .pre) (c .before .if1 .left)))
-    (λ c. inner-says (c .before .before .before .before .before .before .args .t .now) (c .before .before .before .before .before .before .args .v .now) (c .before .before .before .before .before .before .pre) (c .before .before .if1 .left) _ (c .conforms .ensures)))
+    (λ c κs. search needs)
+    (λ c.
+    let c6 = c .before .before .before .before .before .before in
+    inner-says (c6 .args .t .now) (c6 .args .v .now) (c6 .pre) (c .before .before .if1 .left) _
+    (c .conforms .ensures)))

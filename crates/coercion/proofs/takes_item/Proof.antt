@@ -7,17 +7,29 @@ use Rattle.coercion.proofs.takes_item.Reads as reads
 use Rattle.coercion.proofs.takes_item.Lts as lts
 use Rattle.coercion.proofs.conforms.Reads as conforms-reads
 use Rattle.form.proofs.word_at.Reads as word-at-reads
-use native.Mathlib.Omega.{arith}
-use Rattle.coercion.proofs.Rules.{list-three, item-no, item-ok, item-says, type-ok}
+use Rattle.coercion.proofs.Rules.{list-three, item-no, item-says}
 
 pub takes-item-spec : {M : Type 1} → statement M
 takes-item-spec =
     tie.close
     (tie.spec
-    (λ c κs. list-three (c .before .before .args .t .now) (c .before .before .args .v .now) (c .before .before .pre .0) (c .before .before .pre .1))
-    (λ c. item-no (c .before .before .before .before .args .t .now) (c .before .before .before .before .args .v .now) (c .before .before .before .before .pre .0) (c .before .before .before .before .pre .1) _ (c .before .word-at .ensures .0) (c .if1 .taken))
-    (λ c. list-three (c .before .before .before .before .args .t .now) (c .before .before .before .before .args .v .now) (c .before .before .before .before .pre .0) (c .before .before .before .before .pre .1))
-    (λ c. list-three (c .before .before .before .before .args .t .now) (c .before .before .before .before .args .v .now) (c .before .before .before .before .pre .0) (c .before .before .before .before .pre .1))
+    (λ c κs.
+    let c2 = c .before .before in
+    list-three (c2 .args .t .now) (c2 .args .v .now) (c2 .pre .0) (c2 .pre .1))
+    (λ c.
+    let c4 = c .before .before .before .before in
+    item-no (c4 .args .t .now) (c4 .args .v .now) (c4 .pre .0) (c4 .pre .1) _
+    (c .before .word-at .ensures .0) (c .if1 .taken))
+    (λ c.
+    let c4 = c .before .before .before .before in
+    list-three (c4 .args .t .now) (c4 .args .v .now) (c4 .pre .0) (c4 .pre .1))
+    (λ c.
+    let c4 = c .before .before .before .before in
+    list-three (c4 .args .t .now) (c4 .args .v .now) (c4 .pre .0) (c4 .pre .1))
     (λ c. search needs)
-    (λ c κs. (item-ok (c .before .before .before .before .before .args .t .now) (c .before .before .before .before .before .args .v .now) (c .before .before .before .before .before .pre .0) (c .before .before .before .before .before .pre .1) _ (c .before .before .word-at .ensures .0) (c .before .if1 .left), type-ok (c .before .before .before .before .before .args .t .now) (c .before .before .before .before .before .args .v .now) (c .before .before .before .before .before .pre .0)))
-    (λ c. item-says (c .before .before .before .before .before .before .args .t .now) (c .before .before .before .before .before .before .args .v .now) (c .before .before .before .before .before .before .pre .0) (c .before .before .before .before .before .before .pre .1) _ (c .before .before .before .word-at .ensures .0) (c .before .before .if1 .left) _ (c .conforms .ensures)))
+    (λ c κs. search needs)
+    (λ c.
+    let c6 = c .before .before .before .before .before .before in
+    item-says (c6 .args .t .now) (c6 .args .v .now) (c6 .pre .0) (c6 .pre .1) _
+    (c .before .before .before .word-at .ensures .0) (c .before .before .if1 .left) _
+    (c .conforms .ensures)))

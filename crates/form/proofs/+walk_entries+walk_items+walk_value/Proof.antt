@@ -1,4 +1,5 @@
--- `form::walk_entries`, `form::walk_items` and `form::walk_value`, which call each other, meet their contracts.
+-- The walk over one value and its two loops: each return hands on what a callee told, or what the reader's equation says of the command; each turn of a loop is one citation
+-- of the laws in Loops, over the child's walk.
 -- Assumes nothing.
 use Prim.Native.Nat.{ℕ, _<_, _+_, _*_, _-_, _≤_, max}
 use borrow.Fn.Kinds.{In}
@@ -12,145 +13,846 @@ use Rattle.form.proofs.+walk_entries+walk_items+walk_value.Lts-walk_ite
 use Rattle.form.proofs.walk_value.Reads as walk-value
 use Rattle.form.proofs.walk_value.Kinds as walk-value-kinds
 use Rattle.form.proofs.+walk_entries+walk_items+walk_value.Lts-walk_value as walk-value-lts
-use Rattle.form.proofs.flag.Reads as flag-reads
+use Rattle.form.proofs.end.Reads as end-reads
+use Rattle.form.proofs.fault.Reads as fault-reads
 use Rattle.form.proofs.key_at.Reads as key-at-reads
 use Rattle.form.proofs.larger.Reads as larger-reads
-use Rattle.form.proofs.lift.Reads as lift-reads
 use Rattle.form.proofs.name_at.Reads as name-at-reads
-use Rattle.form.proofs.walk_definition.Reads as walk-definition-reads
-use Rattle.form.proofs.walk_type.Reads as walk-type-reads
-use Rattle.form.proofs.wide.Reads as wide-reads
-use Rattle.form.proofs.width.Reads as width-reads
+use Rattle.form.proofs.walk_other.Reads as walk-other-reads
 use Rattle.form.proofs.word_at.Reads as word-at-reads
 use Rattle.form.proofs.+walk_entries+walk_items+walk_value.{statement}
 use Rattle.form.proofs.+walk_entries+walk_items+walk_value.Tie.{close}
+use borrow.Author.Needs.{needs}
+use native.Mathlib.Omega.{arith}
 use mathlib.Core.Path.{_≡_, refl, sym, ap, _∙_}
 use mathlib.Core.List.{List}
-use native.Mathlib.Omega.{arith}
-use borrow.Author.Needs.{needs}
 use lib.ListN.{length, getD, take, drop}
-use Rattle.form.specs.Trees.{no-items, item, no-entries, entry}
-use Rattle.form.specs.Form.{level, levelParams, levelV, levelVals, levelEntries}
 use Rattle.form.specs.Limits.{nameWidth}
-use Rattle.form.specs.Layout.{kNull, kBoolean, kNumber, kString, kTemporal, kRange, kList, kContext, kDefinition, kBuiltIn, kType, kIrrelevant, ofValue, kindOf, operandsV, operands, widthOf}
-use Rattle.form.specs.Read.{readT, readV, readRun, readNamed, readVals, readEntries, readParams, ascending}
-use Rattle.form.specs.Walks.{walkOf, walkBy, pairWalk}
-use Rattle.form.specs.declared.Walk.the-variants as walk
-use Rattle.form.specs.declared.Fault.the-variants.{Shape, Names, Level}
-use Rattle.form.proofs.Commands.{kind-temporal, arm}
-use Rattle.form.proofs.Runs.{RunInv, run-start, run-done, run-fault, run-turn, part-of, inside-of, run-none, item-fault, item-turn, named-none, named-ends, named-names, named-fault, named-turn, room-of, lifted, flagged}
-use Rattle.form.proofs.ValueLaws.{vals-law, vals-flat, entries-law, entries-flat, v-none, v-level, v-short, v-other, v-irrelevant-is, v-type-is, v-null, v-boolean, v-built-in-is, v-number, v-string, v-temporal, v-range-is, v-range-first, v-range-second, v-list-is, v-context-is, v-definition}
+use Rattle.form.specs.Faults.{Shape, Names, Level}
+use Rattle.form.specs.Trees.{no-entries, entry, no-items, item, isDataLeaf}
+use Rattle.form.specs.Form.{levelV, levelVals, levelEntries}
+use Rattle.form.specs.Layout.{kRange, kList, kContext, ofValue, kindOf, operandsV, operands}
+use Rattle.form.specs.Read.{readV, readRun, readNamed, readVals, readEntries, ascending}
+use Rattle.form.specs.Walks.{walkOf, walkBy}
+use Rattle.form.proofs.Loops.{DeepInv, deep-start, deep-turn, deep-is, none-told, level-some, run-empty, named-empty, fits}
+use Rattle.form.proofs.Loops.{items-short, items-walk, items-fault, items-end, names-end, names-none, names-fall, names-short}
+use Rattle.form.proofs.Loops.{names-walk, names-fault}
+use Rattle.form.proofs.Told.{told-stop, told-parent, told-whole, on-whole, ample, part-room}
+use Rattle.form.proofs.ValueLaws.{value-level, leaf-level, entries-law, entries-flat, vals-law, vals-flat, v-level, v-range-first}
+use Rattle.form.proofs.ValueLaws.{v-range-second, v-range-is, v-list-is, v-context-is}
 
-abbrev μ-walk-entries : Measures 1 walk-entries-kinds.ps ℕ
+abbrev μ-walk-entries : Measures 2 walk-entries-kinds.ps ℕ
 μ-walk-entries κs a = 2 * (a .1 .1 .0) + 1
 
-abbrev μ-walk-items : Measures 1 walk-items-kinds.ps ℕ
+abbrev μ-walk-items : Measures 2 walk-items-kinds.ps ℕ
 μ-walk-items κs a = 2 * (a .1 .1 .0) + 1
 
-abbrev μ-walk-value : Measures 1 walk-value-kinds.ps ℕ
+abbrev μ-walk-value : Measures 2 walk-value-kinds.ps ℕ
 μ-walk-value κs a = 2 * (a .1 .0)
 
-abbrev walk-entries-at : ℕ → In 1 walk-entries-kinds.ps
+abbrev walk-entries-at : ℕ → In 2 walk-entries-kinds.ps
 walk-entries-at t =
-    and 1 walk-entries-kinds.ps (is 1 walk-entries-kinds.ps μ-walk-entries t) walk-entries.Pre
+    and 2 walk-entries-kinds.ps (is 2 walk-entries-kinds.ps μ-walk-entries t) walk-entries.Pre
 
-abbrev walk-entries-below : ℕ → In 1 walk-entries-kinds.ps
+abbrev walk-entries-below : ℕ → In 2 walk-entries-kinds.ps
 walk-entries-below t =
     and
-    1
+    2
     walk-entries-kinds.ps
-    (falls 1 walk-entries-kinds.ps _<_ μ-walk-entries t)
+    (falls 2 walk-entries-kinds.ps _<_ μ-walk-entries t)
     walk-entries.Pre
 
-abbrev walk-items-at : ℕ → In 1 walk-items-kinds.ps
+abbrev walk-items-at : ℕ → In 2 walk-items-kinds.ps
 walk-items-at t =
-    and 1 walk-items-kinds.ps (is 1 walk-items-kinds.ps μ-walk-items t) walk-items.Pre
+    and 2 walk-items-kinds.ps (is 2 walk-items-kinds.ps μ-walk-items t) walk-items.Pre
 
-abbrev walk-items-below : ℕ → In 1 walk-items-kinds.ps
+abbrev walk-items-below : ℕ → In 2 walk-items-kinds.ps
 walk-items-below t =
-    and 1 walk-items-kinds.ps (falls 1 walk-items-kinds.ps _<_ μ-walk-items t) walk-items.Pre
+    and 2 walk-items-kinds.ps (falls 2 walk-items-kinds.ps _<_ μ-walk-items t) walk-items.Pre
 
-abbrev walk-value-at : ℕ → In 1 walk-value-kinds.ps
+abbrev walk-value-at : ℕ → In 2 walk-value-kinds.ps
 walk-value-at t =
-    and 1 walk-value-kinds.ps (is 1 walk-value-kinds.ps μ-walk-value t) walk-value.Pre
+    and 2 walk-value-kinds.ps (is 2 walk-value-kinds.ps μ-walk-value t) walk-value.Pre
 
-abbrev walk-value-below : ℕ → In 1 walk-value-kinds.ps
+abbrev walk-value-below : ℕ → In 2 walk-value-kinds.ps
 walk-value-below t =
-    and 1 walk-value-kinds.ps (falls 1 walk-value-kinds.ps _<_ μ-walk-value t) walk-value.Pre
+    and 2 walk-value-kinds.ps (falls 2 walk-value-kinds.ps _<_ μ-walk-value t) walk-value.Pre
 
 abbrev walk-entries-Inv-loop : walk-entries-lts.InvT-loop
-walk-entries-Inv-loop s count left at₀ deep₀ least₀ i₀ at deep least i = RunInv levelEntries (walkBy levelEntries 0 0 (readNamed no-entries entry ascending (readV left) count 0 s)) (λ (n : ℕ). readNamed no-entries entry ascending (readV left) n least) s count at deep i
+walk-entries-Inv-loop s count left told₀ at₀ deep₀ least₀ i₀ told at deep least i =
+    DeepInv levelEntries
+    (walkBy levelEntries 0 0 (readNamed no-entries entry ascending (readV left) count 0 s))
+    (λ (n : ℕ). readNamed no-entries entry ascending (readV left) n least)
+    s count at deep i
 
 abbrev walk-entries-μ-loop : walk-entries-lts.MeasureT-loop
-walk-entries-μ-loop s count left at₀ deep₀ least₀ i₀ at deep least i = count - i
+walk-entries-μ-loop s count left told₀ at₀ deep₀ least₀ i₀ told at deep least i = count - i
 
 abbrev walk-items-Inv-loop : walk-items-lts.InvT-loop
-walk-items-Inv-loop s count left at₀ deep₀ i₀ at deep i = RunInv levelVals (walkBy levelVals 0 0 (readRun no-items item (readV left) count s)) (readRun no-items item (readV left)) s count at deep i
+walk-items-Inv-loop s count left told₀ at₀ deep₀ i₀ told at deep i =
+    DeepInv levelVals (walkBy levelVals 0 0 (readRun no-items item (readV left) count s))
+    (readRun no-items item (readV left)) s count at deep i
 
 abbrev walk-items-μ-loop : walk-items-lts.MeasureT-loop
-walk-items-μ-loop s count left at₀ deep₀ i₀ at deep i = count - i
+walk-items-μ-loop s count left told₀ at₀ deep₀ i₀ told at deep i = count - i
 
 abbrev walk-entries-claims : ℕ → walk-entries-lts.Claims
-walk-entries-claims t = (name-at-reads.Asked, name-at-reads.Learnt, key-at-reads.Asked, key-at-reads.Learnt, larger-reads.Asked, larger-reads.Learnt, walk-value-below t, walk-value.Post)
+walk-entries-claims t = (
+  end-reads.Asked,
+  end-reads.Learnt,
+  fault-reads.Asked,
+  fault-reads.Learnt,
+  name-at-reads.Asked,
+  name-at-reads.Learnt,
+  key-at-reads.Asked,
+  key-at-reads.Learnt,
+  walk-value-below t,
+  walk-value.Post,
+  larger-reads.Asked,
+  larger-reads.Learnt,
+)
 
 abbrev walk-items-claims : ℕ → walk-items-lts.Claims
-walk-items-claims t = (key-at-reads.Asked, key-at-reads.Learnt, larger-reads.Asked, larger-reads.Learnt, walk-value-below t, walk-value.Post)
+walk-items-claims t = (
+  end-reads.Asked,
+  end-reads.Learnt,
+  key-at-reads.Asked,
+  key-at-reads.Learnt,
+  walk-value-below t,
+  walk-value.Post,
+  larger-reads.Asked,
+  larger-reads.Learnt,
+)
 
 abbrev walk-value-claims : ℕ → walk-value-lts.Claims
-walk-value-claims t = (width-reads.Asked, width-reads.Learnt, flag-reads.Asked, flag-reads.Learnt, walk-items-below t, walk-items.Post, lift-reads.Asked, lift-reads.Learnt, word-at-reads.Asked, word-at-reads.Learnt, walk-entries-below t, walk-entries.Post, wide-reads.Asked, wide-reads.Learnt, walk-definition-reads.Asked, walk-definition-reads.Learnt, walk-type-reads.Asked, walk-type-reads.Learnt)
+walk-value-claims t = (
+  walk-other-reads.Asked,
+  walk-other-reads.Learnt,
+  fault-reads.Asked,
+  fault-reads.Learnt,
+  walk-items-below t,
+  walk-items.Post,
+  word-at-reads.Asked,
+  word-at-reads.Learnt,
+  walk-entries-below t,
+  walk-entries.Post,
+)
 
-walk-entries-ended : (t : ℕ) (c : walk-entries-lts.After-size (walk-entries-claims t) (walk-entries-at t) walk-entries.Post walk-entries-Inv-loop walk-entries-μ-loop) → (c .size .given .0 .0 ≤ length (c .before .before .before .before .before .before .before .before .before .before .before .before .args .s .now) - (c .before .before .before .before .before .before .before .before .before .before .loop .at + nameWidth)) × (c .size .given .0 .1 .0 ≤ c .size .given .0 .0)
-walk-entries-ended t c = inside-of (c .before .before .walk-value .result) (c .before .before .before .before .before .before .before .before .before .before .before .before .args .s .now) (c .before .before .before .before .before .before .before .before .before .before .loop .at + nameWidth) (c .size .given .0 .0) (c .size .given .0 .1 .0) (c .size .given .1) (c .before .before .walk-value .ensures .1)
+-- src/lib.rt:454:9
+walk-entries-end-requires : (t : ℕ) →
+    walk-entries-lts.Need-end-requires (walk-entries-claims t) (walk-entries-at t) walk-entries.Post
+    walk-entries-Inv-loop walk-entries-μ-loop
+walk-entries-end-requires t c κs = search needs
 
-walk-items-ended : (t : ℕ) (c : walk-items-lts.After-size (walk-items-claims t) (walk-items-at t) walk-items.Post walk-items-Inv-loop walk-items-μ-loop) → (c .size .given .0 .0 ≤ length (c .before .before .before .before .before .before .before .before .before .args .s .now) - (c .before .before .before .before .before .before .before .loop .at)) × (c .size .given .0 .1 .0 ≤ c .size .given .0 .0)
-walk-items-ended t c = inside-of (c .before .before .walk-value .result) (c .before .before .before .before .before .before .before .before .before .args .s .now) (c .before .before .before .before .before .before .before .loop .at) (c .size .given .0 .0) (c .size .given .0 .1 .0) (c .size .given .1) (c .before .before .walk-value .ensures .1)
+-- src/lib.rt:454:9
+walk-entries-returns : (t : ℕ) →
+    walk-entries-lts.Need-returns (walk-entries-claims t) (walk-entries-at t) walk-entries.Post
+    walk-entries-Inv-loop walk-entries-μ-loop
+walk-entries-returns t c =
+    let args = c .before .before .before .before .args in
+    none-told levelEntries
+    (λ (n : ℕ). readNamed no-entries entry ascending (readV (args .left)) n 0)
+    no-entries entries-flat (named-empty no-entries entry ascending (readV (args .left)) 0)
+    (args .s .now) (args .count) 3 _ _ _ (c .before .before .if1 .taken) (omega arith)
+    (c .end .ensures .0) (c .end .ensures .1)
 
-walk-value-open : (t : ℕ) (c : walk-value-lts.Else3 (walk-value-claims t) (walk-value-at t) walk-value.Post) → (0 < length (c .before .before .before .before .before .before .args .s .now)) × ((0 < c .before .before .before .before .before .before .args .left) × (widthOf (getD (c .before .before .before .before .before .before .args .s .now) 0 0) ≤ length (c .before .before .before .before .before .before .args .s .now) - 1))
-walk-value-open t c = (omega arith, (omega arith, omega arith))
+-- src/lib.rt:460:5
+walk-entries-loop-holds : (t : ℕ) →
+    walk-entries-lts.Need-loop-holds (walk-entries-claims t) (walk-entries-at t) walk-entries.Post
+    walk-entries-Inv-loop walk-entries-μ-loop
+walk-entries-loop-holds t c =
+    let args = c .before .before .args in
+    deep-start levelEntries
+    (λ (n : ℕ). readNamed no-entries entry ascending (readV (args .left)) n 0)
+    (args .s .now) (args .count)
 
-walk-value-null : (t : ℕ) (c : walk-value-lts.At-match-keys1 (walk-value-claims t) (walk-value-at t) walk-value.Post) → (kindOf (getD (c .before .before .before .before .before .before .before .args .s .now) 0 0) ≡ ofValue kNull) × (1 ≤ length (c .before .before .before .before .before .before .before .args .s .now) - 1)
-unfolding kindOf operands operandsV
-walk-value-null t c = arm (getD (c .before .before .before .before .before .before .before .args .s .now) 0 0) 0x00 (length (c .before .before .before .before .before .before .before .args .s .now) - 1) (ofValue kNull) (c .match .keys1) refl (walk-value-open t (c .before) .1 .1)
+-- src/lib.rt:461:12
+walk-entries-sub-if2 : (t : ℕ) →
+    walk-entries-lts.Need-sub-if2 (walk-entries-claims t) (walk-entries-at t) walk-entries.Post
+    walk-entries-Inv-loop walk-entries-μ-loop
+walk-entries-sub-if2 t c = omega (arith, c .before .loop .inv .run)
 
-walk-value-boolean : (t : ℕ) (c : walk-value-lts.At-match-keys2 (walk-value-claims t) (walk-value-at t) walk-value.Post) → (kindOf (getD (c .before .before .before .before .before .before .before .args .s .now) 0 0) ≡ ofValue kBoolean) × (1 ≤ length (c .before .before .before .before .before .before .before .args .s .now) - 1)
-unfolding kindOf operands operandsV
-walk-value-boolean t c = arm (getD (c .before .before .before .before .before .before .before .args .s .now) 0 0) 0x01 (length (c .before .before .before .before .before .before .before .args .s .now) - 1) (ofValue kBoolean) (c .match .keys2) refl (walk-value-open t (c .before) .1 .1)
+-- src/lib.rt:462:13
+walk-entries-fault-requires : (t : ℕ) →
+    walk-entries-lts.Need-fault-requires (walk-entries-claims t) (walk-entries-at t) walk-entries.Post
+    walk-entries-Inv-loop walk-entries-μ-loop
+walk-entries-fault-requires t c κs = search needs
 
-walk-value-number : (t : ℕ) (c : walk-value-lts.At-match-keys3 (walk-value-claims t) (walk-value-at t) walk-value.Post) → (kindOf (getD (c .before .before .before .before .before .before .before .args .s .now) 0 0) ≡ ofValue kNumber) × (8 ≤ length (c .before .before .before .before .before .before .before .args .s .now) - 1)
-unfolding kindOf operands operandsV
-walk-value-number t c = arm (getD (c .before .before .before .before .before .before .before .args .s .now) 0 0) 0x02 (length (c .before .before .before .before .before .before .before .args .s .now) - 1) (ofValue kNumber) (c .match .keys3) refl (walk-value-open t (c .before) .1 .1)
+-- src/lib.rt:462:13
+walk-entries-returns-2 : (t : ℕ) →
+    walk-entries-lts.Need-returns-2 (walk-entries-claims t) (walk-entries-at t) walk-entries.Post
+    walk-entries-Inv-loop walk-entries-μ-loop
+walk-entries-returns-2 t c =
+    let c3 = c .before .before .before in
+    names-none levelV levelEntries no-entries entry ascending entries-law entries-flat
+    (readV (c3 .before .before .before .before .args .left)) (c3 .before .loop .least)
+    (c3 .before .loop .inv .run) 3 _ _ _ (c3 .loop-test .taken) (c .before .before .if2 .taken)
+    (c .fault .ensures .0) (c .fault .ensures .1)
 
-walk-value-string : (t : ℕ) (c : walk-value-lts.At-match-keys4 (walk-value-claims t) (walk-value-at t) walk-value.Post) → (kindOf (getD (c .before .before .before .before .before .before .before .args .s .now) 0 0) ≡ ofValue kString) × (nameWidth ≤ length (c .before .before .before .before .before .before .before .args .s .now) - 1)
-unfolding kindOf operands operandsV
-walk-value-string t c = arm (getD (c .before .before .before .before .before .before .before .args .s .now) 0 0) 0x03 (length (c .before .before .before .before .before .before .before .args .s .now) - 1) (ofValue kString) (c .match .keys4) refl (walk-value-open t (c .before) .1 .1)
+-- src/lib.rt:464:13
+walk-entries-name-at-requires : (t : ℕ) →
+    walk-entries-lts.Need-name-at-requires (walk-entries-claims t) (walk-entries-at t) walk-entries.Post
+    walk-entries-Inv-loop walk-entries-μ-loop
+walk-entries-name-at-requires t c κs = search needs
 
-walk-value-range : (t : ℕ) (c : walk-value-lts.At-match-keys5 (walk-value-claims t) (walk-value-at t) walk-value.Post) → (kindOf (getD (c .before .before .before .before .before .before .before .args .s .now) 0 0) ≡ ofValue kRange) × (2 ≤ length (c .before .before .before .before .before .before .before .args .s .now) - 1)
-unfolding kindOf operands operandsV
-walk-value-range t c = arm (getD (c .before .before .before .before .before .before .before .args .s .now) 0 0) 0x09 (length (c .before .before .before .before .before .before .before .args .s .now) - 1) (ofValue kRange) (c .match .keys5) refl (walk-value-open t (c .before) .1 .1)
+-- src/lib.rt:466:13
+walk-entries-fault-requires-2 : (t : ℕ) →
+    walk-entries-lts.Need-fault-requires-2 (walk-entries-claims t) (walk-entries-at t) walk-entries.Post
+    walk-entries-Inv-loop walk-entries-μ-loop
+walk-entries-fault-requires-2 t c κs = search needs
 
-walk-value-list : (t : ℕ) (c : walk-value-lts.At-match-keys6 (walk-value-claims t) (walk-value-at t) walk-value.Post) → (kindOf (getD (c .before .before .before .before .before .before .before .args .s .now) 0 0) ≡ ofValue kList) × (2 ≤ length (c .before .before .before .before .before .before .before .args .s .now) - 1)
-unfolding kindOf operands operandsV
-walk-value-list t c = arm (getD (c .before .before .before .before .before .before .before .args .s .now) 0 0) 0x0A (length (c .before .before .before .before .before .before .before .args .s .now) - 1) (ofValue kList) (c .match .keys6) refl (walk-value-open t (c .before) .1 .1)
+-- src/lib.rt:466:13
+walk-entries-returns-3 : (t : ℕ) →
+    walk-entries-lts.Need-returns-3 (walk-entries-claims t) (walk-entries-at t) walk-entries.Post
+    walk-entries-Inv-loop walk-entries-μ-loop
+walk-entries-returns-3 t c =
+    let c3 = c .before .before .before in
+    let c6 = c3 .before .before .before in
+    names-fall levelV levelEntries no-entries entry ascending entries-law entries-flat
+    (readV (c6 .before .before .before .args .left)) (c6 .loop .least) (c6 .loop .inv .run)
+    (c3 .name-at .result) (c3 .name-at .ensures .0) (c3 .before .if2 .left)
+    (c3 .before .before .loop-test .taken) 3 _ _ _ (c .before .before .if3 .taken)
+    (c .fault2 .ensures .0) (c .fault2 .ensures .1)
 
-walk-value-context : (t : ℕ) (c : walk-value-lts.At-match-keys7 (walk-value-claims t) (walk-value-at t) walk-value.Post) → (kindOf (getD (c .before .before .before .before .before .before .before .args .s .now) 0 0) ≡ ofValue kContext) × (2 ≤ length (c .before .before .before .before .before .before .before .args .s .now) - 1)
-unfolding kindOf operands operandsV
-walk-value-context t c = arm (getD (c .before .before .before .before .before .before .before .args .s .now) 0 0) 0x0B (length (c .before .before .before .before .before .before .before .args .s .now) - 1) (ofValue kContext) (c .match .keys7) refl (walk-value-open t (c .before) .1 .1)
+-- src/lib.rt:468:20
+walk-entries-add-from : (t : ℕ) →
+    walk-entries-lts.Need-add-from (walk-entries-claims t) (walk-entries-at t) walk-entries.Post
+    walk-entries-Inv-loop walk-entries-μ-loop
+walk-entries-add-from t c = search needs
 
-walk-value-definition : (t : ℕ) (c : walk-value-lts.At-match-keys8 (walk-value-claims t) (walk-value-at t) walk-value.Post) → (kindOf (getD (c .before .before .before .before .before .before .before .args .s .now) 0 0) ≡ ofValue kDefinition) × (3 ≤ length (c .before .before .before .before .before .before .before .args .s .now) - 1)
-unfolding kindOf operands operandsV
-walk-value-definition t c = arm (getD (c .before .before .before .before .before .before .before .args .s .now) 0 0) 0x0C (length (c .before .before .before .before .before .before .before .args .s .now) - 1) (ofValue kDefinition) (c .match .keys8) refl (walk-value-open t (c .before) .1 .1)
+-- src/lib.rt:469:17
+walk-entries-add-least : (t : ℕ) →
+    walk-entries-lts.Need-add-least (walk-entries-claims t) (walk-entries-at t) walk-entries.Post
+    walk-entries-Inv-loop walk-entries-μ-loop
+walk-entries-add-least t c = search needs
 
-walk-value-built-in : (t : ℕ) (c : walk-value-lts.At-match-keys9 (walk-value-claims t) (walk-value-at t) walk-value.Post) → (kindOf (getD (c .before .before .before .before .before .before .before .args .s .now) 0 0) ≡ ofValue kBuiltIn) × (1 ≤ length (c .before .before .before .before .before .before .before .args .s .now) - 1)
-unfolding kindOf operands operandsV
-walk-value-built-in t c = arm (getD (c .before .before .before .before .before .before .before .args .s .now) 0 0) 0x0D (length (c .before .before .before .before .before .before .before .args .s .now) - 1) (ofValue kBuiltIn) (c .match .keys9) refl (walk-value-open t (c .before) .1 .1)
+-- src/lib.rt:470:9
+walk-entries-add-i : (t : ℕ) →
+    walk-entries-lts.Need-add-i (walk-entries-claims t) (walk-entries-at t) walk-entries.Post
+    walk-entries-Inv-loop walk-entries-μ-loop
+walk-entries-add-i t c = search needs
 
-walk-value-type : (t : ℕ) (c : walk-value-lts.At-match-keys10 (walk-value-claims t) (walk-value-at t) walk-value.Post) → (kindOf (getD (c .before .before .before .before .before .before .before .args .s .now) 0 0) ≡ ofValue kType) × (0 ≤ length (c .before .before .before .before .before .before .before .args .s .now) - 1)
-unfolding kindOf operands operandsV
-walk-value-type t c = arm (getD (c .before .before .before .before .before .before .before .args .s .now) 0 0) 0x0E (length (c .before .before .before .before .before .before .before .args .s .now) - 1) (ofValue kType) (c .match .keys10) refl (walk-value-open t (c .before) .1 .1)
+-- src/lib.rt:471:13
+walk-entries-key-at-requires : (t : ℕ) →
+    walk-entries-lts.Need-key-at-requires (walk-entries-claims t) (walk-entries-at t) walk-entries.Post
+    walk-entries-Inv-loop walk-entries-μ-loop
+walk-entries-key-at-requires t c κs = search needs
 
-walk-value-irrelevant : (t : ℕ) (c : walk-value-lts.At-match-keys11 (walk-value-claims t) (walk-value-at t) walk-value.Post) → (kindOf (getD (c .before .before .before .before .before .before .before .args .s .now) 0 0) ≡ ofValue kIrrelevant) × (0 ≤ length (c .before .before .before .before .before .before .before .args .s .now) - 1)
-unfolding kindOf operands operandsV
-walk-value-irrelevant t c = arm (getD (c .before .before .before .before .before .before .before .args .s .now) 0 0) 0x0F (length (c .before .before .before .before .before .before .before .args .s .now) - 1) (ofValue kIrrelevant) (c .match .keys11) refl (walk-value-open t (c .before) .1 .1)
+-- src/lib.rt:473:18
+walk-entries-add-at : (t : ℕ) →
+    walk-entries-lts.Need-add-at (walk-entries-claims t) (walk-entries-at t) walk-entries.Post
+    walk-entries-Inv-loop walk-entries-μ-loop
+walk-entries-add-at t c =
+    omega (
+      arith,
+      c .before .key-at .ensures .room,
+      c .before .before .before .before .before .before .loop .inv .run,
+    )
+
+-- src/lib.rt:460:5
+walk-entries-loop-less : (t : ℕ) →
+    walk-entries-lts.Need-loop-less (walk-entries-claims t) (walk-entries-at t) walk-entries.Post
+    walk-entries-Inv-loop walk-entries-μ-loop
+walk-entries-loop-less t c = omega arith
+
+-- src/lib.rt:460:5
+walk-entries-loop-again : (t : ℕ) →
+    walk-entries-lts.Need-loop-again (walk-entries-claims t) (walk-entries-at t) walk-entries.Post
+    walk-entries-Inv-loop walk-entries-μ-loop
+walk-entries-loop-again t c =
+    let c3 = c .before .before .before in
+    let c6 = c3 .before .before .before in
+    let readV1 = readV (c6 .before .before .before .args .left) in
+    deep-turn (c6 .loop .inv)
+    (λ (n : ℕ). readNamed no-entries entry ascending readV1 n (ascending (c3 .name-at .result)))
+    _ (c6 .loop .deep) 1
+    (names-short levelV levelEntries no-entries entry ascending entries-law entries-flat readV1
+    (c6 .loop .least) (c6 .loop .inv .run) (c3 .name-at .result) (c3 .name-at .ensures .0)
+    (c3 .before .if2 .left) (c3 .before .before .loop-test .taken) (c .before .before .if3 .left)
+    isDataLeaf leaf-level (c .before .key-at .result) (max (c6 .loop .inv .d) 1)
+    (c .before .key-at .ensures) (c .if4 .taken) refl)
+    (omega arith)
+    (let w = c6 .loop .inv .deeper in
+    omega arith)
+
+-- src/lib.rt:476:31
+walk-entries-sub-walk-value : (t : ℕ) →
+    walk-entries-lts.Need-sub-walk-value (walk-entries-claims t) (walk-entries-at t) walk-entries.Post
+    walk-entries-Inv-loop walk-entries-μ-loop
+walk-entries-sub-walk-value t c = search needs
+
+-- src/lib.rt:476:31
+walk-entries-part-walk-value-start : (t : ℕ) →
+    walk-entries-lts.Need-part-walk-value-start (walk-entries-claims t) (walk-entries-at t)
+    walk-entries.Post walk-entries-Inv-loop walk-entries-μ-loop
+walk-entries-part-walk-value-start t c = search needs
+
+-- src/lib.rt:476:31
+walk-entries-part-walk-value-end : (t : ℕ) →
+    walk-entries-lts.Need-part-walk-value-end (walk-entries-claims t) (walk-entries-at t)
+    walk-entries.Post walk-entries-Inv-loop walk-entries-μ-loop
+walk-entries-part-walk-value-end t c = search needs
+
+-- src/lib.rt:476:13
+walk-entries-walk-value-requires : (t : ℕ) →
+    walk-entries-lts.Need-walk-value-requires (walk-entries-claims t) (walk-entries-at t)
+    walk-entries.Post walk-entries-Inv-loop walk-entries-μ-loop
+walk-entries-walk-value-requires t c κs = search needs
+
+-- src/lib.rt:478:13
+walk-entries-returns-4 : (t : ℕ) →
+    walk-entries-lts.Need-returns-4 (walk-entries-claims t) (walk-entries-at t) walk-entries.Post
+    walk-entries-Inv-loop walk-entries-μ-loop
+walk-entries-returns-4 t c =
+    let c6 = c .before .before .before .before .before .before in
+    let c7 = c6 .before in
+    let c9 = c7 .before .before in
+    names-fault levelV levelEntries no-entries entry ascending entries-law entries-flat
+    (readV (c9 .before .before .before .before .args .left)) (c9 .before .loop .least)
+    (c9 .before .loop .inv .run) (c7 .name-at .result) (c7 .name-at .ensures .0) (c7 .before .if2 .left)
+    (c9 .loop-test .taken) (c6 .if3 .left) (c .before .walk-value .result) _ 3 _
+    (c .before .walk-value .ensures) (c .if5 .taken)
+
+-- src/lib.rt:480:14
+walk-entries-add-at-2 : (t : ℕ) →
+    walk-entries-lts.Need-add-at-2 (walk-entries-claims t) (walk-entries-at t) walk-entries.Post
+    walk-entries-Inv-loop walk-entries-μ-loop
+walk-entries-add-at-2 t c =
+    let c10 = c .before .before .before .before .before .before .before .before .before .before in
+    let q = fits levelV (readV (c10 .before .before .before .args .left))
+    (c10 .before .before .before .args .s .now) (c10 .loop .at + nameWidth)
+    (c .before .walk-value .result) _ (c .before .walk-value .ensures) (c .if5 .left) in
+    omega (arith, c10 .loop .inv .run)
+
+-- src/lib.rt:481:9
+walk-entries-larger-requires : (t : ℕ) →
+    walk-entries-lts.Need-larger-requires (walk-entries-claims t) (walk-entries-at t) walk-entries.Post
+    walk-entries-Inv-loop walk-entries-μ-loop
+walk-entries-larger-requires t c κs = search needs
+
+-- src/lib.rt:460:5
+walk-entries-loop-less-2 : (t : ℕ) →
+    walk-entries-lts.Need-loop-less-2 (walk-entries-claims t) (walk-entries-at t) walk-entries.Post
+    walk-entries-Inv-loop walk-entries-μ-loop
+walk-entries-loop-less-2 t c = omega arith
+
+-- src/lib.rt:460:5
+walk-entries-loop-again-2 : (t : ℕ) →
+    walk-entries-lts.Need-loop-again-2 (walk-entries-claims t) (walk-entries-at t) walk-entries.Post
+    walk-entries-Inv-loop walk-entries-μ-loop
+walk-entries-loop-again-2 t c =
+    let c3 = c .before .before .before in
+    let c8 = c3 .before .before .before .before .before in
+    let c9 = c8 .before in
+    let c12 = c9 .before .before .before in
+    let args = c12 .before .before .before .args in
+    deep-turn (c12 .loop .inv)
+    (λ (n : ℕ).
+    readNamed no-entries entry ascending (readV (args .left)) n (ascending (c9 .name-at .result)))
+    _ (c .larger .result) (c3 .walk-value .last .1 .1 .0)
+    (names-walk levelV levelEntries no-entries entry ascending entries-law entries-flat
+    (readV (args .left)) (c12 .loop .least) (c12 .loop .inv .run) (c9 .name-at .result)
+    (c9 .name-at .ensures .0) (c9 .before .if2 .left) (c9 .before .before .loop-test .taken)
+    (c8 .if3 .left) (c3 .walk-value .result) (c3 .walk-value .last .1 .1 .0)
+    (max (c12 .loop .inv .d) (c3 .walk-value .last .1 .1 .0)) (c3 .walk-value .ensures)
+    (c .before .before .if5 .left) refl)
+    (level-some levelV value-level (readV (args .left)) (args .s .now) (c12 .loop .at + nameWidth)
+    (c3 .walk-value .result) (c3 .walk-value .last .1 .1 .0) (c3 .walk-value .ensures)
+    (c .before .before .if5 .left))
+    (c .larger .ensures)
+
+-- src/lib.rt:483:9
+walk-entries-add-end : (t : ℕ) →
+    walk-entries-lts.Need-add-end (walk-entries-claims t) (walk-entries-at t) walk-entries.Post
+    walk-entries-Inv-loop walk-entries-μ-loop
+walk-entries-add-end t c = omega (arith, c .before .loop .inv .run)
+
+-- src/lib.rt:483:17
+walk-entries-add-end-2 : (t : ℕ) →
+    walk-entries-lts.Need-add-end-2 (walk-entries-claims t) (walk-entries-at t) walk-entries.Post
+    walk-entries-Inv-loop walk-entries-μ-loop
+walk-entries-add-end-2 t c =
+    let e =
+    deep-is (c .before .loop .inv) (omega (arith, c .before .before .if1 .left)) (c .loop-test .left) in
+    omega (arith, c .before .loop .inv .run)
+
+-- src/lib.rt:483:5
+walk-entries-end-requires-2 : (t : ℕ) →
+    walk-entries-lts.Need-end-requires-2 (walk-entries-claims t) (walk-entries-at t) walk-entries.Post
+    walk-entries-Inv-loop walk-entries-μ-loop
+walk-entries-end-requires-2 t c κs = search needs
+
+-- src/lib.rt:449:1
+walk-entries-returns-5 : (t : ℕ) →
+    walk-entries-lts.Need-returns-5 (walk-entries-claims t) (walk-entries-at t) walk-entries.Post
+    walk-entries-Inv-loop walk-entries-μ-loop
+walk-entries-returns-5 t c =
+    let c3 = c .before .before .before in
+    names-end levelV levelEntries no-entries entry ascending entries-law entries-flat
+    (readV (c3 .before .before .before .args .left)) (c3 .loop .least) (c3 .loop .inv .run) 3 _ _
+    (c .before .before .loop-test .left) (omega arith) (c .end2 .ensures .0)
+    (c .end2 .ensures .1 ∙ ap
+    (λ (z : ℕ). z + 1)
+    (deep-is (c3 .loop .inv) (omega (arith, c3 .before .if1 .left)) (c .before .before .loop-test .left)))
+
+-- src/lib.rt:426:9
+walk-items-end-requires : (t : ℕ) →
+    walk-items-lts.Need-end-requires (walk-items-claims t) (walk-items-at t) walk-items.Post
+    walk-items-Inv-loop walk-items-μ-loop
+walk-items-end-requires t c κs = search needs
+
+-- src/lib.rt:426:9
+walk-items-returns : (t : ℕ) →
+    walk-items-lts.Need-returns (walk-items-claims t) (walk-items-at t) walk-items.Post
+    walk-items-Inv-loop walk-items-μ-loop
+walk-items-returns t c =
+    let args = c .before .before .before .before .args in
+    none-told levelVals (readRun no-items item (readV (args .left))) no-items vals-flat
+    (run-empty no-items item (readV (args .left))) (args .s .now) (args .count) 3 _ _ _
+    (c .before .before .if1 .taken) (omega arith) (c .end .ensures .0) (c .end .ensures .1)
+
+-- src/lib.rt:431:5
+walk-items-loop-holds : (t : ℕ) →
+    walk-items-lts.Need-loop-holds (walk-items-claims t) (walk-items-at t) walk-items.Post
+    walk-items-Inv-loop walk-items-μ-loop
+walk-items-loop-holds t c =
+    let args = c .before .before .args in
+    deep-start levelVals (readRun no-items item (readV (args .left))) (args .s .now) (args .count)
+
+-- src/lib.rt:432:9
+walk-items-add-i : (t : ℕ) →
+    walk-items-lts.Need-add-i (walk-items-claims t) (walk-items-at t) walk-items.Post
+    walk-items-Inv-loop walk-items-μ-loop
+walk-items-add-i t c = search needs
+
+-- src/lib.rt:433:13
+walk-items-key-at-requires : (t : ℕ) →
+    walk-items-lts.Need-key-at-requires (walk-items-claims t) (walk-items-at t) walk-items.Post
+    walk-items-Inv-loop walk-items-μ-loop
+walk-items-key-at-requires t c κs = omega (arith, c .before .loop .inv .run)
+
+-- src/lib.rt:435:18
+walk-items-add-at : (t : ℕ) →
+    walk-items-lts.Need-add-at (walk-items-claims t) (walk-items-at t) walk-items.Post
+    walk-items-Inv-loop walk-items-μ-loop
+walk-items-add-at t c = omega (arith, c .before .key-at .ensures .room, c .before .before .before .loop .inv .run)
+
+-- src/lib.rt:431:5
+walk-items-loop-less : (t : ℕ) →
+    walk-items-lts.Need-loop-less (walk-items-claims t) (walk-items-at t) walk-items.Post
+    walk-items-Inv-loop walk-items-μ-loop
+walk-items-loop-less t c = omega arith
+
+-- src/lib.rt:431:5
+walk-items-loop-again : (t : ℕ) →
+    walk-items-lts.Need-loop-again (walk-items-claims t) (walk-items-at t) walk-items.Post
+    walk-items-Inv-loop walk-items-μ-loop
+walk-items-loop-again t c =
+    let c3 = c .before .before .before in
+    let readV1 = readV (c3 .before .before .before .args .left) in
+    deep-turn (c3 .loop .inv) (readRun no-items item readV1) _ (c3 .loop .deep) 1
+    (items-short levelV levelVals no-items item vals-law vals-flat readV1 (c3 .loop .inv .run) isDataLeaf
+    leaf-level (c .before .key-at .result) (max (c3 .loop .inv .d) 1)
+    (c .before .before .loop-test .taken) (c .before .key-at .ensures) (c .if2 .taken) refl)
+    (omega arith)
+    (let w = c3 .loop .inv .deeper in
+    omega arith)
+
+-- src/lib.rt:438:31
+walk-items-sub-walk-value : (t : ℕ) →
+    walk-items-lts.Need-sub-walk-value (walk-items-claims t) (walk-items-at t) walk-items.Post
+    walk-items-Inv-loop walk-items-μ-loop
+walk-items-sub-walk-value t c = omega (arith, c .before .before .before .loop .inv .run)
+
+-- src/lib.rt:438:31
+walk-items-part-walk-value-start : (t : ℕ) →
+    walk-items-lts.Need-part-walk-value-start (walk-items-claims t) (walk-items-at t) walk-items.Post
+    walk-items-Inv-loop walk-items-μ-loop
+walk-items-part-walk-value-start t c = omega (arith, c .before .before .before .loop .inv .run)
+
+-- src/lib.rt:438:31
+walk-items-part-walk-value-end : (t : ℕ) →
+    walk-items-lts.Need-part-walk-value-end (walk-items-claims t) (walk-items-at t) walk-items.Post
+    walk-items-Inv-loop walk-items-μ-loop
+walk-items-part-walk-value-end t c = search needs
+
+-- src/lib.rt:438:13
+walk-items-walk-value-requires : (t : ℕ) →
+    walk-items-lts.Need-walk-value-requires (walk-items-claims t) (walk-items-at t) walk-items.Post
+    walk-items-Inv-loop walk-items-μ-loop
+walk-items-walk-value-requires t c κs = search needs
+
+-- src/lib.rt:440:13
+walk-items-returns-2 : (t : ℕ) →
+    walk-items-lts.Need-returns-2 (walk-items-claims t) (walk-items-at t) walk-items.Post
+    walk-items-Inv-loop walk-items-μ-loop
+walk-items-returns-2 t c =
+    let c6 = c .before .before .before .before .before .before in
+    items-fault levelV levelVals no-items item vals-law vals-flat
+    (readV (c6 .before .before .before .before .args .left)) (c6 .before .loop .inv .run)
+    (c .before .walk-value .result) _ 3 _ (c6 .loop-test .taken) (c .before .walk-value .ensures)
+    (c .if3 .taken)
+
+-- src/lib.rt:442:14
+walk-items-add-at-2 : (t : ℕ) →
+    walk-items-lts.Need-add-at-2 (walk-items-claims t) (walk-items-at t) walk-items.Post
+    walk-items-Inv-loop walk-items-μ-loop
+walk-items-add-at-2 t c =
+    let c7 = c .before .before .before .before .before .before .before in
+    let q = fits levelV (readV (c7 .before .before .before .args .left))
+    (c7 .before .before .before .args .s .now) (c7 .loop .at) (c .before .walk-value .result) _
+    (c .before .walk-value .ensures) (c .if3 .left) in
+    omega (arith, c7 .loop .inv .run)
+
+-- src/lib.rt:443:9
+walk-items-larger-requires : (t : ℕ) →
+    walk-items-lts.Need-larger-requires (walk-items-claims t) (walk-items-at t) walk-items.Post
+    walk-items-Inv-loop walk-items-μ-loop
+walk-items-larger-requires t c κs = search needs
+
+-- src/lib.rt:431:5
+walk-items-loop-less-2 : (t : ℕ) →
+    walk-items-lts.Need-loop-less-2 (walk-items-claims t) (walk-items-at t) walk-items.Post
+    walk-items-Inv-loop walk-items-μ-loop
+walk-items-loop-less-2 t c = omega arith
+
+-- src/lib.rt:431:5
+walk-items-loop-again-2 : (t : ℕ) →
+    walk-items-lts.Need-loop-again-2 (walk-items-claims t) (walk-items-at t) walk-items.Post
+    walk-items-Inv-loop walk-items-μ-loop
+walk-items-loop-again-2 t c =
+    let c3 = c .before .before .before in
+    let c8 = c3 .before .before .before .before .before in
+    let args = c8 .before .before .before .before .args in
+    let loop = c8 .before .loop in
+    deep-turn (loop .inv) (readRun no-items item (readV (args .left))) _ (c .larger .result)
+    (c3 .walk-value .last .1 .1 .0)
+    (items-walk levelV levelVals no-items item vals-law vals-flat (readV (args .left)) (loop .inv .run)
+    (c3 .walk-value .result) (c3 .walk-value .last .1 .1 .0)
+    (max (loop .inv .d) (c3 .walk-value .last .1 .1 .0)) (c8 .loop-test .taken)
+    (c3 .walk-value .ensures) (c .before .before .if3 .left) refl)
+    (level-some levelV value-level (readV (args .left)) (args .s .now) (loop .at)
+    (c3 .walk-value .result) (c3 .walk-value .last .1 .1 .0) (c3 .walk-value .ensures)
+    (c .before .before .if3 .left))
+    (c .larger .ensures)
+
+-- src/lib.rt:445:9
+walk-items-add-end : (t : ℕ) →
+    walk-items-lts.Need-add-end (walk-items-claims t) (walk-items-at t) walk-items.Post
+    walk-items-Inv-loop walk-items-μ-loop
+walk-items-add-end t c = omega (arith, c .before .loop .inv .run)
+
+-- src/lib.rt:445:17
+walk-items-add-end-2 : (t : ℕ) →
+    walk-items-lts.Need-add-end-2 (walk-items-claims t) (walk-items-at t) walk-items.Post
+    walk-items-Inv-loop walk-items-μ-loop
+walk-items-add-end-2 t c =
+    let e =
+    deep-is (c .before .loop .inv) (omega (arith, c .before .before .if1 .left)) (c .loop-test .left) in
+    omega (arith, c .before .loop .inv .run)
+
+-- src/lib.rt:445:5
+walk-items-end-requires-2 : (t : ℕ) →
+    walk-items-lts.Need-end-requires-2 (walk-items-claims t) (walk-items-at t) walk-items.Post
+    walk-items-Inv-loop walk-items-μ-loop
+walk-items-end-requires-2 t c κs = search needs
+
+-- src/lib.rt:421:1
+walk-items-returns-3 : (t : ℕ) →
+    walk-items-lts.Need-returns-3 (walk-items-claims t) (walk-items-at t) walk-items.Post
+    walk-items-Inv-loop walk-items-μ-loop
+walk-items-returns-3 t c =
+    let c2 = c .before .before in
+    items-end levelV levelVals no-items item vals-law vals-flat
+    (readV (c2 .before .before .before .before .args .left)) (c2 .before .loop .inv .run) 3 _ _
+    (c2 .loop-test .left) (omega arith) (c .end2 .ensures .0)
+    (c .end2 .ensures .1 ∙ ap
+    (λ (z : ℕ). z + 1)
+    (deep-is (c2 .before .loop .inv) (omega (arith, c2 .before .before .if1 .left)) (c2 .loop-test .left)))
+
+-- src/lib.rt:399:27
+walk-value-sub-walk-other : (t : ℕ) →
+    walk-value-lts.Need-sub-walk-other (walk-value-claims t) (walk-value-at t) walk-value.Post
+walk-value-sub-walk-other t c = search needs
+
+-- src/lib.rt:399:27
+walk-value-part-walk-other-start : (t : ℕ) →
+    walk-value-lts.Need-part-walk-other-start (walk-value-claims t) (walk-value-at t) walk-value.Post
+walk-value-part-walk-other-start t c = search needs
+
+-- src/lib.rt:399:27
+walk-value-part-walk-other-end : (t : ℕ) →
+    walk-value-lts.Need-part-walk-other-end (walk-value-claims t) (walk-value-at t) walk-value.Post
+walk-value-part-walk-other-end t c = search needs
+
+-- src/lib.rt:399:9
+walk-value-walk-other-requires : (t : ℕ) →
+    walk-value-lts.Need-walk-other-requires (walk-value-claims t) (walk-value-at t) walk-value.Post
+walk-value-walk-other-requires t c κs = search needs
+
+-- src/lib.rt:399:9
+walk-value-returns : (t : ℕ) → walk-value-lts.Need-returns (walk-value-claims t) (walk-value-at t) walk-value.Post
+walk-value-returns t c =
+    let args = c .before .before .before .before .before .args in
+    told-whole
+    (λ (r : List ℕ). walkOf levelV (readV (args .left) r))
+    (args .s .now) _ _ (c .walk-other .ensures)
+
+-- src/lib.rt:402:9
+walk-value-fault-requires : (t : ℕ) →
+    walk-value-lts.Need-fault-requires (walk-value-claims t) (walk-value-at t) walk-value.Post
+walk-value-fault-requires t c κs = search needs
+
+-- src/lib.rt:402:9
+walk-value-returns-2 : (t : ℕ) → walk-value-lts.Need-returns-2 (walk-value-claims t) (walk-value-at t) walk-value.Post
+walk-value-returns-2 t c =
+    let args = c .before .before .before .before .before .args in
+    told-stop Level (v-level (args .left) (args .s .now) (omega arith) (c .before .before .if2 .taken))
+    (c .fault .ensures .0) (c .fault .ensures .1)
+
+-- src/lib.rt:404:11
+walk-value-shared-slice-read-match : (t : ℕ) →
+    walk-value-lts.Need-shared-slice-read-match (walk-value-claims t) (walk-value-at t) walk-value.Post
+walk-value-shared-slice-read-match t c = search needs
+
+-- src/lib.rt:406:20
+walk-value-shared-slice-read-if3 : (t : ℕ) →
+    walk-value-lts.Need-shared-slice-read-if3 (walk-value-claims t) (walk-value-at t) walk-value.Post
+walk-value-shared-slice-read-if3 t c = search needs
+
+-- src/lib.rt:407:17
+walk-value-fault-requires-2 : (t : ℕ) →
+    walk-value-lts.Need-fault-requires-2 (walk-value-claims t) (walk-value-at t) walk-value.Post
+walk-value-fault-requires-2 t c κs = search needs
+
+-- src/lib.rt:407:17
+walk-value-returns-3 : (t : ℕ) → walk-value-lts.Need-returns-3 (walk-value-claims t) (walk-value-at t) walk-value.Post
+walk-value-returns-3 t c =
+    unfold kindOf operands operandsV in
+    let w =
+    ample (c .before .before .before .before .before .before .before .before .before .args .s .now) 0x09
+    2 (ofValue kRange) (c .before .before .before .before .match .keys1) refl refl (omega arith) in
+    told-stop Shape
+    (v-range-first
+    (c .before .before .before .before .before .before .before .before .before .args .left)
+    (c .before .before .before .before .before .before .before .before .before .args .s .now)
+    (omega arith) (omega arith) (w .1) (w .0) (c .before .before .if3 .taken))
+    (c .fault2 .ensures .0) (c .fault2 .ensures .1)
+
+-- src/lib.rt:409:20
+walk-value-shared-slice-read-if4 : (t : ℕ) →
+    walk-value-lts.Need-shared-slice-read-if4 (walk-value-claims t) (walk-value-at t) walk-value.Post
+walk-value-shared-slice-read-if4 t c = search needs
+
+-- src/lib.rt:410:17
+walk-value-fault-requires-3 : (t : ℕ) →
+    walk-value-lts.Need-fault-requires-3 (walk-value-claims t) (walk-value-at t) walk-value.Post
+walk-value-fault-requires-3 t c κs = search needs
+
+-- src/lib.rt:410:17
+walk-value-returns-4 : (t : ℕ) → walk-value-lts.Need-returns-4 (walk-value-claims t) (walk-value-at t) walk-value.Post
+walk-value-returns-4 t c =
+    unfold kindOf operands operandsV in
+    let w = ample
+    (c .before .before .before .before .before .before .before .before .before .before .before .args .s .now)
+    0x09 2 (ofValue kRange) (c .before .before .before .before .before .before .match .keys1) refl refl
+    (omega arith) in
+    told-stop Shape
+    (v-range-second
+    (c .before .before .before .before .before .before .before .before .before .before .before .args .left)
+    (c .before .before .before .before .before .before .before .before .before .before .before .args .s .now)
+    (omega arith) (omega arith) (w .1) (w .0) (c .before .before .before .before .if3 .left)
+    (c .before .before .if4 .taken))
+    (c .fault3 .ensures .0) (c .fault3 .ensures .1)
+
+-- src/lib.rt:412:24
+walk-value-sub-walk-items : (t : ℕ) →
+    walk-value-lts.Need-sub-walk-items (walk-value-claims t) (walk-value-at t) walk-value.Post
+walk-value-sub-walk-items t c = search needs
+
+-- src/lib.rt:412:24
+walk-value-part-walk-items-start : (t : ℕ) →
+    walk-value-lts.Need-part-walk-items-start (walk-value-claims t) (walk-value-at t) walk-value.Post
+walk-value-part-walk-items-start t c = search needs
+
+-- src/lib.rt:412:24
+walk-value-part-walk-items-end : (t : ℕ) →
+    walk-value-lts.Need-part-walk-items-end (walk-value-claims t) (walk-value-at t) walk-value.Post
+walk-value-part-walk-items-end t c = search needs
+
+-- src/lib.rt:412:36
+walk-value-sub-walk-items-2 : (t : ℕ) →
+    walk-value-lts.Need-sub-walk-items-2 (walk-value-claims t) (walk-value-at t) walk-value.Post
+walk-value-sub-walk-items-2 t c = search needs
+
+-- src/lib.rt:412:13
+walk-value-walk-items-requires : (t : ℕ) →
+    walk-value-lts.Need-walk-items-requires (walk-value-claims t) (walk-value-at t) walk-value.Post
+walk-value-walk-items-requires t c κs =
+    let c11 =
+    c .before .before .before .before .before .before .before .before .before .before .before in
+    (search needs, part-room (c11 .args .s .now) 3 (omega arith) (omega (arith, c11 .good)))
+
+-- src/lib.rt:414:28
+walk-value-sub-walk-items-3 : (t : ℕ) →
+    walk-value-lts.Need-sub-walk-items-3 (walk-value-claims t) (walk-value-at t) walk-value.Post
+walk-value-sub-walk-items-3 t c = search needs
+
+-- src/lib.rt:414:28
+walk-value-part-walk-items-start-2 : (t : ℕ) →
+    walk-value-lts.Need-part-walk-items-start-2 (walk-value-claims t) (walk-value-at t) walk-value.Post
+walk-value-part-walk-items-start-2 t c = search needs
+
+-- src/lib.rt:414:28
+walk-value-part-walk-items-end-2 : (t : ℕ) →
+    walk-value-lts.Need-part-walk-items-end-2 (walk-value-claims t) (walk-value-at t) walk-value.Post
+walk-value-part-walk-items-end-2 t c = search needs
+
+-- src/lib.rt:414:37
+walk-value-word-at-requires : (t : ℕ) →
+    walk-value-lts.Need-word-at-requires (walk-value-claims t) (walk-value-at t) walk-value.Post
+walk-value-word-at-requires t c κs = search needs
+
+-- src/lib.rt:414:52
+walk-value-sub-walk-items-4 : (t : ℕ) →
+    walk-value-lts.Need-sub-walk-items-4 (walk-value-claims t) (walk-value-at t) walk-value.Post
+walk-value-sub-walk-items-4 t c = search needs
+
+-- src/lib.rt:414:17
+walk-value-walk-items-requires-2 : (t : ℕ) →
+    walk-value-lts.Need-walk-items-requires-2 (walk-value-claims t) (walk-value-at t) walk-value.Post
+walk-value-walk-items-requires-2 t c κs =
+    let c8 = c .before .before .before .before .before .before .before .before in
+    (search needs, part-room (c8 .args .s .now) 3 (omega arith) (omega (arith, c8 .good)))
+
+-- src/lib.rt:415:30
+walk-value-sub-walk-entries : (t : ℕ) →
+    walk-value-lts.Need-sub-walk-entries (walk-value-claims t) (walk-value-at t) walk-value.Post
+walk-value-sub-walk-entries t c = search needs
+
+-- src/lib.rt:415:30
+walk-value-part-walk-entries-start : (t : ℕ) →
+    walk-value-lts.Need-part-walk-entries-start (walk-value-claims t) (walk-value-at t) walk-value.Post
+walk-value-part-walk-entries-start t c = search needs
+
+-- src/lib.rt:415:30
+walk-value-part-walk-entries-end : (t : ℕ) →
+    walk-value-lts.Need-part-walk-entries-end (walk-value-claims t) (walk-value-at t) walk-value.Post
+walk-value-part-walk-entries-end t c = search needs
+
+-- src/lib.rt:415:39
+walk-value-word-at-requires-2 : (t : ℕ) →
+    walk-value-lts.Need-word-at-requires-2 (walk-value-claims t) (walk-value-at t) walk-value.Post
+walk-value-word-at-requires-2 t c κs = search needs
+
+-- src/lib.rt:415:54
+walk-value-sub-walk-entries-2 : (t : ℕ) →
+    walk-value-lts.Need-sub-walk-entries-2 (walk-value-claims t) (walk-value-at t) walk-value.Post
+walk-value-sub-walk-entries-2 t c = search needs
+
+-- src/lib.rt:415:17
+walk-value-walk-entries-requires : (t : ℕ) →
+    walk-value-lts.Need-walk-entries-requires (walk-value-claims t) (walk-value-at t) walk-value.Post
+walk-value-walk-entries-requires t c κs =
+    let c8 = c .before .before .before .before .before .before .before .before in
+    (search needs, part-room (c8 .args .s .now) 3 (omega arith) (omega (arith, c8 .good)))
+
+-- src/lib.rt:416:25
+walk-value-sub-walk-other-2 : (t : ℕ) →
+    walk-value-lts.Need-sub-walk-other-2 (walk-value-claims t) (walk-value-at t) walk-value.Post
+walk-value-sub-walk-other-2 t c = search needs
+
+-- src/lib.rt:416:25
+walk-value-part-walk-other-start-2 : (t : ℕ) →
+    walk-value-lts.Need-part-walk-other-start-2 (walk-value-claims t) (walk-value-at t) walk-value.Post
+walk-value-part-walk-other-start-2 t c = search needs
+
+-- src/lib.rt:416:25
+walk-value-part-walk-other-end-2 : (t : ℕ) →
+    walk-value-lts.Need-part-walk-other-end-2 (walk-value-claims t) (walk-value-at t) walk-value.Post
+walk-value-part-walk-other-end-2 t c = search needs
+
+-- src/lib.rt:416:14
+walk-value-walk-other-requires-2 : (t : ℕ) →
+    walk-value-lts.Need-walk-other-requires-2 (walk-value-claims t) (walk-value-at t) walk-value.Post
+walk-value-walk-other-requires-2 t c κs =
+    on-whole
+    (λ (r : List ℕ). 3 ≤ length r → 9 ≤ getD r 0 0 → 11 < getD r 0 0)
+    (c .before .before .before .before .before .before .before .args .s .now)
+    (λ x y. omega (arith, c .before .before .match .rest))
+
+-- src/lib.rt:395:1
+walk-value-returns-5 : (t : ℕ) → walk-value-lts.Need-returns-5 (walk-value-claims t) (walk-value-at t) walk-value.Post
+walk-value-returns-5 t c =
+    unfold kindOf operands operandsV in
+    let w = ample
+    (c .before .before .before .before .before .before .before .before .before .before .before .before .args .s .now)
+    0x09 2 (ofValue kRange) (c .before .before .before .before .before .before .before .match .keys1)
+    refl refl (omega arith) in
+    told-parent
+    (λ (r : List ℕ).
+    walkBy levelVals 0 0
+    (readVals
+    (readV
+    ((c .before .before .before .before .before .before .before .before .before .before .before .before .args .left)
+    - 1))
+    2 r))
+    (c .before .before .before .before .before .before .before .before .before .before .before .before .args .s .now)
+    3 _ _
+    (v-range-is
+    (c .before .before .before .before .before .before .before .before .before .before .before .before .args .left)
+    (c .before .before .before .before .before .before .before .before .before .before .before .before .args .s .now)
+    (omega arith) (omega arith) (w .1) (w .0) (c .before .before .before .before .before .if3 .left)
+    (c .before .before .before .if4 .left))
+    (omega arith) (c .walk-items .ensures)
+
+-- src/lib.rt:395:1
+walk-value-returns-6 : (t : ℕ) → walk-value-lts.Need-returns-6 (walk-value-claims t) (walk-value-at t) walk-value.Post
+walk-value-returns-6 t c =
+    unfold kindOf operands operandsV in
+    let w =
+    ample (c .before .before .before .before .before .before .before .before .before .args .s .now) 0x0A
+    2 (ofValue kList) (c .before .before .before .before .match .keys2) refl refl (omega arith) in
+    told-parent
+    (λ (r : List ℕ).
+    walkBy levelVals 0 0
+    (readVals
+    (readV ((c .before .before .before .before .before .before .before .before .before .args .left) - 1))
+    (c .before .before .word-at .result) r))
+    (c .before .before .before .before .before .before .before .before .before .args .s .now) 3 _ _
+    (v-list-is (c .before .before .before .before .before .before .before .before .before .args .left)
+    (c .before .before .before .before .before .before .before .before .before .args .s .now)
+    (omega arith) (omega arith) (w .1) (c .before .before .word-at .result)
+    (c .before .before .word-at .ensures .0) (w .0))
+    (omega arith) (c .walk-items2 .ensures)
+
+-- src/lib.rt:395:1
+walk-value-returns-7 : (t : ℕ) → walk-value-lts.Need-returns-7 (walk-value-claims t) (walk-value-at t) walk-value.Post
+walk-value-returns-7 t c =
+    unfold kindOf operands operandsV in
+    let w =
+    ample (c .before .before .before .before .before .before .before .before .before .args .s .now) 0x0B
+    2 (ofValue kContext) (c .before .before .before .before .match .keys3) refl refl (omega arith) in
+    told-parent
+    (λ (r : List ℕ).
+    walkBy levelEntries 0 0
+    (readEntries
+    (readV ((c .before .before .before .before .before .before .before .before .before .args .left) - 1))
+    (c .before .before .word-at2 .result) 0 r))
+    (c .before .before .before .before .before .before .before .before .before .args .s .now) 3 _ _
+    (v-context-is (c .before .before .before .before .before .before .before .before .before .args .left)
+    (c .before .before .before .before .before .before .before .before .before .args .s .now)
+    (omega arith) (omega arith) (w .1) (c .before .before .word-at2 .result)
+    (c .before .before .word-at2 .ensures .0) (w .0))
+    (omega arith) (c .walk-entries .ensures)
+
+-- src/lib.rt:395:1
+walk-value-returns-8 : (t : ℕ) → walk-value-lts.Need-returns-8 (walk-value-claims t) (walk-value-at t) walk-value.Post
+walk-value-returns-8 t c =
+    let args = c .before .before .before .before .before .before .before .before .args in
+    told-whole
+    (λ (r : List ℕ). walkOf levelV (readV (args .left) r))
+    (args .s .now) _ _ (c .walk-other2 .ensures)
 
 pub +walk-entries+walk-items+walk-value-spec : {M : Type 1} → statement M
 +walk-entries+walk-items+walk-value-spec =
@@ -159,124 +861,100 @@ pub +walk-entries+walk-items+walk-value-spec : {M : Type 1} → statement M
     walk-entries.Post
     walk-entries-Inv-loop
     walk-entries-μ-loop
-    (λ c. run-start levelEntries (λ (n : ℕ). readNamed no-entries entry ascending (readV (c .before .args .left)) n 0) (c .before .args .s .now) (c .before .args .count) 0 0 (omega arith) (omega arith))
-    (λ c. search needs)
-    (λ c. (run-fault (c .before .before .loop .inv) Shape (c .before .loop-test .taken) (named-ends levelV levelEntries no-entries entry ascending entries-law (readV (c .before .before .before .before .args .left)) (c .before .before .before .before .args .s .now) (c .before .before .loop .at) (c .before .before .loop .deep) (c .before .before .loop .least) (c .if1 .taken)), tt))
-    (λ c κs. omega (arith, c .before .before .loop .inv))
-    (λ c. (run-fault (c .before .before .before .before .loop .inv) Names (c .before .before .before .loop-test .taken) (named-names levelV levelEntries no-entries entry ascending entries-law (readV (c .before .before .before .before .before .before .args .left)) (c .before .before .before .before .before .before .args .s .now) (c .before .before .before .before .loop .at) (c .before .before .before .before .loop .deep) (c .before .before .before .before .loop .least) (c .before .name-at .result) (c .before .name-at .ensures .0) (c .before .before .if1 .left) (c .if2 .taken)), tt))
-    (λ c. search needs)
-    (λ c κs. omega (arith, c .before .before .before .before .loop .inv))
-    (λ c. let q = c .before .key-at .ensures (omega arith) in omega (arith, q .1, c .before .before .before .before .before .before .loop .inv))
-    (λ c κs. search needs)
-    (λ c. omega (arith, c .before .before .before .before .name-at .ensures))
-    (λ c. search needs)
-    (λ c. search needs)
-    (λ c. let at = c .before .before .before .before .before .before .before .loop .inv .inside in let two = c .before .before .before .before .before .if1 .left in let q = c .before .before .key-at .ensures (omega arith) in run-turn (c .before .before .before .before .before .before .before .loop .inv) (λ (n : ℕ). readNamed no-entries entry ascending (readV (c .before .before .before .before .before .before .before .before .before .args .left)) n (c .before .before .before .before .name-at .result + 1)) (c .before .before .before .before .before .before .before .loop .at + nameWidth) (c .larger .result) (c .before .before .key-at .result) 1 (c .before .before .before .before .before .before .loop-test .taken) (c .larger .ensures) (q .1, omega arith) (omega arith) (omega arith) (named-turn levelV levelEntries no-entries entry ascending entries-law (readV (c .before .before .before .before .before .before .before .before .before .args .left)) (c .before .before .before .before .before .before .before .before .before .args .s .now) (c .before .before .before .before .before .before .before .loop .at) (c .before .before .before .before .before .before .before .loop .deep) (c .before .before .before .before .before .before .before .loop .least) (c .before .before .before .before .name-at .result) (c .before .before .before .before .name-at .ensures .0) (c .before .before .before .before .before .if1 .left) (c .before .before .key-at .result) 1 (c .before .before .before .if2 .left) (q .0)))
-    (λ c. search needs)
-    (λ c. search needs)
-    (λ c. search needs)
-    (λ c κs. search needs)
-    (λ c. search needs)
-    (λ c. let i = walk-entries-ended t (c .before) in omega (arith, c .before .before .before .before .before .before .before .before .before .before .before .loop .inv))
-    (λ c κs. search needs)
-    (λ c. search needs)
-    (λ c. (run-fault (c .before .before .before .before .before .before .before .before .before .before .before .loop .inv) (c .before .f .given .0 .0) (c .before .before .before .before .before .before .before .before .before .before .loop-test .taken) (named-fault levelV levelEntries no-entries entry ascending entries-law (readV (c .before .before .before .before .before .before .before .before .before .before .before .before .before .args .left)) (c .before .before .before .before .before .before .before .before .before .before .before .before .before .args .s .now) (c .before .before .before .before .before .before .before .before .before .before .before .loop .at) (c .before .before .before .before .before .before .before .before .before .before .before .loop .deep) (c .before .before .before .before .before .before .before .before .before .before .before .loop .least) (c .before .before .before .before .before .before .before .before .name-at .result) (c .before .before .before .before .before .before .before .before .name-at .ensures .0) (c .before .before .before .before .before .before .before .before .before .if1 .left) (c .before .f .given .0 .0) (c .before .before .before .before .before .before .before .if2 .left) (part-of (λ (r : List ℕ). walkOf levelV (readV (c .before .before .before .before .before .before .before .before .before .before .before .before .before .args .left) r)) (c .before .before .before .before .before .before .before .before .before .before .before .before .before .args .s .now) (c .before .before .before .before .before .before .before .before .before .before .before .loop .at + nameWidth) {x = walk.Fault (c .before .f .given .0 .0)} (c .before .f .given .1) (c .before .before .before .walk-value .ensures .0))), tt))
-    (λ c. omega (arith, c .before .before .before .before .before .before .before .before .before .name-at .ensures))
-    (λ c. search needs)
-    (λ c. search needs)
-    (λ c. let at = c .before .before .before .before .before .before .before .before .before .before .before .before .loop .inv .inside in let two = c .before .before .before .before .before .before .before .before .before .before .if1 .left in run-turn (c .before .before .before .before .before .before .before .before .before .before .before .before .loop .inv) (λ (n : ℕ). readNamed no-entries entry ascending (readV (c .before .before .before .before .before .before .before .before .before .before .before .before .before .before .args .left)) n (c .before .before .before .before .before .before .before .before .before .name-at .result + 1)) (c .before .before .before .before .before .before .before .before .before .before .before .before .loop .at + nameWidth) (c .larger2 .result) (c .before .before .size .given .0 .0) (c .before .before .size .given .0 .1 .0) (c .before .before .before .before .before .before .before .before .before .before .before .loop-test .taken) (c .larger2 .ensures) (walk-entries-ended t (c .before .before)) (omega arith) (omega arith) (named-turn levelV levelEntries no-entries entry ascending entries-law (readV (c .before .before .before .before .before .before .before .before .before .before .before .before .before .before .args .left)) (c .before .before .before .before .before .before .before .before .before .before .before .before .before .before .args .s .now) (c .before .before .before .before .before .before .before .before .before .before .before .before .loop .at) (c .before .before .before .before .before .before .before .before .before .before .before .before .loop .deep) (c .before .before .before .before .before .before .before .before .before .before .before .before .loop .least) (c .before .before .before .before .before .before .before .before .before .name-at .result) (c .before .before .before .before .before .before .before .before .before .name-at .ensures .0) (c .before .before .before .before .before .before .before .before .before .before .if1 .left) (c .before .before .size .given .0 .0) (c .before .before .size .given .0 .1 .0) (c .before .before .before .before .before .before .before .before .if2 .left) (part-of (λ (r : List ℕ). walkOf levelV (readV (c .before .before .before .before .before .before .before .before .before .before .before .before .before .before .args .left) r)) (c .before .before .before .before .before .before .before .before .before .before .before .before .before .before .args .s .now) (c .before .before .before .before .before .before .before .before .before .before .before .before .loop .at + nameWidth) {x = walk.End (c .before .before .size .given .0 .0) (c .before .before .size .given .0 .1 .0)} (c .before .before .size .given .1) (c .before .before .before .before .walk-value .ensures .0))))
-    (λ c. (run-done (c .before .loop .inv) no-entries entries-flat (named-none levelV levelEntries no-entries entry ascending entries-law (readV (c .before .before .before .args .left)) (c .before .loop .least)) (c .loop-test .left), (c .before .loop .inv .inside, c .before .loop .inv .shallow))))
+    (walk-entries-end-requires t)
+    (walk-entries-returns t)
+    (walk-entries-loop-holds t)
+    (walk-entries-sub-if2 t)
+    (walk-entries-fault-requires t)
+    (walk-entries-returns-2 t)
+    (walk-entries-name-at-requires t)
+    (walk-entries-fault-requires-2 t)
+    (walk-entries-returns-3 t)
+    (walk-entries-add-from t)
+    (walk-entries-add-least t)
+    (walk-entries-add-i t)
+    (walk-entries-key-at-requires t)
+    (walk-entries-add-at t)
+    (walk-entries-loop-less t)
+    (walk-entries-loop-again t)
+    (walk-entries-sub-walk-value t)
+    (walk-entries-part-walk-value-start t)
+    (walk-entries-part-walk-value-end t)
+    (walk-entries-walk-value-requires t)
+    (walk-entries-returns-4 t)
+    (walk-entries-add-at-2 t)
+    (walk-entries-larger-requires t)
+    (walk-entries-loop-less-2 t)
+    (walk-entries-loop-again-2 t)
+    (walk-entries-add-end t)
+    (walk-entries-add-end-2 t)
+    (walk-entries-end-requires-2 t)
+    (walk-entries-returns-5 t))
     (λ t. walk-items-lts.spec (walk-items-claims t)
     (walk-items-at t)
     walk-items.Post
     walk-items-Inv-loop
     walk-items-μ-loop
-    (λ c. run-start levelVals (readRun no-items item (readV (c .before .args .left))) (c .before .args .s .now) (c .before .args .count) 0 0 (omega arith) (omega arith))
-    (λ c κs. omega (arith, c .before .loop .inv))
-    (λ c. let q = c .before .key-at .ensures (omega arith) in omega (arith, q .1, c .before .before .before .loop .inv))
-    (λ c κs. search needs)
-    (λ c. search needs)
-    (λ c. search needs)
-    (λ c. let at = c .before .before .before .before .loop .inv .inside in let q = c .before .before .key-at .ensures (omega arith) in run-turn (c .before .before .before .before .loop .inv) (readRun no-items item (readV (c .before .before .before .before .before .before .args .left))) (c .before .before .before .before .loop .at) (c .larger .result) (c .before .before .key-at .result) 1 (c .before .before .before .loop-test .taken) (c .larger .ensures) (q .1, omega arith) (omega arith) (omega arith) (item-turn levelV levelVals no-items item vals-law (readV (c .before .before .before .before .before .before .args .left)) (c .before .before .before .before .before .before .args .s .now) (c .before .before .before .before .loop .at) (c .before .before .before .before .loop .deep) (c .before .before .key-at .result) 1 (q .0)))
-    (λ c. search needs)
-    (λ c. search needs)
-    (λ c. search needs)
-    (λ c κs. search needs)
-    (λ c. search needs)
-    (λ c. let i = walk-items-ended t (c .before) in omega arith)
-    (λ c κs. search needs)
-    (λ c. search needs)
-    (λ c. (run-fault (c .before .before .before .before .before .before .before .before .loop .inv) (c .before .f .given .0 .0) (c .before .before .before .before .before .before .before .loop-test .taken) (item-fault levelV levelVals no-items item vals-law (readV (c .before .before .before .before .before .before .before .before .before .before .args .left)) (c .before .before .before .before .before .before .before .before .before .before .args .s .now) (c .before .before .before .before .before .before .before .before .loop .at) (c .before .before .before .before .before .before .before .before .loop .deep) (c .before .f .given .0 .0) (part-of (λ (r : List ℕ). walkOf levelV (readV (c .before .before .before .before .before .before .before .before .before .before .args .left) r)) (c .before .before .before .before .before .before .before .before .before .before .args .s .now) (c .before .before .before .before .before .before .before .before .loop .at) {x = walk.Fault (c .before .f .given .0 .0)} (c .before .f .given .1) (c .before .before .before .walk-value .ensures .0))), tt))
-    (λ c. search needs)
-    (λ c. search needs)
-    (λ c. run-turn (c .before .before .before .before .before .before .before .before .before .loop .inv) (readRun no-items item (readV (c .before .before .before .before .before .before .before .before .before .before .before .args .left))) (c .before .before .before .before .before .before .before .before .before .loop .at) (c .larger2 .result) (c .before .before .size .given .0 .0) (c .before .before .size .given .0 .1 .0) (c .before .before .before .before .before .before .before .before .loop-test .taken) (c .larger2 .ensures) (walk-items-ended t (c .before .before)) (omega arith) (omega arith) (item-turn levelV levelVals no-items item vals-law (readV (c .before .before .before .before .before .before .before .before .before .before .before .args .left)) (c .before .before .before .before .before .before .before .before .before .before .before .args .s .now) (c .before .before .before .before .before .before .before .before .before .loop .at) (c .before .before .before .before .before .before .before .before .before .loop .deep) (c .before .before .size .given .0 .0) (c .before .before .size .given .0 .1 .0) (part-of (λ (r : List ℕ). walkOf levelV (readV (c .before .before .before .before .before .before .before .before .before .before .before .args .left) r)) (c .before .before .before .before .before .before .before .before .before .before .before .args .s .now) (c .before .before .before .before .before .before .before .before .before .loop .at) {x = walk.End (c .before .before .size .given .0 .0) (c .before .before .size .given .0 .1 .0)} (c .before .before .size .given .1) (c .before .before .before .before .walk-value .ensures .0))))
-    (λ c. (run-done (c .before .loop .inv) no-items vals-flat (run-none levelV levelVals no-items item vals-law (readV (c .before .before .before .args .left))) (c .loop-test .left), (c .before .loop .inv .inside, c .before .loop .inv .shallow))))
+    (walk-items-end-requires t)
+    (walk-items-returns t)
+    (walk-items-loop-holds t)
+    (walk-items-add-i t)
+    (walk-items-key-at-requires t)
+    (walk-items-add-at t)
+    (walk-items-loop-less t)
+    (walk-items-loop-again t)
+    (walk-items-sub-walk-value t)
+    (walk-items-part-walk-value-start t)
+    (walk-items-part-walk-value-end t)
+    (walk-items-walk-value-requires t)
+    (walk-items-returns-2 t)
+    (walk-items-add-at-2 t)
+    (walk-items-larger-requires t)
+    (walk-items-loop-less-2 t)
+    (walk-items-loop-again-2 t)
+    (walk-items-add-end t)
+    (walk-items-add-end-2 t)
+    (walk-items-end-requires-2 t)
+    (walk-items-returns-3 t))
     λ t. walk-value-lts.spec (walk-value-claims t)
     (walk-value-at t)
     walk-value.Post
-    (λ c. (sym (v-none (c .before .before .args .left) (c .before .before .args .s .now) (c .if1 .taken)), tt))
-    (λ c. (sym (v-level (c .before .before .before .args .left) (c .before .before .before .args .s .now) (omega arith) (c .if2 .taken)), tt))
-    (λ c. search needs)
-    (λ c κs. search needs)
-    (λ c. search needs)
-    (λ c. (sym (v-short (c .before .before .before .before .before .before .args .left) (c .before .before .before .before .before .before .args .s .now) (omega arith) (omega arith) (omega arith)), tt))
-    (λ c. let n = walk-value-null t (c .before) .1 in omega arith)
-    (λ c κs. search needs)
-    (λ c. let n = walk-value-boolean t (c .before) .1 in omega arith)
-    (λ c κs. search needs)
-    (λ c. search needs)
-    (λ c. search needs)
-    (λ c. let n = walk-value-range t (c .before) .1 in omega arith)
-    (λ c. let n = walk-value-range t (c .before .before) .1 in omega arith)
-    (λ c. let o = walk-value-open t (c .before .before .before .before) in (sym (v-range-first (c .before .before .before .before .before .before .before .before .before .before .args .left) (c .before .before .before .before .before .before .before .before .before .before .args .s .now) (o .0) (o .1 .0) (o .1 .1) (walk-value-range t (c .before .before .before) .0) (c .if4 .taken)), tt))
-    (λ c. let o = walk-value-open t (c .before .before .before .before .before) in (sym (v-range-second (c .before .before .before .before .before .before .before .before .before .before .before .args .left) (c .before .before .before .before .before .before .before .before .before .before .before .args .s .now) (o .0) (o .1 .0) (o .1 .1) (walk-value-range t (c .before .before .before .before) .0) (c .before .if4 .left) (c .if5 .taken)), tt))
-    (λ c. let n = walk-value-range t (c .before .before .before .before) .1 in omega arith)
-    (λ c. let n = walk-value-range t (c .before .before .before .before) .1 in omega arith)
-    (λ c. search needs)
-    (λ c. search needs)
-    (λ c κs. search needs)
-    (λ c κs. let n = walk-value-range t (c .before .before .before .before .before .before) .1 in room-of (c .walk-items .result) (c .before .before .before .before .before .before .before .before .before .before .before .before .before .args .s .now) 3 (c .walk-items .ensures .1) (omega arith) (omega arith) (omega (arith, c .before .before .before .before .before .before .before .before .before .before .before .before .before .good)))
-    (λ c. let n = walk-value-list t (c) .1 in omega arith)
-    (λ c. let n = walk-value-list t (c) .1 in omega arith)
-    (λ c. search needs)
-    (λ c κs. let n = walk-value-list t (c .before) .1 in omega arith)
-    (λ c. search needs)
-    (λ c κs. search needs)
-    (λ c κs. let n = walk-value-list t (c .before .before .before) .1 in room-of (c .walk-items2 .result) (c .before .before .before .before .before .before .before .before .before .before .args .s .now) 3 (c .walk-items2 .ensures .1) (omega arith) (omega arith) (omega (arith, c .before .before .before .before .before .before .before .before .before .before .good)))
-    (λ c. let n = walk-value-context t (c) .1 in omega arith)
-    (λ c. let n = walk-value-context t (c) .1 in omega arith)
-    (λ c. search needs)
-    (λ c κs. let n = walk-value-context t (c .before) .1 in omega arith)
-    (λ c. search needs)
-    (λ c κs. search needs)
-    (λ c κs. let n = walk-value-context t (c .before .before .before) .1 in room-of (c .walk-entries .result) (c .before .before .before .before .before .before .before .before .before .before .args .s .now) 3 (c .walk-entries .ensures .1) (omega arith) (omega arith) (omega (arith, c .before .before .before .before .before .before .before .before .before .before .good)))
-    (λ c. let n = walk-value-definition t (c) .1 in omega arith)
-    (λ c. let n = walk-value-definition t (c) .1 in omega arith)
-    (λ c. search needs)
-    (λ c. let n = walk-value-definition t (c .before .before) .1 in omega arith)
-    (λ c κs. search needs)
-    (λ c. search needs)
-    (λ c κs. search needs)
-    (λ c κs. let n = walk-value-definition t (c .before .before .before .before) .1 in room-of (c .walk-definition .result) (c .before .before .before .before .before .before .before .before .before .before .before .args .s .now) 4 (c .walk-definition .ensures .1) (omega arith) (omega arith) (omega (arith, c .before .before .before .before .before .before .before .before .before .before .before .good)))
-    (λ c. let n = walk-value-built-in t (c .before) .1 in omega arith)
-    (λ c κs. search needs)
-    (λ c. search needs)
-    (λ c. search needs)
-    (λ c. search needs)
-    (λ c. search needs)
-    (λ c κs. search needs)
-    (λ c κs. let o = walk-value-open t (c .before .before .before) in let n = o .0 in room-of (c .walk-type .result) (c .before .before .before .before .before .before .before .before .before .args .s .now) 1 (c .walk-type .ensures .1) (omega arith) (omega arith) (omega (arith, c .before .before .before .before .before .before .before .before .before .good)))
-    (λ c. search needs)
-    (λ c. let o = walk-value-open t (c .before .before .before) in let n = walk-value-null t (c .before .before) .1 in flagged (getD (c .before .before .before .before .before .before .before .before .before .args .s .now) 1 0) 3 (c .before .before .before .before .before .before .before .before .before .args .s .now) (c .flag .ensures) (v-null (c .before .before .before .before .before .before .before .before .before .args .left) (c .before .before .before .before .before .before .before .before .before .args .s .now) (o .0) (o .1 .0) (o .1 .1) (walk-value-null t (c .before .before) .0)) n)
-    (λ c. let o = walk-value-open t (c .before .before .before) in let n = walk-value-boolean t (c .before .before) .1 in flagged (getD (c .before .before .before .before .before .before .before .before .before .args .s .now) 1 0) 1 (c .before .before .before .before .before .before .before .before .before .args .s .now) (c .flag2 .ensures) (v-boolean (c .before .before .before .before .before .before .before .before .before .args .left) (c .before .before .before .before .before .before .before .before .before .args .s .now) (o .0) (o .1 .0) (o .1 .1) (walk-value-boolean t (c .before .before) .0)) n)
-    (λ c. let o = walk-value-open t (c .before) in (sym (v-number (c .before .before .before .before .before .before .before .args .left) (c .before .before .before .before .before .before .before .args .s .now) (o .0) (o .1 .0) (o .1 .1) (c .before .before .width .result) (c .before .before .width .ensures) (walk-value-number t c .0)), (omega arith, omega arith)))
-    (λ c. let o = walk-value-open t (c .before) in (sym (v-string (c .before .before .before .before .before .before .before .args .left) (c .before .before .before .before .before .before .before .args .s .now) (o .0) (o .1 .0) (o .1 .1) (c .before .before .width .result) (c .before .before .width .ensures) (walk-value-string t c .0)), (omega arith, omega arith)))
-    (λ c. let o = walk-value-open t (c .before .before .before .before .before .before .before .before) in let n = walk-value-range t (c .before .before .before .before .before .before .before) .1 in lifted (λ (r : List ℕ). walkBy levelVals 0 0 (readVals (readV ((c .before .before .before .before .before .before .before .before .before .before .before .before .before .before .args .left) - 1)) 2 r)) (c .before .before .before .before .before .before .before .before .before .before .before .before .before .before .args .s .now) 3 (c .before .walk-items .result) (c .lift .result) (c .lift .ensures) (c .before .walk-items .ensures .0) (v-range-is (c .before .before .before .before .before .before .before .before .before .before .before .before .before .before .args .left) (c .before .before .before .before .before .before .before .before .before .before .before .before .before .before .args .s .now) (o .0) (o .1 .0) (o .1 .1) (walk-value-range t (c .before .before .before .before .before .before .before) .0) (c .before .before .before .before .if4 .left) (c .before .before .before .if5 .left)) (c .before .walk-items .ensures .1) (omega arith) (omega arith))
-    (λ c. let o = walk-value-open t (c .before .before .before .before .before) in let n = walk-value-list t (c .before .before .before .before) .1 in lifted (λ (r : List ℕ). walkBy levelVals 0 0 (readVals (readV ((c .before .before .before .before .before .before .before .before .before .before .before .args .left) - 1)) (c .before .before .word-at .result) r)) (c .before .before .before .before .before .before .before .before .before .before .before .args .s .now) 3 (c .before .walk-items2 .result) (c .lift2 .result) (c .lift2 .ensures) (c .before .walk-items2 .ensures .0) (v-list-is (c .before .before .before .before .before .before .before .before .before .before .before .args .left) (c .before .before .before .before .before .before .before .before .before .before .before .args .s .now) (o .0) (o .1 .0) (o .1 .1) (c .before .before .word-at .result) (c .before .before .word-at .ensures .0) (walk-value-list t (c .before .before .before .before) .0)) (c .before .walk-items2 .ensures .1) (omega arith) (omega arith))
-    (λ c. let o = walk-value-open t (c .before .before .before .before .before) in let n = walk-value-context t (c .before .before .before .before) .1 in lifted (λ (r : List ℕ). walkBy levelEntries 0 0 (readEntries (readV ((c .before .before .before .before .before .before .before .before .before .before .before .args .left) - 1)) (c .before .before .word-at2 .result) 0 r)) (c .before .before .before .before .before .before .before .before .before .before .before .args .s .now) 3 (c .before .walk-entries .result) (c .lift3 .result) (c .lift3 .ensures) (c .before .walk-entries .ensures .0) (v-context-is (c .before .before .before .before .before .before .before .before .before .before .before .args .left) (c .before .before .before .before .before .before .before .before .before .before .before .args .s .now) (o .0) (o .1 .0) (o .1 .1) (c .before .before .word-at2 .result) (c .before .before .word-at2 .ensures .0) (walk-value-context t (c .before .before .before .before) .0)) (c .before .walk-entries .ensures .1) (omega arith) (omega arith))
-    (λ c. let o = walk-value-open t (c .before .before .before .before .before .before) in let n = walk-value-definition t (c .before .before .before .before .before) .1 in lifted (λ (r : List ℕ). pairWalk level levelParams r (readParams (readT ((c .before .before .before .before .before .before .before .before .before .before .before .before .args .left) - 1)) (c .before .before .wide .result) 0) (readT ((c .before .before .before .before .before .before .before .before .before .before .before .before .args .left) - 1) r)) (c .before .before .before .before .before .before .before .before .before .before .before .before .args .s .now) 4 (c .before .walk-definition .result) (c .lift4 .result) (c .lift4 .ensures) (c .before .walk-definition .ensures .0) (v-definition (c .before .before .before .before .before .before .before .before .before .before .before .before .args .left) (c .before .before .before .before .before .before .before .before .before .before .before .before .args .s .now) (o .0) (o .1 .0) (o .1 .1) (c .before .before .wide .result) (c .before .before .wide .ensures .0) (walk-value-definition t (c .before .before .before .before .before) .0)) (c .before .walk-definition .ensures .1) (omega arith) (omega arith))
-    (λ c. let o = walk-value-open t (c .before .before .before) in let n = walk-value-built-in t (c .before .before) .1 in flagged (getD (c .before .before .before .before .before .before .before .before .before .args .s .now) 1 0) 85 (c .before .before .before .before .before .before .before .before .before .args .s .now) (c .flag3 .ensures) (v-built-in-is (c .before .before .before .before .before .before .before .before .before .args .left) (c .before .before .before .before .before .before .before .before .before .args .s .now) (o .0) (o .1 .0) (o .1 .1) (walk-value-built-in t (c .before .before) .0)) n)
-    (λ c. let o = walk-value-open t (c .before .before .before .before) in let n = o .0 in lifted (λ (r : List ℕ). walkOf level (readT ((c .before .before .before .before .before .before .before .before .before .before .args .left) - 1) r)) (c .before .before .before .before .before .before .before .before .before .before .args .s .now) 1 (c .before .walk-type .result) (c .lift5 .result) (c .lift5 .ensures) (c .before .walk-type .ensures .0) (v-type-is (c .before .before .before .before .before .before .before .before .before .before .args .left) (c .before .before .before .before .before .before .before .before .before .before .args .s .now) (o .0) (o .1 .0) (walk-value-type t (c .before .before .before) .0)) (c .before .walk-type .ensures .1) (omega arith) (omega arith))
-    (λ c. let o = walk-value-open t (c .before) in let n = walk-value-irrelevant t (c) .1 in (sym (v-irrelevant-is (c .before .before .before .before .before .before .before .args .left) (c .before .before .before .before .before .before .before .args .s .now) (o .0) (o .1 .0) (walk-value-irrelevant t (c) .0)), (omega arith, omega arith)))
-    (λ c. let o = walk-value-open t (c .before .before) in let k : kindOf (getD (c .before .before .before .before .before .before .before .before .args .s .now) 0 0) ≡ ofValue kTemporal = kind-temporal (getD (c .before .before .before .before .before .before .before .before .args .s .now) 0 0) (omega (arith, c .before .match .rest .0 .0 .0 .0 .0 .0 .0 .1, c .before .match .rest .0 .0 .0 .0 .0 .0 .0 .0 .1, c .before .match .rest .0 .0 .0 .0 .0 .0 .0 .0 .0 .1, c .before .match .rest .0 .0 .0 .0 .0 .0 .0 .0 .0 .0 .1)) (c .if6 .taken) in (sym (v-temporal (c .before .before .before .before .before .before .before .before .args .left) (c .before .before .before .before .before .before .before .before .args .s .now) (o .0) (o .1 .0) (o .1 .1) (c .before .before .before .width .result) (c .before .before .before .width .ensures) k), (omega arith, omega arith)))
-    (λ c. let o = walk-value-open t (c .before .before) in (sym (v-other (c .before .before .before .before .before .before .before .before .args .left) (c .before .before .before .before .before .before .before .before .args .s .now) (o .0) (o .1 .0) (c .if6 .left) (c .before .match .rest .0 .0 .0 .0 .0 .0 .1) (c .before .match .rest .0 .0 .0 .0 .0 .1) (c .before .match .rest .0 .0 .0 .0 .1) (c .before .match .rest .0 .0 .0 .1) (c .before .match .rest .0 .0 .1) (c .before .match .rest .0 .1) (c .before .match .rest .1)), tt))
+    (walk-value-sub-walk-other t)
+    (walk-value-part-walk-other-start t)
+    (walk-value-part-walk-other-end t)
+    (walk-value-walk-other-requires t)
+    (walk-value-returns t)
+    (walk-value-fault-requires t)
+    (walk-value-returns-2 t)
+    (walk-value-shared-slice-read-match t)
+    (walk-value-shared-slice-read-if3 t)
+    (walk-value-fault-requires-2 t)
+    (walk-value-returns-3 t)
+    (walk-value-shared-slice-read-if4 t)
+    (walk-value-fault-requires-3 t)
+    (walk-value-returns-4 t)
+    (walk-value-sub-walk-items t)
+    (walk-value-part-walk-items-start t)
+    (walk-value-part-walk-items-end t)
+    (walk-value-sub-walk-items-2 t)
+    (walk-value-walk-items-requires t)
+    (walk-value-sub-walk-items-3 t)
+    (walk-value-part-walk-items-start-2 t)
+    (walk-value-part-walk-items-end-2 t)
+    (walk-value-word-at-requires t)
+    (walk-value-sub-walk-items-4 t)
+    (walk-value-walk-items-requires-2 t)
+    (walk-value-sub-walk-entries t)
+    (walk-value-part-walk-entries-start t)
+    (walk-value-part-walk-entries-end t)
+    (walk-value-word-at-requires-2 t)
+    (walk-value-sub-walk-entries-2 t)
+    (walk-value-walk-entries-requires t)
+    (walk-value-sub-walk-other-2 t)
+    (walk-value-part-walk-other-start-2 t)
+    (walk-value-part-walk-other-end-2 t)
+    (walk-value-walk-other-requires-2 t)
+    (walk-value-returns-5 t)
+    (walk-value-returns-6 t)
+    (walk-value-returns-7 t)
+    (walk-value-returns-8 t)

@@ -1,3 +1,5 @@
+-- The largest operand byte of each command, arm by arm.
+-- Assumes nothing.
 use Rattle.form.proofs.operand_end.Statement.{statement}
 use Rattle.form.proofs.operand_end.Tie as tie
 use Rattle.form.proofs.operand_end.Reads as reads
@@ -9,4 +11,14 @@ use borrow.Author.Needs.{needs}
 use native.Mathlib.Omega.{arith}
 
 pub operand-end-spec : {M : Type 1} → statement M
-operand-end-spec = tie.close (tie.spec (λ c. unfold operandEnd in sym (ap operandEnd (c .match .keys1))) (λ c. unfold operandEnd in sym (ap operandEnd (c .match .keys2))) (λ c. unfold operandEnd in simp (ne-eqb (c .before .args .c) 0 (c .match .rest .0 .1), ne-eqb (c .before .args .c) 1 (c .match .rest .1))))
+operand-end-spec =
+    tie.close
+    (tie.spec
+    (λ c. unfold operandEnd in sym (ap operandEnd (c .match .keys1)))
+    (λ c. unfold operandEnd in sym (ap operandEnd (c .match .keys2)))
+    (λ c.
+    unfold operandEnd in
+    simp (
+      ne-eqb (c .before .args .c) 0 (c .match .rest .0 .1),
+      ne-eqb (c .before .args .c) 1 (c .match .rest .1),
+    )))

@@ -1,17 +1,28 @@
--- `form::settle` meets its contract.
+-- The answer to a whole, by the walk's size against the length.
 -- Assumes nothing.
 use borrow.Author.Needs.{needs}
 use Rattle.form.proofs.settle.Statement.{statement}
 use Rattle.form.proofs.settle.Tie as tie
-use Prim.Native.Nat.{ℕ, _+_, _*_, _-_, _<_, _≤_}
-use mathlib.Core.Path.{_≡_, refl, sym, ap, subst, _∙_}
-use mathlib.Core.List.{List}
+use Rattle.form.proofs.settle.Reads as reads
+use Rattle.form.proofs.settle.Lts as lts
 use native.Mathlib.Omega.{arith}
-use lib.ListN.{length, getD, take, drop}
-use Rattle.form.specs.Outcome.{refused}
-use Rattle.form.proofs.Whole.{settled-end, settled-left, settled-fault}
+use Rattle.form.proofs.Whole.{settled-fault, settled-end, settled-left}
 
 pub settle-spec : {M : Type 1} → statement M
 settle-spec =
     tie.close
-    (tie.spec (λ c. search needs) (λ c. search needs) (λ c. search needs) (λ c κs. search needs) (λ c. settled-end (c .before .before .before .before .args .w) (c .before .before .before .before .args .len) (c .before .before .before .before .args .base) (c .before .before .w .given .0 .0) (c .before .before .w .given .0 .1 .0) (c .before .before .w .given .1) (c .if1 .taken)) (λ c. settled-left (c .before .before .before .before .args .w) (c .before .before .before .before .args .len) (c .before .before .before .before .args .base) (c .before .before .w .given .0 .0) (c .before .before .w .given .0 .1 .0) (c .before .before .w .given .1) (c .if1 .left)) (λ c. ap refused (c .number .ensures) ∙ settled-fault (c .before .before .before .before .args .w) (c .before .before .before .before .args .len) (c .before .before .before .before .args .base) (c .before .before .w2 .given .0 .0) (c .before .before .w2 .given .1)))
+    (tie.spec
+    (λ c. omega (arith, c .before .pre .1 (c .if1 .taken)))
+    (λ c. omega (arith, c .before .pre .1 (c .if1 .taken)))
+    (λ c.
+    settled-fault (c .before .args .len) (c .before .args .base) (c .before .args .size)
+    (c .before .args .told) (c .if1 .taken))
+    (λ c.
+    let args = c .before .before .args in
+    settled-end (args .len) (args .base) (args .size) (args .told) (c .before .if1 .left)
+    (c .if2 .taken))
+    (λ c. search needs)
+    (λ c.
+    let args = c .before .before .args in
+    settled-left (args .len) (args .base) (args .size) (args .told) (c .before .if1 .left)
+    (c .if2 .left)))

@@ -1,10 +1,9 @@
--- `form::simple_at` meets its contract.
+-- `form::simple_at` meets its contract: 1 where the command is that of a simple type, 0 where the level, the byte or
+-- such a command is missing.
 -- Assumes nothing.
 use native.Mathlib.Omega.{arith}
 use borrow.Author.Needs.{needs}
-use Rattle.form.proofs.Commands.{kind-simple}
-use Rattle.form.proofs.Runs.{first-at}
-use Rattle.form.proofs.TypeLaws.{short-simple}
+use Rattle.form.proofs.Leaves.{simple-none, simple-some}
 use Rattle.form.proofs.simple_at.Statement.{statement}
 use Rattle.form.proofs.simple_at.Tie as tie
 
@@ -12,9 +11,19 @@ pub simple-at-spec : {M : Type 1} → statement M
 simple-at-spec =
     tie.close
     (tie.spec
-    (λ c q. absurd (omega (arith, q)))
-    (λ c q. absurd (omega (arith, q)))
+    (λ c.
+    let a = c .before .args in
+    simple-none (a .left) (a .s .now) (a .at) (λ p h x y. omega arith))
+    (λ c.
+    let a = c .before .before .args in
+    simple-none (a .left) (a .s .now) (a .at) (λ p h x y. omega arith))
     (λ c. search needs)
-    (λ c. let a = c .before .before .before .before .before .args in let f = first-at (a .s .now) (a .at) in short-simple (a .left) (a .s .now) (a .at) (omega arith) (omega arith) (kind-simple _ (omega (arith, f)) (omega (arith, f))))
-    (λ c q. absurd (omega (arith, q)))
-    (λ c q. absurd (omega (arith, q))))
+    (λ c.
+    let a = c .before .before .before .before .before .args in
+    simple-some (a .left) (a .s .now) (a .at) (omega arith) (omega arith) (omega arith) (omega arith))
+    (λ c.
+    let a = c .before .before .before .before .args in
+    simple-none (a .left) (a .s .now) (a .at) (λ p h x y. omega arith))
+    (λ c.
+    let a = c .before .before .before .before .before .args in
+    simple-none (a .left) (a .s .now) (a .at) (λ p h x y. omega arith)))

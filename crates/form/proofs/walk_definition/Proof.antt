@@ -1,27 +1,113 @@
--- `form::walk_definition` meets its contract.
+-- A definition: the result type, then one loop over names and types, whose turns cite the laws in Loops.
 -- Assumes nothing.
-use borrow.Author.Needs.{needs}
 use Rattle.form.proofs.walk_definition.Statement.{statement}
 use Rattle.form.proofs.walk_definition.Tie as tie
-use Prim.Native.Nat.{ℕ, _+_, _*_, _-_, _<_, _≤_}
-use mathlib.Core.Path.{_≡_, refl, sym, ap, subst, _∙_}
-use mathlib.Core.List.{List}
+use Rattle.form.proofs.walk_definition.Reads as reads
+use Rattle.form.proofs.walk_definition.Lts as lts
+use Rattle.form.proofs.end.Reads as end-reads
+use Rattle.form.proofs.fault.Reads as fault-reads
+use Rattle.form.proofs.larger.Reads as larger-reads
+use Rattle.form.proofs.walk_type.Reads as walk-type-reads
+use borrow.Author.Needs.{needs}
 use native.Mathlib.Omega.{arith}
+use mathlib.Core.Path.{_≡_, refl, sym, ap, _∙_}
+use mathlib.Core.List.{List}
 use lib.ListN.{length, getD, take, drop}
+use Prim.Native.Nat.{ℕ, _+_, _-_, _<_, _≤_}
+use Rattle.form.specs.Limits.{nameWidth}
 use Rattle.form.specs.Trees.{no-parameters, parameter}
-use Rattle.form.specs.Form.{level, levelParams}
+use Rattle.form.specs.Form.{numAt, level, levelParams}
 use Rattle.form.specs.Read.{readT, readNamed, anyOrder}
-use Rattle.form.specs.Walks.{Inside}
-use Rattle.form.specs.declared.Walk.{Walk}
-use Rattle.form.proofs.Runs.{pair-end, pair-fault}
+use Rattle.form.specs.Walks.{walkOf, pairWalk, up}
+use Rattle.form.proofs.Runs.{RunInv, run-start, pair-end, pair-fault}
+use Rattle.form.proofs.Told.{told-end, told-fault}
+use Rattle.form.proofs.Loops.{fits, names-end, names-none, names-walk, names-fault}
+use Rattle.form.proofs.ValueLaws.{params-law, params-flat}
+
+abbrev Inv-loop : tie.InvT-loop
+Inv-loop s count left told₀ at₀ deep₀ i₀ told at deep i =
+    RunInv levelParams
+    (pairWalk level levelParams s (readNamed no-parameters parameter anyOrder (readT left) count 0)
+    (readT left s))
+    (λ (n : ℕ). readNamed no-parameters parameter anyOrder (readT left) n 0)
+    s count at deep i
+
+abbrev μ-loop : tie.MeasureT-loop
+μ-loop s count left told₀ at₀ deep₀ i₀ told at deep i = count - i
 
 pub walk-definition-spec : {M : Type 1} → statement M
 walk-definition-spec =
     tie.close
-    (tie.spec
+    (tie.spec Inv-loop μ-loop
+    (λ c κs. search needs)
+    (λ c.
+    let args = c .before .before .before .before .args in
+    let readNamed1 = readNamed no-parameters parameter anyOrder (readT (args .left)) (args .count) 0 in
+    let s-now = args .s .now in
+    let x1 = (readT (args .left)) s-now in
+    told-fault (walkOf level x1) (up 4 (pairWalk level levelParams s-now readNamed1 x1)) (length s-now)
+    (length s-now + 4) (c .before .walk-type .result) (c .before .walk-type .last .1 .1 .0)
+    (c .before .walk-type .ensures) (c .if1 .taken)
+    (λ f e. sym (ap (up 4) (pair-fault level levelParams s-now readNamed1 f x1 e))))
+    (λ c.
+    let c2 = c .before .before in
+    let args = c2 .before .before .before .args in
+    let x1 = (readT (args .left)) (args .s .now) in
+    let e = told-end (walkOf level x1) (length (args .s .now)) (c2 .walk-type .result)
+    (c2 .walk-type .last .1 .1 .0) (c2 .walk-type .ensures) (omega arith) in
+    rw
+    (pair-end level levelParams (args .s .now)
+    (readNamed no-parameters parameter anyOrder (readT (args .left)) (args .count) 0)
+    (c2 .walk-type .result) (c2 .walk-type .last .1 .1 .0) x1 (e .0))
+    (run-start levelParams
+    (λ (n : ℕ). readNamed no-parameters parameter anyOrder (readT (args .left)) n 0)
+    (args .s .now) (args .count) (c2 .walk-type .result) (c2 .walk-type .last .1 .1 .0) (e .1 .0)
+    (e .1 .1)))
+    (λ c. omega (arith, c .before .loop .inv))
+    (λ c κs. search needs)
+    (λ c.
+    let c3 = c .before .before .before in
+    names-none level levelParams no-parameters parameter anyOrder params-law params-flat
+    (readT (c3 .before .before .before .before .before .before .before .args .left)) 0
+    (c3 .before .loop .inv) 4 _ _ _ (c3 .loop-test .taken) (c .before .before .if2 .taken)
+    (c .fault .ensures .0) (c .fault .ensures .1))
+    (λ c. search needs)
+    (λ c. search needs)
+    (λ c. search needs)
+    (λ c. search needs)
+    (λ c κs. search needs)
+    (λ c.
+    let c4 = c .before .before .before .before in
+    let c5 = c4 .before in
+    let args = c5 .before .before .before .before .before .before .before .args in
+    names-fault level levelParams no-parameters parameter anyOrder params-law params-flat
+    (readT (args .left)) 0 (c5 .before .loop .inv)
+    (numAt nameWidth (c5 .before .loop .at) (args .s .now)) refl (c4 .if2 .left) (c5 .loop-test .taken)
+    (omega arith) (c .before .walk-type2 .result) _ 4 _ (c .before .walk-type2 .ensures) (c .if3 .taken))
+    (λ c.
+    let c6 = c .before .before .before .before .before .before in
+    let args = c6 .before .before .before .before .before .before .args in
+    let q = fits level (readT (args .left)) (args .s .now) (c6 .loop .at + nameWidth)
+    (c .before .walk-type2 .result) _ (c .before .walk-type2 .ensures) (c .if3 .left) in
+    omega (arith, c6 .loop .inv))
     (λ c κs. search needs)
     (λ c. search needs)
-    (λ c κs. subst (λ (w : Walk). Inside w (length (c .before .before .before .before .before .args .s .now))) (c .before .size .given .1) (c .before .before .before .walk-type .ensures .1))
-    (λ c. search needs)
-    (λ c. (c .walk-parameters .ensures .0 ∙ sym (pair-end level levelParams (c .before .before .before .before .before .before .args .s .now) (readNamed no-parameters parameter anyOrder (readT (c .before .before .before .before .before .before .args .left)) (c .before .before .before .before .before .before .args .count) 0) (c .before .before .size .given .0 .0) (c .before .before .size .given .0 .1 .0) (readT (c .before .before .before .before .before .before .args .left) (c .before .before .before .before .before .before .args .s .now)) (sym (c .before .before .before .before .walk-type .ensures .0) ∙ c .before .before .size .given .1)), c .walk-parameters .ensures .1))
-    (λ c. (sym (pair-fault level levelParams (c .before .before .before .before .before .args .s .now) (readNamed no-parameters parameter anyOrder (readT (c .before .before .before .before .before .args .left)) (c .before .before .before .before .before .args .count) 0) (c .before .f .given .0 .0) (readT (c .before .before .before .before .before .args .left) (c .before .before .before .before .before .args .s .now)) (sym (c .before .before .before .walk-type .ensures .0) ∙ c .before .f .given .1)), tt)))
+    (λ c. omega arith)
+    (λ c.
+    let c3 = c .before .before .before in
+    let c6 = c3 .before .before .before in
+    let c8 = c6 .before .before in
+    let args = c8 .before .before .before .before .before .before .args in
+    names-walk level levelParams no-parameters parameter anyOrder params-law params-flat
+    (readT (args .left)) 0 (c8 .loop .inv) (numAt nameWidth (c8 .loop .at) (args .s .now)) refl
+    (c6 .if2 .left) (c6 .before .loop-test .taken) (omega arith) (c3 .walk-type2 .result)
+    (c3 .walk-type2 .last .1 .1 .0) (c .larger .result) (c3 .walk-type2 .ensures)
+    (c .before .before .if3 .left) (c .larger .ensures))
+    (λ c. omega (arith, c .before .loop .inv))
+    (λ c. omega (arith, c .before .loop .inv))
+    (λ c κs. search needs)
+    (λ c.
+    names-end level levelParams no-parameters parameter anyOrder params-law params-flat
+    (readT (c .before .before .before .before .before .before .before .before .before .args .left)) 0
+    (c .before .before .before .loop .inv) 4 _ _ (c .before .before .loop-test .left) (omega arith)
+    (c .end .ensures .0) (c .end .ensures .1)))

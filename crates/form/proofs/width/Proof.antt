@@ -15,7 +15,10 @@ use Rattle.form.proofs.width.Statement.{statement}
 use Rattle.form.proofs.width.Tie as tie
 
 table : List ℕ
-table = 1 ∷ 1 ∷ 8 ∷ 2 ∷ 8 ∷ 8 ∷ 8 ∷ 8 ∷ 8 ∷ 2 ∷ 2 ∷ 2 ∷ 3 ∷ 1 ∷ 0 ∷ 0 ∷ 255 ∷ 255 ∷ 255 ∷ 255 ∷ 255 ∷ 255 ∷ 255 ∷ 255 ∷ 255 ∷ 255 ∷ 255 ∷ 255 ∷ 255 ∷ 255 ∷ 255 ∷ 255 ∷ 0 ∷ 0 ∷ 0 ∷ 0 ∷ 0 ∷ 0 ∷ 0 ∷ 0 ∷ 0 ∷ 0 ∷ 0 ∷ 0 ∷ 2 ∷ 1 ∷ []
+table =
+    1 ∷ 1 ∷ 8 ∷ 2 ∷ 8 ∷ 8 ∷ 8 ∷ 8 ∷ 8 ∷ 2 ∷ 2 ∷ 2 ∷ 3 ∷ 1 ∷ 0 ∷ 0 ∷ 255 ∷ 255 ∷ 255 ∷ 255 ∷ 255 ∷ 255
+    ∷ 255 ∷ 255 ∷ 255 ∷ 255 ∷ 255 ∷ 255 ∷ 255 ∷ 255 ∷ 255 ∷ 255 ∷ 0 ∷ 0 ∷ 0 ∷ 0 ∷ 0 ∷ 0 ∷ 0 ∷ 0 ∷ 0 ∷ 0
+    ∷ 0 ∷ 0 ∷ 2 ∷ 1 ∷ []
 
 right : ℕ → ℕ → Bool
 right k x = eqb x (widthOf k)
@@ -28,11 +31,16 @@ array-read-result c = search needs
 
 cast-result : tie.Need-cast-result
 unfolding table small
-cast-result c = let h : getD table (c .before .args .c) 0 < 256 = ltb→lt _ 256 (at small table tt (c .before .args .c) (omega arith)) in omega arith
+cast-result c =
+    let h : getD table (c .before .args .c) 0 < 256 =
+    ltb→lt _ 256 (at small table tt (c .before .args .c) (omega arith)) in
+    omega arith
 
 returns : tie.Need-returns
 unfolding table right widthOf kindOf operands operandsV operandsT
-returns c = eqb→eq (getD table (c .before .args .c) 0) (widthOf (c .before .args .c)) (at right table tt (c .before .args .c) (omega arith))
+returns c =
+    eqb→eq (getD table (c .before .args .c) 0) (widthOf (c .before .args .c))
+    (at right table tt (c .before .args .c) (omega arith))
 
 returns-2 : tie.Need-returns-2
 returns-2 c = sym (width-beyond (c .before .args .c) (omega arith))

@@ -10,4 +10,11 @@ use Rattle.form.proofs.Numbers.{word-is}
 pub word-at-spec : {M : Type 1} → statement M
 word-at-spec =
     tie.close
-    (tie.spec (λ c. search needs) (λ c. search needs) (λ c. search needs) (λ c κs. search needs) (λ c. (c .word .ensures .0 ∙ sym (word-is (c .before .before .before .before .args .s .now) (c .before .before .before .before .args .at) (omega arith)), c .word .ensures .1)))
+    (tie.spec
+    (λ c. search needs)
+    (λ c. search needs)
+    (λ c. search needs)
+    (λ c κs. search needs)
+    (λ c.
+    let args = c .before .before .before .before .args in
+    (c .word .ensures .0 ∙ sym (word-is (args .s .now) (args .at) (omega arith)), c .word .ensures .1)))

@@ -19,7 +19,12 @@ build-spec =
     (λ c. search needs)
     (λ c. search needs)
     (λ c. search needs)
-    (λ c κs. (c .before .before .before .before .before .before .before .pre, build-long (c .before .before .before .before .before .before .before .args .least) (c .before .before .before .before .before .before .before .args .v .now) (length (c .before .before .before .before .before .before .before .args .scratch .now)) (c .before .before .before .before .before .before .before .args .out .now) (c .before .before .before .before .before .before .before .pre)))
+    (λ c κs.
+    let c7 = c .before .before .before .before .before .before .before in (
+      c7 .pre,
+      build-long (c7 .args .least) (c7 .args .v .now) (length (c7 .args .scratch .now))
+          (c7 .args .out .now) (c7 .pre),
+    ))
     (λ c. search needs)
     (λ c. search needs)
     (λ c. search needs))

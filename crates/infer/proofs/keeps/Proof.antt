@@ -1,4 +1,4 @@
--- `infer::keeps` meets its contract.
+-- Equal types have equal bytes; otherwise the pass over both types says whether the second conforms to the first.
 -- Assumes nothing.
 use borrow.Author.Needs.{needs}
 use Rattle.infer.proofs.keeps.Statement.{statement}
@@ -12,24 +12,109 @@ use mathlib.Core.Path.{sym}
 use Rattle.form.proofs.Numbers.{take-length}
 use Rattle.form.proofs.Whole.{bytes-of}
 use Rattle.form.proofs.Exact.{bytes-drop}
-use Rattle.infer.proofs.Joining.{both-inside, kept-equal, ok-second, ok-first, kept-conforms, kept-not}
+use Rattle.infer.proofs.Joining.{both-inside, kept-equal, kept-conforms, kept-not}
+
+-- src/lib.rt:141:17
+add-p : tie.Need-add-p
+add-p c =
+    omega (
+      arith,
+      let c2 = c .before .before in
+          both-inside (c2 .args .s .now) (c2 .args .n) (c2 .args .m) _ (c2 .pre),
+    )
+
+-- src/lib.rt:142:28
+slice-aggregate-same : tie.Need-slice-aggregate-same
+slice-aggregate-same c =
+    let c3 = c .before .before .before in
+    sym
+    (take-length (c3 .args .n) (c3 .args .s .now)
+    (omega (arith, both-inside (c3 .args .s .now) (c3 .args .n) (c3 .args .m) _ (c3 .pre))))
+
+-- src/lib.rt:142:37
+sub-same : tie.Need-sub-same
+sub-same c = search needs
+
+-- src/lib.rt:142:37
+part-same-start : tie.Need-part-same-start
+part-same-start c = search needs
+
+-- src/lib.rt:142:37
+part-same-end : tie.Need-part-same-end
+part-same-end c =
+    let c3 = c .before .before .before in
+    both-inside (c3 .args .s .now) (c3 .args .n) (c3 .args .m) _ (c3 .pre)
+
+-- src/lib.rt:142:9
+same-requires : tie.Need-same-requires
+same-requires c κs = search needs
+
+-- src/lib.rt:142:9
+returns : tie.Need-returns
+returns c =
+    let c4 = c .before .before .before .before in
+    let args = c4 .before .args in
+    let bytes-of1 = bytes-of (args .s .now) (c4 .shared-slice-known .given) in
+    kept-equal (args .s .now) (args .n) (args .m) _ (c4 .before .pre) bytes-of1
+    (bytes-drop (args .n) (args .s .now) bytes-of1) _ _ (c .before .before .before .if1 .taken)
+    (c .same .ensures)
+
+-- src/lib.rt:145:24
+sub-conforms : tie.Need-sub-conforms
+sub-conforms c =
+    omega (
+      arith,
+      let c2 = c .before .before in
+          both-inside (c2 .args .s .now) (c2 .args .n) (c2 .args .m) _ (c2 .pre),
+    )
+
+-- src/lib.rt:145:24
+part-conforms-start : tie.Need-part-conforms-start
+part-conforms-start c =
+    omega (
+      arith,
+      let c2 = c .before .before in
+          both-inside (c2 .args .s .now) (c2 .args .n) (c2 .args .m) _ (c2 .pre),
+    )
+
+-- src/lib.rt:145:24
+part-conforms-end : tie.Need-part-conforms-end
+part-conforms-end c = search needs
+
+-- src/lib.rt:145:8
+conforms-requires : tie.Need-conforms-requires
+conforms-requires c κs = search needs
+
+-- src/lib.rt:146:9
+returns-2 : tie.Need-returns-2
+returns-2 c =
+    let c4 = c .before .before .before .before in
+    let c6 = c4 .before .before in
+    kept-not (c6 .args .s .now) (c6 .args .n) (c6 .args .m) _ (c6 .pre) _ (c4 .if1 .left)
+    (c .before .conforms .result) _ (c .before .conforms .ensures) (c .if2 .taken)
+
+-- src/lib.rt:136:1
+returns-3 : tie.Need-returns-3
+returns-3 c =
+    let c4 = c .before .before .before .before in
+    let c6 = c4 .before .before in
+    kept-conforms (c6 .args .s .now) (c6 .args .n) (c6 .args .m) _ (c6 .pre) _ (c4 .if1 .left)
+    (c .before .conforms .result) _ (c .before .conforms .ensures) (c .if2 .left)
 
 pub keeps-spec : {M : Type 1} → statement M
 keeps-spec =
     tie.close
     (tie.spec
-    (λ c. omega (arith, both-inside (c .before .before .args .s .now) (c .before .before .args .n) (c .before .before .args .m) _ (c .before .before .pre)))
-    (λ c. sym (take-length (c .before .before .before .args .n) (c .before .before .before .args .s .now) (omega (arith, both-inside (c .before .before .before .args .s .now) (c .before .before .before .args .n) (c .before .before .before .args .m) _ (c .before .before .before .pre)))))
-    (λ c. search needs)
-    (λ c. search needs)
-    (λ c. both-inside (c .before .before .before .args .s .now) (c .before .before .before .args .n) (c .before .before .before .args .m) _ (c .before .before .before .pre))
-    (λ c κs. search needs)
-    (λ c. kept-equal (c .before .before .before .before .before .args .s .now) (c .before .before .before .before .before .args .n) (c .before .before .before .before .before .args .m) _ (c .before .before .before .before .before .pre) (bytes-of (c .before .before .before .before .before .args .s .now) (c .before .before .before .before .shared-slice-known .given)) (bytes-drop (c .before .before .before .before .before .args .n) (c .before .before .before .before .before .args .s .now) (bytes-of (c .before .before .before .before .before .args .s .now) (c .before .before .before .before .shared-slice-known .given))) _ _ (c .before .before .before .if1 .taken) (c .same .ensures))
-    (λ c. omega (arith, both-inside (c .before .before .args .s .now) (c .before .before .args .n) (c .before .before .args .m) _ (c .before .before .pre)))
-    (λ c. omega (arith, both-inside (c .before .before .args .s .now) (c .before .before .args .n) (c .before .before .args .m) _ (c .before .before .pre)))
-    (λ c. search needs)
-    (λ c κs. (ok-second (c .before .before .before .args .s .now) (c .before .before .before .args .n) (c .before .before .before .args .m) _ (c .before .before .before .pre), ok-first (c .before .before .before .args .s .now) (c .before .before .before .args .n) (c .before .before .before .args .m) _ (c .before .before .before .pre)))
-    (λ c. search needs)
-    (λ c. search needs)
-    (λ c. kept-conforms (c .before .before .before .before .before .before .args .s .now) (c .before .before .before .before .before .before .args .n) (c .before .before .before .before .before .before .args .m) _ (c .before .before .before .before .before .before .pre) _ (c .before .before .before .before .if1 .left) _ _ _ (c .enum-told .given .1) (c .before .before .conforms .ensures))
-    (λ c. kept-not (c .before .before .before .before .before .before .args .s .now) (c .before .before .before .before .before .before .args .n) (c .before .before .before .before .before .before .args .m) _ (c .before .before .before .before .before .before .pre) _ (c .before .before .before .before .if1 .left) _ (c .enum-told2 .given .1) (c .before .before .conforms .ensures)))
+    add-p
+    slice-aggregate-same
+    sub-same
+    part-same-start
+    part-same-end
+    same-requires
+    returns
+    sub-conforms
+    part-conforms-start
+    part-conforms-end
+    conforms-requires
+    returns-2
+    returns-3)

@@ -1,4 +1,4 @@
--- `infer::leaf` meets its contract.
+-- `infer::leaf` meets its contract: each arm has the size of its command, and every command from 1 to 8 has an arm.
 -- Assumes nothing.
 use borrow.Author.Needs.{needs}
 use Rattle.infer.proofs.leaf.Statement.{statement}
@@ -14,9 +14,9 @@ leaf-spec =
     (tie.spec
     (λ c. search needs)
     (λ c. search needs)
-    (λ c h. plain-boolean _ (c .match .keys1))
-    (λ c h. plain-number _ (c .match .keys2))
-    (λ c h. plain-string _ (c .match .keys3))
-    (λ c h. plain-temporal _ (omega arith) (omega arith))
-    (λ c. search needs)
-    (λ c. search needs))
+    (λ c. (λ h. plain-boolean _ (c .match .keys1), λ z p. omega arith))
+    (λ c. (λ h. plain-number _ (c .match .keys2), λ z p. omega arith))
+    (λ c. (λ h. plain-string _ (c .match .keys3), λ z p. omega arith))
+    (λ c. (λ h. plain-temporal _ (omega arith) (omega arith), λ z p. omega arith))
+    (λ c. (λ h. absurd (omega arith), λ z p. omega arith))
+    (λ c. (λ h. absurd (omega arith), λ z p. omega arith)))

@@ -22,12 +22,44 @@ least-type-spec =
     (λ c κs. search needs)
     (λ c. search needs)
     (λ c. search needs)
-    (λ c κs. fine-ok (fine (c .before .before .before .before .before .before .args .v .now) _ (c .before .before .check-value .ensures .1) (sym (c .before .before .check-value .ensures .0) ∙ ap checked (c .enum-told .given .1))))
+    (λ c κs.
+    fine-ok
+    (fine (c .before .before .before .before .before .before .args .v .now) _
+    (c .before .before .check-value .ensures .1)
+    (sym (c .before .before .check-value .ensures .0) ∙ ap checked (c .enum-told .given .1))))
     (λ c. search needs)
     (λ c. search needs)
-    (λ c κs. ask true (c .before .before .before .before .before .before .before .before .before .before .before .args .v .now) (fine (c .before .before .before .before .before .before .before .before .before .before .before .args .v .now) _ (c .before .before .before .before .before .before .before .check-value .ensures .1) (sym (c .before .before .before .before .before .before .before .check-value .ensures .0) ∙ ap checked (c .before .before .before .before .before .enum-told .given .1))) (c .before .before .before .before .before .before .before .check-value .ensures .1) (λ _. is-data (c .before .before .before .before .before .before .before .before .before .before .before .args .v .now) (fine (c .before .before .before .before .before .before .before .before .before .before .before .args .v .now) _ (c .before .before .before .before .before .before .before .check-value .ensures .1) (sym (c .before .before .before .before .before .before .before .check-value .ensures .0) ∙ ap checked (c .before .before .before .before .before .enum-told .given .1))) _ (c .before .before .before .before .is-data .ensures) _ (c .before .before .enum-told3 .given .1)))
-    (λ c. least-refused (c .before .before .before .before .before .before .before .args .v .now) _ _ (c .before .before .before .before .before .before .before .args .out .now) (value-refused (c .before .before .before .before .before .before .before .args .v .now) _ _ (c .before .n .given .1) (c .before .before .before .check-value .ensures .0)))
-    (λ c. least-other (c .before .before .before .before .before .before .before .before .before .args .v .now) (fine (c .before .before .before .before .before .before .before .before .before .args .v .now) _ (c .before .before .before .before .before .check-value .ensures .1) (sym (c .before .before .before .before .before .check-value .ensures .0) ∙ ap checked (c .before .before .before .enum-told .given .1))) _ (c .before .before .is-data .ensures) (c .enum-told2 .given .1) _ (c .before .before .before .before .before .before .before .before .before .args .out .now))
+    (λ c κs.
+    let c4 = c .before .before .before .before in
+    let c7 = c4 .before .before .before in
+    let v-now = c7 .before .before .before .before .args .v .now in
+    let x1 = sym (c7 .check-value .ensures .0) ∙ ap checked (c4 .before .enum-told .given .1) in
+    ask true v-now (fine v-now _ (c7 .check-value .ensures .1) x1) (c7 .check-value .ensures .1)
+    (λ _.
+    is-data v-now (fine v-now _ (c7 .check-value .ensures .1) x1) _ (c4 .is-data .ensures) _
+    (c .before .before .enum-told3 .given .1)))
+    (λ c.
+    let args = c .before .before .before .before .before .before .before .args in
+    least-refused (args .v .now) _ _ (args .out .now)
+    (value-refused (args .v .now) _ _ (c .before .n .given .1)
+    (c .before .before .before .check-value .ensures .0)))
+    (λ c.
+    let c5 = c .before .before .before .before .before in
+    let args = c5 .before .before .before .before .args in
+    least-other (args .v .now)
+    (fine (args .v .now) _ (c5 .check-value .ensures .1)
+    (sym (c5 .check-value .ensures .0) ∙ ap checked (c .before .before .before .enum-told .given .1)))
+    _ (c .before .before .is-data .ensures) (c .enum-told2 .given .1) _ (args .out .now))
     (λ c. search needs)
     (λ c. search needs)
-    (λ c. least-done (c .before .before .before .before .before .before .before .before .before .before .before .before .before .before .before .before .args .v .now) (fine (c .before .before .before .before .before .before .before .before .before .before .before .before .before .before .before .before .args .v .now) _ (c .before .before .before .before .before .before .before .before .before .before .before .before .check-value .ensures .1) (sym (c .before .before .before .before .before .before .before .before .before .before .before .before .check-value .ensures .0) ∙ ap checked (c .before .before .before .before .before .before .before .before .before .before .enum-told .given .1))) (is-data (c .before .before .before .before .before .before .before .before .before .before .before .before .before .before .before .before .args .v .now) (fine (c .before .before .before .before .before .before .before .before .before .before .before .before .before .before .before .before .args .v .now) _ (c .before .before .before .before .before .before .before .before .before .before .before .before .check-value .ensures .1) (sym (c .before .before .before .before .before .before .before .before .before .before .before .before .check-value .ensures .0) ∙ ap checked (c .before .before .before .before .before .before .before .before .before .before .enum-told .given .1))) _ (c .before .before .before .before .before .before .before .before .before .is-data .ensures) _ (c .before .before .before .before .before .before .before .enum-told3 .given .1)) _ (c .before .before .before .before .before .before .before .before .before .before .before .before .before .before .before .before .args .out .now) _ _ (c .before .before .before .before .build .ensures)))
+    (λ c.
+    let c4 = c .before .before .before .before in
+    let c9 = c4 .before .before .before .before .before in
+    let c12 = c9 .before .before .before in
+    let args = c12 .before .before .before .before .args in
+    let fine1 = fine (args .v .now) _ (c12 .check-value .ensures .1)
+    (sym (c12 .check-value .ensures .0) ∙ ap checked (c9 .before .enum-told .given .1)) in
+    least-done (args .v .now) fine1
+    (is-data (args .v .now) fine1 _ (c9 .is-data .ensures) _
+    (c4 .before .before .before .enum-told3 .given .1))
+    _ (args .out .now) _ _ (c4 .build .ensures)))

@@ -21,8 +21,22 @@ type-of-spec =
     (λ c κs. search needs)
     (λ c. search needs)
     (λ c. search needs)
-    (λ c κs. ask false (c .before .before .before .before .before .before .before .before .args .v .now) (fine (c .before .before .before .before .before .before .before .before .args .v .now) _ (c .before .before .before .before .check-value .ensures .1) (sym (c .before .before .before .before .check-value .ensures .0) ∙ ap checked (c .before .before .enum-told .given .1))) (c .before .before .before .before .check-value .ensures .1) (λ h. absurd (true≢false (sym h))))
-    (λ c. type-refused (c .before .before .before .before .before .before .before .args .v .now) _ _ (c .before .before .before .before .before .before .before .args .out .now) (value-refused (c .before .before .before .before .before .before .before .args .v .now) _ _ (c .before .n .given .1) (c .before .before .before .check-value .ensures .0)))
+    (λ c κs.
+    let c4 = c .before .before .before .before in
+    let v = c4 .before .before .before .before .args .v in
+    ask false (v .now)
+    (fine (v .now) _ (c4 .check-value .ensures .1)
+    (sym (c4 .check-value .ensures .0) ∙ ap checked (c .before .before .enum-told .given .1)))
+    (c4 .check-value .ensures .1)
+    (λ h. absurd (true≢false (sym h))))
+    (λ c.
+    let args = c .before .before .before .before .before .before .before .args in
+    type-refused (args .v .now) _ _ (args .out .now)
+    (value-refused (args .v .now) _ _ (c .before .n .given .1)
+    (c .before .before .before .check-value .ensures .0)))
     (λ c. search needs)
     (λ c. search needs)
-    (λ c. type-done (c .before .before .before .before .before .before .before .before .before .before .before .before .before .args .v .now) _ (c .before .before .before .before .before .before .before .before .before .before .before .before .before .args .out .now) _ _ (c .before .before .before .before .build .ensures)))
+    (λ c.
+    let c4 = c .before .before .before .before in
+    let args = c4 .before .before .before .before .before .before .before .before .before .args in
+    type-done (args .v .now) _ (args .out .now) _ _ (c4 .build .ensures)))

@@ -11,7 +11,8 @@ use native.Mathlib.Omega.{arith}
 use mathlib.Core.Path.{sym}
 use Rattle.form.proofs.Numbers.{take-length}
 use Rattle.form.proofs.Whole.{bytes-of}
-use Rattle.infer.proofs.Signing.{SigInv, sig-start, sig-name, sig-type, sig-to, sig-part, sig-wide, sig-again, sig-result, sig-last, sig-last-room, sig-same, sig-done}
+use Rattle.infer.proofs.Signing.{SigInv, sig-start, sig-name, sig-type, sig-to, sig-part, sig-wide, sig-again, sig-result, sig-last}
+use Rattle.infer.proofs.Signing.{sig-last-room, sig-same, sig-done}
 use borrow.Author.Needs.{needs}
 
 abbrev Inv-loop : tie.InvT-loop
@@ -23,9 +24,7 @@ abbrev μ-loop : tie.MeasureT-loop
 pub write-signature-spec : {M : Type 1} → statement M
 write-signature-spec =
     tie.close
-    (tie.spec
-    Inv-loop
-    μ-loop
+    (tie.spec Inv-loop μ-loop
     (λ c κs. search needs)
     (λ c. sig-start _ _ _ _ _ (c .before .before .before .pre) (c .skip .ensures))
     (λ c. omega (arith, sig-name (c .before .loop .inv) (c .loop-test .taken)))
@@ -33,23 +32,54 @@ write-signature-spec =
     (λ c. sig-name (c .before .loop .inv) (c .loop-test .taken))
     (λ c. search needs)
     (λ c κs. search needs)
-    (λ c. omega (arith, sig-type (c .before .before .before .loop .inv) (c .before .before .loop-test .taken) _ (c .skip2 .ensures)))
+    (λ c.
+    omega (
+      arith,
+      sig-type (c .before .before .before .loop .inv) (c .before .before .loop-test .taken) _
+          (c .skip2 .ensures),
+    ))
     (λ c. search needs)
     (λ c. search needs)
-    (λ c. sig-type (c .before .before .before .loop .inv) (c .before .before .loop-test .taken) _ (c .skip2 .ensures))
+    (λ c.
+    sig-type (c .before .before .before .loop .inv) (c .before .before .loop-test .taken) _
+    (c .skip2 .ensures))
     (λ c. sig-to (c .before .before .before .before .loop .inv))
     (λ c. sig-to (c .before .before .before .before .loop .inv))
     (λ c. search needs)
-    (λ c κs. sig-part (c .before .before .before .before .before .loop .inv) (c .before .before .before .before .loop-test .taken) _ (c .before .before .skip2 .ensures))
-    (λ c. omega (arith, sig-wide (c .before .before .before .before .before .before .before .before .loop .inv) (c .before .before .before .before .before .before .before .loop-test .taken) _ (c .before .before .before .before .before .skip2 .ensures)))
+    (λ c κs.
+    let c4 = c .before .before .before .before in
+    sig-part (c4 .before .loop .inv) (c4 .loop-test .taken) _ (c .before .before .skip2 .ensures))
+    (λ c.
+    omega (
+      arith,
+      let c5 = c .before .before .before .before .before in
+          sig-wide (c5 .before .before .before .loop .inv) (c5 .before .before .loop-test .taken) _
+          (c5 .skip2 .ensures),
+    ))
     (λ c. search needs)
     (λ c. omega (arith, c .before .before .before .before .before .before .before .loop-test .taken))
-    (λ c. sig-again (c .before .before .before .before .before .before .before .before .loop .inv) (c .before .before .before .before .before .before .before .loop-test .taken) _ (c .before .before .before .before .before .skip2 .ensures) (bytes-of (c .before .before .before .before .before .before .before .before .before .before .before .before .args .v .now) (c .before .before .before .before .before .before .before .before .before .before .before .shared-slice-known .given)) _ (c .before .before .copy .ensures))
+    (λ c.
+    let c5 = c .before .before .before .before .before in
+    let c7 = c5 .before .before in
+    sig-again (c7 .before .loop .inv) (c7 .loop-test .taken) _ (c5 .skip2 .ensures)
+    (bytes-of (c7 .before .before .before .before .before .args .v .now)
+    (c7 .before .before .before .before .shared-slice-known .given))
+    _ (c .before .before .copy .ensures))
     (λ c. sym (take-length _ _ (sig-result (c .before .before .loop .inv))))
     (λ c. sig-to (c .before .before .loop .inv))
     (λ c. sig-to (c .before .before .loop .inv))
     (λ c. search needs)
     (λ c κs. sig-last (c .before .before .before .loop .inv))
     (λ c. omega (arith, sig-last-room (c .before .before .before .before .before .before .loop .inv)))
-    (λ c. sig-same (c .before .before .before .before .before .before .loop .inv) (c .before .before .before .before .before .loop-test .left) (bytes-of (c .before .before .before .before .before .before .before .before .before .before .args .v .now) (c .before .before .before .before .before .before .before .before .before .shared-slice-known .given)) _ (c .before .before .copy2 .ensures))
-    (λ c. sig-done (c .before .before .before .before .before .before .loop .inv) (c .before .before .before .before .before .loop-test .left) (bytes-of (c .before .before .before .before .before .before .before .before .before .before .args .v .now) (c .before .before .before .before .before .before .before .before .before .shared-slice-known .given)) _ (c .before .before .copy2 .ensures)))
+    (λ c.
+    let c5 = c .before .before .before .before .before in
+    let c9 = c5 .before .before .before .before in
+    sig-same (c5 .before .loop .inv) (c5 .loop-test .left)
+    (bytes-of (c9 .before .args .v .now) (c9 .shared-slice-known .given)) _
+    (c .before .before .copy2 .ensures))
+    (λ c.
+    let c5 = c .before .before .before .before .before in
+    let c9 = c5 .before .before .before .before in
+    sig-done (c5 .before .loop .inv) (c5 .loop-test .left)
+    (bytes-of (c9 .before .args .v .now) (c9 .shared-slice-known .given)) _
+    (c .before .before .copy2 .ensures)))

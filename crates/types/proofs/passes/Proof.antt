@@ -1,15 +1,64 @@
--- `types::passes` meets its contract.
+-- The pass answers yes exactly where both sizes are the lengths of the two arguments, within the limit.
 -- Assumes nothing.
 use borrow.Author.Needs.{needs}
 use Rattle.types.proofs.passes.Statement.{statement}
 use Rattle.types.proofs.passes.Tie as tie
-use mathlib.Core.Path.{sym}
-use mathlib.Core.Bool.{true≢false}
-use borrow.Author.Tests.{eqb-true}
-use lib.ListN.{length}
-use Prim.Native.Nat.{_/_}
-use Rattle.types.proofs.Passing.{passed-whole}
+use Rattle.types.proofs.passes.Reads as reads
+use Rattle.types.proofs.passes.Lts as lts
+use Rattle.types.proofs.conforms.Reads as conforms-reads
+use Rattle.order.specs.Order.{fixed}
+use Rattle.order.specs.Types.{le}
+use Rattle.types.specs.Calls.{isConformant}
+use Rattle.types.proofs.Asking.{long-first, long-second, apart, over-first, told-whole}
+use Rattle.types.proofs.Calling.{whole-type}
+use native.Mathlib.Omega.{arith}
+
+-- src/lib.rt:239:9
+returns : tie.Need-returns
+unfolding isConformant
+returns c =
+    long-first whole-type whole-type (le fixed) (c .before .before .before .args .a .now)
+    (c .before .before .before .args .b .now) (c .if1 .taken)
+
+-- src/lib.rt:242:9
+returns-2 : tie.Need-returns-2
+unfolding isConformant
+returns-2 c =
+    let args = c .before .before .before .before .args in
+    long-second whole-type whole-type (le fixed) (args .a .now) (args .b .now) (c .if2 .taken)
+
+-- src/lib.rt:245:9
+conforms-requires : tie.Need-conforms-requires
+conforms-requires c κs = search needs
+
+-- src/lib.rt:247:9
+returns-3 : tie.Need-returns-3
+unfolding isConformant
+returns-3 c =
+    let args = c .before .before .before .before .before .before .before .args in
+    apart whole-type whole-type (le fixed) (args .a .now) (args .b .now) (c .before .conforms .result)
+    (c .before .conforms .last .1 .1 .1 .0) (c .before .conforms .ensures) (c .if3 .taken)
+
+-- src/lib.rt:250:9
+returns-4 : tie.Need-returns-4
+unfolding isConformant
+returns-4 c =
+    let c2 = c .before .before in
+    let args = c2 .before .before .before .before .before .before .args in
+    over-first whole-type whole-type (le fixed) (args .a .now) (args .b .now) (c2 .conforms .result)
+    (c2 .conforms .last .1 .1 .1 .0) (c2 .conforms .ensures) (c .before .if3 .left) (c .if4 .taken)
+
+-- src/lib.rt:235:1
+returns-5 : tie.Need-returns-5
+unfolding isConformant
+returns-5 c =
+    let c2 = c .before .before in
+    let c4 = c2 .before .before in
+    let args = c4 .before .before .before .before .args in
+    told-whole whole-type whole-type (le fixed) (args .a .now) (args .b .now) (c2 .conforms .result)
+    (c2 .conforms .last .1 .1 .1 .0) (c2 .conforms .ensures) (c .before .if3 .left) (c .if4 .left)
+    (c4 .before .if1 .left) (c4 .if2 .left)
 
 pub passes-spec : {M : Type 1} → statement M
 passes-spec =
-    tie.close (tie.spec (λ c. λ q. absurd (true≢false (sym q))) (λ c. λ q. absurd (true≢false (sym q))) (λ c κs. search needs) (λ c. λ q. absurd (true≢false (sym q))) (λ c. λ q. absurd (true≢false (sym q))) (λ c. λ q. passed-whole (c .before .before .before .before .before .before .before .args .a .now) (c .before .before .before .before .before .before .before .args .b .now) (c .before .before .pass-both .result) (c .before .before .pass-both .ensures) (c .before .if3 .left) (c .if4 .left) (eqb-true (c .before .before .pass-both .result / 65536) (length (c .before .before .before .before .before .before .before .args .b .now)) q) (c .before .before .before .before .if1 .left) (c .before .before .before .if2 .left)))
+    tie.close (tie.spec returns returns-2 conforms-requires returns-3 returns-4 returns-5)

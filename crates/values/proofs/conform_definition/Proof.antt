@@ -1,21 +1,199 @@
--- `values::conform_definition` meets its contract.
+-- A definition that was read, parameter by parameter and then result by result, against what is left of the function type.
 -- Assumes nothing.
 use Rattle.values.proofs.conform_definition.Statement.{statement}
 use Rattle.values.proofs.conform_definition.Tie as tie
-use Prim.Native.Nat.{_-_}
-use borrow.Author.Needs.{needs}
+use Rattle.values.proofs.conform_definition.Reads as reads
+use Rattle.values.proofs.conform_definition.Lts as lts
+use Rattle.types.proofs.conforms.Reads as conforms-reads
+use Rattle.types.proofs.skip.Reads as skip-reads
+use Prim.Native.Nat.{_+_, _-_}
 use native.Mathlib.Omega.{arith}
+use mathlib.Core.Path.{refl}
+use Rattle.form.specs.Limits.{nameWidth}
+use Rattle.order.specs.Order.{fixed}
+use Rattle.order.specs.Types.{le}
 use Rattle.types.specs.At.{sigAt}
-use Rattle.types.proofs.InStep.{param-ok}
+use Rattle.types.proofs.Names.{readable-type}
+use Rattle.types.proofs.Pairs.{pair}
 use Rattle.values.specs.At.{definitionAt}
 use Rattle.values.specs.Held.{heldDefinition}
-use Rattle.values.proofs.InStep.{DefinitionInv, definition-start, own, own-ok, target, param-no, param-fits, param-turn, last-ok, result-fits, result-yes, result-no}
+use Rattle.values.proofs.Definitions.{DefinitionGo, definition-start, name-there, param-apart, param-fits, param-turn, result-apart}
+use Rattle.values.proofs.Definitions.{result-fits, result-yes}
+use borrow.Author.Needs.{needs}
 
 abbrev Inv-loop : tie.InvT-loop
-Inv-loop v t count left at₀ bt₀ i₀ at bt i = DefinitionInv left (heldDefinition (definitionAt left count v) (sigAt left count t)) v t count at bt i
+Inv-loop v t count left other₀ at₀ bt₀ i₀ other at bt i =
+    DefinitionGo (left - 1) left (heldDefinition (definitionAt (left - 1) count v) (sigAt left count t))
+    v t count at bt i
 
 abbrev μ-loop : tie.MeasureT-loop
-μ-loop v t count left at₀ bt₀ i₀ at bt i = count - i
+μ-loop v t count left other₀ at₀ bt₀ i₀ other at bt i = count - i
+
+-- src/lib.rt:279:9
+skip-requires : tie.Need-skip-requires Inv-loop μ-loop
+skip-requires c κs = search needs
+
+-- src/lib.rt:282:5
+loop-holds : tie.Need-loop-holds Inv-loop μ-loop
+loop-holds c =
+    let c3 = c .before .before .before in
+    definition-start (c3 .args .left - 1) (c3 .args .left) (c3 .args .v .now) (c3 .args .t .now)
+    (c3 .args .count) (omega arith) (c3 .pre .2) (c .skip .result) (c .skip .ensures)
+
+-- src/lib.rt:283:17
+add-p : tie.Need-add-p Inv-loop μ-loop
+add-p c = let h = name-there (c .before .loop .inv) (c .loop-test .taken) in omega arith
+
+-- src/lib.rt:284:33
+sub-conforms : tie.Need-sub-conforms Inv-loop μ-loop
+sub-conforms c = let h = name-there (c .before .loop .inv) (c .loop-test .taken) in omega arith
+
+-- src/lib.rt:284:33
+part-conforms-start : tie.Need-part-conforms-start Inv-loop μ-loop
+part-conforms-start c = let h = name-there (c .before .loop .inv) (c .loop-test .taken) in omega arith
+
+-- src/lib.rt:284:33
+part-conforms-end : tie.Need-part-conforms-end Inv-loop μ-loop
+part-conforms-end c = search needs
+
+-- src/lib.rt:284:42
+sub-conforms-2 : tie.Need-sub-conforms-2 Inv-loop μ-loop
+sub-conforms-2 c = omega (arith, c .before .before .loop .inv)
+
+-- src/lib.rt:284:42
+part-conforms-start-2 : tie.Need-part-conforms-start-2 Inv-loop μ-loop
+part-conforms-start-2 c = omega (arith, c .before .before .loop .inv)
+
+-- src/lib.rt:284:42
+part-conforms-end-2 : tie.Need-part-conforms-end-2 Inv-loop μ-loop
+part-conforms-end-2 c = search needs
+
+-- src/lib.rt:284:13
+conforms-requires : tie.Need-conforms-requires Inv-loop μ-loop
+conforms-requires c κs = search needs
+
+-- src/lib.rt:286:13
+returns : tie.Need-returns Inv-loop μ-loop
+returns c =
+    let c5 = c .before .before .before .before .before in
+    param-apart (c5 .before .loop .inv) (c5 .loop-test .taken) (c .before .conforms .result)
+    (c .before .conforms .last .1 .1 .1 .0) (c .before .conforms .ensures) (c .if1 .taken) _
+
+-- src/lib.rt:288:14
+add-at : tie.Need-add-at Inv-loop μ-loop
+add-at c =
+    let c5 = c .before .before .before .before .before in
+    let c6 = c5 .before in
+    let args = c6 .before .before .before .before .args in
+    let conforms = c .before .conforms in
+    let h =
+    param-fits (c6 .loop .inv) (c5 .loop-test .taken) (conforms .result) (conforms .last .1 .1 .1 .0)
+    (pair (readable-type (args .left)) (readable-type (args .left)) (le fixed) (args .v .now)
+    (c6 .loop .at + nameWidth) (args .t .now) (c6 .loop .bt) (conforms .result)
+    (conforms .last .1 .1 .1 .0) (conforms .ensures) (c .if1 .left)) in
+    omega arith
+
+-- src/lib.rt:289:14
+add-bt : tie.Need-add-bt Inv-loop μ-loop
+add-bt c =
+    let c2 = c .before .before in
+    let c6 = c2 .before .before .before .before in
+    let c7 = c6 .before in
+    let args = c7 .before .before .before .before .args in
+    let h = param-fits (c7 .loop .inv) (c6 .loop-test .taken) (c2 .conforms .result)
+    (c2 .conforms .last .1 .1 .1 .0)
+    (pair (readable-type (args .left)) (readable-type (args .left)) (le fixed) (args .v .now)
+    (c7 .loop .at + nameWidth) (args .t .now) (c7 .loop .bt) (c2 .conforms .result)
+    (c2 .conforms .last .1 .1 .1 .0) (c2 .conforms .ensures) (c .before .if1 .left)) in
+    omega arith
+
+-- src/lib.rt:290:9
+add-i : tie.Need-add-i Inv-loop μ-loop
+add-i c = search needs
+
+-- src/lib.rt:282:5
+loop-less : tie.Need-loop-less Inv-loop μ-loop
+loop-less c = omega arith
+
+-- src/lib.rt:282:5
+loop-again : tie.Need-loop-again Inv-loop μ-loop
+loop-again c =
+    let c2 = c .before .before in
+    let c6 = c2 .before .before .before .before in
+    let c7 = c6 .before in
+    let args = c7 .before .before .before .before .args in
+    param-turn (c7 .loop .inv) (c6 .loop-test .taken) (c2 .conforms .result)
+    (c2 .conforms .last .1 .1 .1 .0)
+    (pair (readable-type (args .left)) (readable-type (args .left)) (le fixed) (args .v .now)
+    (c7 .loop .at + nameWidth) (args .t .now) (c7 .loop .bt) (c2 .conforms .result)
+    (c2 .conforms .last .1 .1 .1 .0) (c2 .conforms .ensures) (c .before .if1 .left))
+
+-- src/lib.rt:292:29
+sub-conforms-3 : tie.Need-sub-conforms-3 Inv-loop μ-loop
+sub-conforms-3 c = search needs
+
+-- src/lib.rt:292:29
+part-conforms-start-3 : tie.Need-part-conforms-start-3 Inv-loop μ-loop
+part-conforms-start-3 c = search needs
+
+-- src/lib.rt:292:29
+part-conforms-end-3 : tie.Need-part-conforms-end-3 Inv-loop μ-loop
+part-conforms-end-3 c = search needs
+
+-- src/lib.rt:292:38
+sub-conforms-4 : tie.Need-sub-conforms-4 Inv-loop μ-loop
+sub-conforms-4 c = omega (arith, c .before .before .loop .inv)
+
+-- src/lib.rt:292:38
+part-conforms-start-4 : tie.Need-part-conforms-start-4 Inv-loop μ-loop
+part-conforms-start-4 c = omega (arith, c .before .before .loop .inv)
+
+-- src/lib.rt:292:38
+part-conforms-end-4 : tie.Need-part-conforms-end-4 Inv-loop μ-loop
+part-conforms-end-4 c = search needs
+
+-- src/lib.rt:292:9
+conforms-requires-2 : tie.Need-conforms-requires-2 Inv-loop μ-loop
+conforms-requires-2 c κs = search needs
+
+-- src/lib.rt:294:9
+returns-2 : tie.Need-returns-2 Inv-loop μ-loop
+returns-2 c =
+    let c5 = c .before .before .before .before .before in
+    result-apart (c5 .before .loop .inv) (c5 .loop-test .left) (c .before .conforms2 .result)
+    (c .before .conforms2 .last .1 .1 .1 .0) (c .before .conforms2 .ensures) (c .if2 .taken) _
+
+-- src/lib.rt:296:14
+add-other : tie.Need-add-other Inv-loop μ-loop
+add-other c =
+    let c2 = c .before .before in
+    let c6 = c2 .before .before .before .before in
+    let h = result-fits (c6 .before .loop .inv) (c6 .loop-test .left) (c2 .conforms2 .result)
+    (c2 .conforms2 .last .1 .1 .1 .0) (c2 .conforms2 .ensures) (c .before .if2 .left) in
+    omega (arith, c6 .before .before .before .before .before .pre)
+
+-- src/lib.rt:296:14
+add-other-2 : tie.Need-add-other-2 Inv-loop μ-loop
+add-other-2 c =
+    let c2 = c .before .before in
+    let c6 = c2 .before .before .before .before in
+    let h = result-fits (c6 .before .loop .inv) (c6 .loop-test .left) (c2 .conforms2 .result)
+    (c2 .conforms2 .last .1 .1 .1 .0) (c2 .conforms2 .ensures) (c .before .if2 .left) in
+    omega (arith, c6 .before .before .before .before .before .pre)
+
+-- src/lib.rt:297:5
+add-result : tie.Need-add-result Inv-loop μ-loop
+add-result c =
+    let c7 = c .before .before .before .before .before .before .before in
+    omega (arith, c7 .loop .inv, c7 .before .before .before .before .pre)
+
+-- src/lib.rt:275:1
+returns-3 : tie.Need-returns-3 Inv-loop μ-loop
+returns-3 c =
+    let c2 = c .before .before in
+    let c6 = c2 .before .before .before .before in
+    result-yes (c6 .before .loop .inv) (c6 .loop-test .left) (c2 .conforms2 .result)
+    (c2 .conforms2 .last .1 .1 .1 .0) (c2 .conforms2 .ensures) (c .before .if2 .left) _ _ refl refl
 
 pub conform-definition-spec : {M : Type 1} → statement M
 conform-definition-spec =
@@ -23,30 +201,31 @@ conform-definition-spec =
     (tie.spec
     Inv-loop
     μ-loop
-    (λ c κs. search needs)
-    (λ c. definition-start _ _ _ _ (c .before .before .before .pre .0) (c .before .before .before .pre .1) _ (c .skip .ensures))
-    (λ c. omega (arith, own (c .before .loop .inv) (c .loop-test .taken) .two))
-    (λ c. omega (arith, own (c .before .loop .inv) (c .loop-test .taken) .two))
-    (λ c. omega (arith, own (c .before .loop .inv) (c .loop-test .taken) .two))
-    (λ c. search needs)
-    (λ c. omega (arith, c .before .before .loop .inv .in-t))
-    (λ c. omega (arith, c .before .before .loop .inv .in-t))
-    (λ c. search needs)
-    (λ c κs. (own-ok (c .before .before .before .loop .inv) (c .before .before .loop-test .taken), param-ok (target (c .before .before .before .loop .inv) (c .before .before .loop-test .taken))))
-    (λ c. search needs)
-    (λ c. omega (arith, param-fits (c .before .before .before .before .before .before .before .loop .inv) (c .before .before .before .before .before .before .loop-test .taken) _ (c .before .before .before .conforms .ensures) _ _ (c .before .x .given .1)))
-    (λ c. omega (arith, param-fits (c .before .before .before .before .before .before .before .loop .inv) (c .before .before .before .before .before .before .loop-test .taken) _ (c .before .before .before .conforms .ensures) _ _ (c .before .x .given .1)))
-    (λ c. search needs)
-    (λ c. param-no (c .before .before .before .before .before .before .loop .inv) (c .before .before .before .before .before .loop-test .taken) _ (c .before .before .conforms .ensures) (c .enum-told .given .1))
-    (λ c. search needs)
-    (λ c. search needs)
-    (λ c. param-turn (c .before .before .before .before .before .before .before .loop .inv) (c .before .before .before .before .before .before .loop-test .taken) _ (c .before .before .before .conforms .ensures) _ _ (c .before .x .given .1))
-    (λ c. omega (arith, c .before .loop .inv .in-t))
-    (λ c. omega (arith, c .before .loop .inv .in-t))
-    (λ c. search needs)
-    (λ c κs. last-ok (c .before .before .loop .inv) (c .before .loop-test .left))
-    (λ c. search needs)
-    (λ c. omega (arith, result-fits (c .before .before .before .before .before .before .loop .inv) (c .before .before .before .before .before .loop-test .left) _ (c .before .before .before .conforms2 .ensures) _ _ (c .before .y .given .1)))
-    (λ c. search needs)
-    (λ c. result-yes (c .before .before .before .before .before .before .loop .inv) (c .before .before .before .before .before .loop-test .left) _ (c .before .before .before .conforms2 .ensures) _ _ (c .before .y .given .1))
-    (λ c. result-no (c .before .before .before .before .before .loop .inv) (c .before .before .before .before .loop-test .left) _ (c .before .before .conforms2 .ensures) (c .enum-told2 .given .1)))
+    skip-requires
+    loop-holds
+    add-p
+    sub-conforms
+    part-conforms-start
+    part-conforms-end
+    sub-conforms-2
+    part-conforms-start-2
+    part-conforms-end-2
+    conforms-requires
+    returns
+    add-at
+    add-bt
+    add-i
+    loop-less
+    loop-again
+    sub-conforms-3
+    part-conforms-start-3
+    part-conforms-end-3
+    sub-conforms-4
+    part-conforms-start-4
+    part-conforms-end-4
+    conforms-requires-2
+    returns-2
+    add-other
+    add-other-2
+    add-result
+    returns-3)

@@ -1,4 +1,4 @@
--- `values::is_conformant` meets its contract.
+-- A yes of the one pass is the answer; without it the readers give the refusals, and then the answer is no.
 -- Assumes nothing.
 use borrow.Author.Needs.{needs}
 use Rattle.values.proofs.is_conformant.Statement.{statement}
@@ -7,24 +7,103 @@ use Rattle.values.proofs.is_conformant.Reads as reads
 use Rattle.values.proofs.is_conformant.Lts as lts
 use Rattle.form.proofs.check_type.Reads as check-type-reads
 use Rattle.form.proofs.check_value.Reads as check-value-reads
-use Rattle.values.proofs.judge.Reads as judge-reads
-use mathlib.Core.Path.{sym, ap, _∙_}
-use Rattle.form.specs.Answers.{checked}
-use Rattle.types.proofs.Calling.{was-refused}
-use Rattle.values.proofs.Calling.{value-refused, value-accepted, first-refused, second-refused}
+use Rattle.values.proofs.passes.Reads as passes-reads
+use mathlib.Core.Path.{sym, _∙_}
+use Rattle.form.specs.Read.{readType}
+use Rattle.form.proofs.Whole.{bytes-of}
+use Rattle.order.specs.Inferred.{valueConformsTo}
+use Rattle.types.proofs.Asking.{first-refused, second-refused, asked-yes, asked-no}
+use Rattle.types.proofs.Calling.{was-refused, was-accepted}
+use Rattle.values.specs.Calls.{isConformant}
+use Rattle.values.proofs.Calling.{value-refused, value-accepted}
 use native.Mathlib.Omega.{arith}
+
+-- src/lib.rt:325:8
+passes-requires : tie.Need-passes-requires
+passes-requires c κs = search needs
+
+-- src/lib.rt:326:9
+returns : tie.Need-returns
+returns c =
+    let args = c .before .before .before .before .args in
+    asked-yes (isConformant (args .v .now) (args .t .now))
+    (sym (c .if1 .taken) ∙ c .before .passes .ensures)
+
+-- src/lib.rt:328:34
+check-value-requires : tie.Need-check-value-requires
+check-value-requires c κs = search needs
+
+-- src/lib.rt:328:29
+enum-known-n : tie.Need-enum-known-n
+enum-known-n c = search needs
+
+-- src/lib.rt:329:9
+returns-2 : tie.Need-returns-2
+unfolding isConformant
+returns-2 c =
+    let c3 = c .before .before .before in
+    let args = c3 .before .before .before .before .before .args in
+    first-refused valueConformsTo (readType (args .t .now))
+    (value-refused (args .v .now) (c3 .check-value .result) (c .before .n .given .0 .0)
+    (c .before .n .given .1) (c3 .check-value .ensures .0))
+
+enum-told : tie.Need-enum-told
+enum-told c = search needs
+
+-- src/lib.rt:331:34
+check-type-requires : tie.Need-check-type-requires
+check-type-requires c κs = search needs
+
+-- src/lib.rt:331:29
+enum-known-n-2 : tie.Need-enum-known-n-2
+enum-known-n-2 c = search needs
+
+-- src/lib.rt:332:9
+returns-3 : tie.Need-returns-3
+unfolding isConformant
+returns-3 c =
+    let c3 = c .before .before .before in
+    let c6 = c3 .before .before .before in
+    let c10 = c6 .before .before .before .before in
+    let args = c10 .before .args in
+    second-refused valueConformsTo (readType (args .t .now))
+    (value-accepted (args .v .now) (bytes-of (args .v .now) (c10 .shared-slice-known .given))
+    (c6 .check-value .result) (c3 .before .enum-told .given .0 .0) (c3 .before .enum-told .given .1)
+    (c6 .check-value .ensures .0) .whole)
+    (was-refused (args .t .now) (c3 .check-type .result) (c .before .n2 .given .0 .0)
+    (c .before .n2 .given .1) (c3 .check-type .ensures .0))
+
+enum-told-2 : tie.Need-enum-told-2
+enum-told-2 c = search needs
+
+-- src/lib.rt:322:1
+returns-4 : tie.Need-returns-4
+unfolding isConformant
+returns-4 c =
+    let c2 = c .before .before in
+    let c5 = c2 .before .before .before in
+    let c9 = c5 .before .before .before .before in
+    let args = c9 .before .args in
+    asked-no valueConformsTo (readType (args .t .now))
+    (value-accepted (args .v .now) (bytes-of (args .v .now) (c9 .shared-slice-known .given))
+    (c5 .check-value .result) (c2 .before .enum-told .given .0 .0) (c2 .before .enum-told .given .1)
+    (c5 .check-value .ensures .0) .whole)
+    ((was-accepted (args .t .now) (c2 .check-type .result) (c .enum-told2 .given .0 .0)
+    (c .enum-told2 .given .1) (c2 .check-type .ensures .0)) .whole)
+    (sym (c5 .before .if1 .left) ∙ c5 .before .before .passes .ensures)
 
 pub is-conformant-spec : {M : Type 1} → statement M
 is-conformant-spec =
     tie.close
     (tie.spec
-    (λ c κs. search needs)
-    (λ c. search needs)
-    (λ c κs. (sym (c .before .before .before .check-type .ensures .0) ∙ ap checked (c .before .level .given .1), c .before .before .before .check-type .ensures .1))
-    (λ c. search needs)
-    (λ c κs. search needs)
-    (λ c. search needs)
-    (λ c. search needs)
-    (λ c. search needs)
-    (λ c. second-refused (c .before .before .before .before .before .before .before .before .before .args .v .now) (c .before .before .before .before .before .before .before .before .before .args .t .now) (c .before .before .before .before .n .given .0 .0) (value-accepted (c .before .before .before .before .before .before .before .before .before .args .v .now) (c .before .before .check-value .ensures .1) (c .before .before .check-value .result) (c .enum-told .given .0 .0) (c .enum-told .given .1) (c .before .before .check-value .ensures .0)) (was-refused (c .before .before .before .before .before .before .before .before .before .args .t .now) (c .before .before .before .before .before .before .check-type .result) (c .before .before .before .before .n .given .0 .0) (c .before .before .before .before .n .given .1) (c .before .before .before .before .before .before .check-type .ensures .0)))
-    (λ c. first-refused (c .before .before .before .before .before .before .before .before .before .before .args .v .now) (c .before .before .before .before .before .before .before .before .before .before .args .t .now) (c .before .k .given .0 .0) (value-refused (c .before .before .before .before .before .before .before .before .before .before .args .v .now) (c .before .before .before .check-value .result) (c .before .k .given .0 .0) (c .before .k .given .1) (c .before .before .before .check-value .ensures .0))))
+    passes-requires
+    returns
+    check-value-requires
+    enum-known-n
+    returns-2
+    enum-told
+    check-type-requires
+    enum-known-n-2
+    returns-3
+    enum-told-2
+    returns-4)

@@ -1,23 +1,122 @@
+-- A leaf of data by the short way, and the type's command: its own, Any, or any simple one for a null.
+-- Assumes nothing.
 use borrow.Author.Needs.{needs}
 use Rattle.values.proofs.leaf.Statement.{statement}
 use Rattle.values.proofs.leaf.Tie as tie
 use Rattle.values.proofs.leaf.Reads as reads
 use Rattle.values.proofs.leaf.Lts as lts
-use Rattle.form.proofs.leaf_size.Reads as leaf-size-reads
-use Rattle.values.proofs.Holding.{byte-v, byte-t, null-simple, any-simple, own-simple}
+use Rattle.form.proofs.key_at.Reads as key-at-reads
+use Prim.Native.Nat.{_-_}
 use native.Mathlib.Omega.{arith}
+use Rattle.values.proofs.Holding.{leaf-no-type, leaf-below, leaf-above, leaf-none, leaf-is-null, leaf-to-any, small, leaf-to-own, leaf-to-none}
+
+-- src/lib.rt:39:9
+returns : tie.Need-returns
+returns c =
+    let args = c .before .before .before .args in
+    leaf-no-type (args .left - 1) (args .left) (args .v .now) (args .at) (args .t .now) (args .bt)
+    (c .if1 .taken) 1
+
+-- src/lib.rt:41:33
+sub-key-at : tie.Need-sub-key-at
+sub-key-at c = search needs
+
+-- src/lib.rt:41:9
+key-at-requires : tie.Need-key-at-requires
+key-at-requires c κs = search needs
+
+-- src/lib.rt:43:9
+returns-2 : tie.Need-returns-2
+returns-2 c =
+    let args = c .before .before .before .before .before .args in
+    leaf-none (args .left - 1) (args .left) (args .v .now) (args .at) (args .t .now) (args .bt)
+    (c .before .key-at .result) _ (c .before .key-at .ensures) (c .if2 .taken) 1
+
+-- src/lib.rt:45:13
+shared-slice-read-c : tie.Need-shared-slice-read-c
+shared-slice-read-c c = search needs
+
+-- src/lib.rt:46:13
+shared-slice-read-d : tie.Need-shared-slice-read-d
+shared-slice-read-d c = search needs
+
+-- src/lib.rt:47:13
+add-if3 : tie.Need-add-if3
+add-if3 c =
+    let c3 = c .before .before .before in
+    let args = c3 .before .before .before .before .args in
+    let s = small (args .left - 1) (args .left) (args .v .now) (args .at) (args .t .now) (args .bt)
+    (c3 .key-at .result) _ (c3 .key-at .ensures) (c .before .before .if2 .left) in
+    omega arith
+
+-- src/lib.rt:48:9
+returns-3 : tie.Need-returns-3
+returns-3 c =
+    let c4 = c .before .before .before .before in
+    let c8 = c4 .before .before .before .before in
+    leaf-to-own (c8 .args .left - 1) (c8 .args .left) (c8 .args .v .now) (c8 .args .at)
+    (c8 .args .t .now) (c8 .args .bt) (c4 .key-at .result) _ (c4 .key-at .ensures)
+    (c .before .before .before .if2 .left) (c8 .pre .2) (omega (arith, c8 .pre, c4 .before .if1 .left))
+    (c .if3 .taken)
+
+-- src/lib.rt:51:9
+returns-4 : tie.Need-returns-4
+returns-4 c =
+    let c4 = c .before .before .before .before in
+    let c9 = c4 .before .before .before .before .before in
+    leaf-to-any (c9 .args .left - 1) (c9 .args .left) (c9 .args .v .now) (c9 .args .at)
+    (c9 .args .t .now) (c9 .args .bt) (c4 .before .key-at .result) _ (c4 .before .key-at .ensures)
+    (c4 .if2 .left) (c9 .pre .2) (omega (arith, c9 .pre, c4 .before .before .if1 .left)) (c .if4 .taken)
+
+-- src/lib.rt:54:9
+returns-5 : tie.Need-returns-5
+returns-5 c =
+    let c5 = c .before .before .before .before .before in
+    let args = c5 .before .before .before .before .before .args in
+    leaf-to-none (args .left - 1) (args .left) (args .v .now) (args .at) (args .t .now) (args .bt)
+    (c5 .before .key-at .result) _ (c5 .before .key-at .ensures) (c5 .if2 .left) (c .if5 .taken)
+    (c .before .if4 .left) (c .before .before .if3 .left) 1
+
+-- src/lib.rt:57:9
+returns-6 : tie.Need-returns-6
+returns-6 c =
+    let args =
+    c .before .before .before .before .before .before .before .before .before .before .before .args in
+    leaf-below (args .left - 1) (args .left) (args .v .now) (args .at) (args .t .now) (args .bt)
+    (c .if6 .taken) 1
+
+-- src/lib.rt:60:9
+returns-7 : tie.Need-returns-7
+returns-7 c =
+    let args =
+    c .before .before .before .before .before .before .before .before .before .before .before .before .args in
+    leaf-above (args .left - 1) (args .left) (args .v .now) (args .at) (args .t .now) (args .bt)
+    (c .if7 .taken) 1
+
+-- src/lib.rt:34:1
+returns-8 : tie.Need-returns-8
+returns-8 c =
+    let c7 = c .before .before .before .before .before .before .before in
+    let c12 = c7 .before .before .before .before .before in
+    leaf-is-null (c12 .args .left - 1) (c12 .args .left) (c12 .args .v .now) (c12 .args .at)
+    (c12 .args .t .now) (c12 .args .bt) (c7 .before .key-at .result) _ (c7 .before .key-at .ensures)
+    (c7 .if2 .left) (c12 .pre .2) (omega (arith, c12 .pre, c7 .before .before .if1 .left))
+    (c .before .if6 .left) (c .if7 .left) (c .before .before .if5 .left)
 
 pub leaf-spec : {M : Type 1} → statement M
 leaf-spec =
     tie.close
     (tie.spec
-    (λ c. omega (arith, byte-v (c .before .before .before .args .left) (c .before .before .before .args .v .now) (c .before .before .before .args .t .now) (c .before .before .before .pre .0) (c .before .before .before .pre .1)))
-    (λ c. omega (arith, byte-t (c .before .before .before .before .args .left) (c .before .before .before .before .args .v .now) (c .before .before .before .before .args .t .now) (c .before .before .before .before .pre .0) (c .before .before .before .before .pre .1)))
-    (λ c. λ q. absurd (omega (arith, q)))
-    (λ c. λ q. null-simple (c .before .before .before .before .before .before .args .left) (c .before .before .before .before .before .before .args .v .now) (c .before .before .before .before .before .before .args .t .now) (c .before .before .before .before .before .before .pre .0) (c .before .before .before .before .before .before .pre .1) (c .if2 .taken) (omega arith))
-    (λ c κs. search needs)
-    (λ c. λ q. absurd (omega (arith, q)))
-    (λ c. λ q. let w = c .before .before .leaf-size .ensures (omega arith) in any-simple (c .before .before .before .before .before .before .before .before .before .args .left) (c .before .before .before .before .before .before .before .before .before .args .v .now) (c .before .before .before .before .before .before .before .before .before .args .t .now) (c .before .before .before .before .before .before .before .before .before .pre .0) (c .before .before .before .before .before .before .before .before .before .pre .1) (c .before .before .leaf-size .result) (c .before .before .before .if2 .left) (w .0) (w .1) (c .if4 .taken))
-    (λ c. let w = c .before .before .leaf-size .ensures (omega arith) in omega (arith, w .0))
-    (λ c. λ q. let w = c .before .before .before .leaf-size .ensures (omega arith) in own-simple (c .before .before .before .before .before .before .before .before .before .before .args .left) (c .before .before .before .before .before .before .before .before .before .before .args .v .now) (c .before .before .before .before .before .before .before .before .before .before .args .t .now) (c .before .before .before .before .before .before .before .before .before .before .pre .0) (c .before .before .before .before .before .before .before .before .before .before .pre .1) (c .before .before .before .leaf-size .result) (c .before .before .before .before .if2 .left) (w .0) (w .1) (c .if5 .taken))
-    (λ c. λ q. absurd (omega (arith, q))))
+    returns
+    sub-key-at
+    key-at-requires
+    returns-2
+    shared-slice-read-c
+    shared-slice-read-d
+    add-if3
+    returns-3
+    returns-4
+    returns-5
+    returns-6
+    returns-7
+    returns-8)

@@ -1,14 +1,66 @@
--- `values::passes` meets its contract.
+-- The pass answers yes exactly where both sizes are the lengths of the two arguments, within the limit.
 -- Assumes nothing.
-use mathlib.Core.Bool.{false≢true}
 use borrow.Author.Needs.{needs}
 use Rattle.values.proofs.passes.Statement.{statement}
 use Rattle.values.proofs.passes.Tie as tie
 use Rattle.values.proofs.passes.Reads as reads
 use Rattle.values.proofs.passes.Lts as lts
-use Rattle.values.proofs.pass_held.Reads as pass-held-reads
-use Rattle.values.proofs.Passing.{told-whole}
+use Rattle.values.proofs.conforms.Reads as conforms-reads
+use Rattle.order.specs.Inferred.{valueConformsTo}
+use Rattle.types.proofs.Asking.{long-first, long-second, apart, over-first, told-whole}
+use Rattle.types.proofs.Calling.{whole-type}
+use Rattle.values.specs.Calls.{isConformant}
+use Rattle.values.proofs.Calling.{whole-value}
 use native.Mathlib.Omega.{arith}
 
+-- src/lib.rt:305:9
+returns : tie.Need-returns
+unfolding isConformant
+returns c =
+    long-first whole-value whole-type valueConformsTo (c .before .before .before .args .v .now)
+    (c .before .before .before .args .t .now) (c .if1 .taken)
+
+-- src/lib.rt:308:9
+returns-2 : tie.Need-returns-2
+unfolding isConformant
+returns-2 c =
+    let args = c .before .before .before .before .args in
+    long-second whole-value whole-type valueConformsTo (args .v .now) (args .t .now) (c .if2 .taken)
+
+-- src/lib.rt:311:9
+conforms-requires : tie.Need-conforms-requires
+conforms-requires c κs = search needs
+
+-- src/lib.rt:313:9
+returns-3 : tie.Need-returns-3
+unfolding isConformant
+returns-3 c =
+    let args = c .before .before .before .before .before .before .before .args in
+    apart whole-value whole-type valueConformsTo (args .v .now) (args .t .now)
+    (c .before .conforms .result) (c .before .conforms .last .1 .1 .1 .0) (c .before .conforms .ensures)
+    (c .if3 .taken)
+
+-- src/lib.rt:316:9
+returns-4 : tie.Need-returns-4
+unfolding isConformant
+returns-4 c =
+    let c2 = c .before .before in
+    let args = c2 .before .before .before .before .before .before .args in
+    over-first whole-value whole-type valueConformsTo (args .v .now) (args .t .now)
+    (c2 .conforms .result) (c2 .conforms .last .1 .1 .1 .0) (c2 .conforms .ensures)
+    (c .before .if3 .left) (c .if4 .taken)
+
+-- src/lib.rt:301:1
+returns-5 : tie.Need-returns-5
+unfolding isConformant
+returns-5 c =
+    let c2 = c .before .before in
+    let c4 = c2 .before .before in
+    let args = c4 .before .before .before .before .args in
+    told-whole whole-value whole-type valueConformsTo (args .v .now) (args .t .now)
+    (c2 .conforms .result) (c2 .conforms .last .1 .1 .1 .0) (c2 .conforms .ensures)
+    (c .before .if3 .left) (c .if4 .left) (c4 .before .if1 .left) (c4 .if2 .left)
+
 pub passes-spec : {M : Type 1} → statement M
-passes-spec = tie.close (tie.spec (λ c. λ q. absurd (false≢true q)) (λ c κs. search needs) (λ c. λ q. absurd (false≢true q)) (λ c. told-whole 31 (c .before .before .before .before .before .args .v .now) (c .before .before .before .before .before .args .t .now) (c .before .pass-held .result) (c .before .before .if1 .left) (omega arith) (c .before .pass-held .ensures)))
+passes-spec =
+    tie.close (tie.spec returns returns-2 conforms-requires returns-3 returns-4 returns-5)

@@ -1,0 +1,255 @@
+-- A value against a type by their commands: a value of one kind conforms to no other kind's types but Any, and a null to all.
+-- Assumes nothing.
+use Prim.Native.Nat.{ℕ, zero, suc, _+_, _-_, _≤_}
+use mathlib.Core.Path.{_≡_, refl, sym, ap, _∙_}
+use mathlib.Core.Bool.{true, false, _&&_, true≢false}
+use mathlib.Core.Option.{some}
+use mathlib.Core.List.{List}
+use native.Mathlib.Omega.{arith}
+use lib.ListN.{length, getD, drop}
+use lib.Dec.{eqb, leb}
+use borrow.Author.Tests.{ne-eqb, le-leb, lt-leb}
+use Rattle.form.specs.Trees.{Simple, any, Ty, leaf, built, list, range, context, function, Tys, no-params, param, code, code-temporal, simple, Temporal, on-date, at-time, at-dateTime, for-daysAndTime, for-yearsAndMonths, Leaf, Params, Val, v-leaf, v-range, v-list, v-context, v-function, v-built-in, v-type, v-irrelevant, isDataLeaf, decode-temporal}
+use Rattle.form.specs.Limits.{nameWidth}
+use Rattle.form.specs.Form.{countTys}
+use Rattle.form.specs.Outcome.{pick}
+use Rattle.form.proofs.ExactTypes.{code-small}
+use Rattle.form.proofs.ExactValues.{code-decode}
+use Rattle.order.specs.Order.{up, fixed, flat}
+use Rattle.order.specs.Types.{cmp, cmps}
+use Rattle.order.specs.Size.{size}
+use Rattle.order.specs.Values.{temporal-type, leaf-type, types-of, conforms}
+use Rattle.order.proofs.Simple.{fixed-laws}
+use Rattle.order.proofs.Bools.{and-false}
+use Rattle.types.specs.At.{Sig, sig, funOf}
+use Rattle.types.proofs.Reading.{cmd}
+use Rattle.types.proofs.Conforming.{le-null, le-any, le-other, le-leaves, same-simple, count-sig}
+use Rattle.values.specs.At.{valueAt, Definition, definition, definitionAt}
+use Rattle.values.specs.Held.{definitionConforms}
+use Rattle.values.proofs.Reading.{IsVal, is-null, is-boolean, is-number, is-string, is-temporal, is-range, is-list, is-context, is-definition, is-built-in, is-type, is-irrelevant, is-val, paramsAt, next-parameter, no-parameter, definition-parts}
+
+-- the command of the types of a value's kind; Any's for a value that has none
+abbrev pub kind : Val → ℕ
+kind (v-leaf f) = 0x20 + code (leaf-type f)
+kind (v-range i j a b) = 0x2B
+kind (v-list vs) = 0x2A
+kind (v-context es) = 0x2C
+kind (v-function ps b r) = 0x2D
+kind (v-built-in x) = 0x20
+kind (v-type t) = 0x20
+kind v-irrelevant = 0x20
+
+code-type : (k : Temporal) → code (temporal-type k) ≡ 4 + code-temporal k
+code-type on-date = refl
+code-type at-time = refl
+code-type at-dateTime = refl
+code-type for-daysAndTime = refl
+code-type for-yearsAndMonths = refl
+
+-- ---- by the command of a value that was read
+-- the same, by the value's own command
+unfoldable pub kindAt : ℕ → ℕ
+kindAt c = pick (eqb c 0x00) 0x29 (pick (leb c 0x08) (c + 0x20) (pick (eqb c 0x09) 0x2B (pick (eqb c 0x0A) 0x2A (pick (eqb c 0x0B) 0x2C (pick (eqb c 0x0C) 0x2D 0x20)))))
+
+pub kind-plain : (c : ℕ) → 1 ≤ c → c ≤ 8 → kindAt c ≡ c + 32
+unfolding kindAt
+kind-plain c h k = rw (ne-eqb c 0 (λ e. omega arith), le-leb c 8 k)
+
+pub kind-other : (c : ℕ) → 13 ≤ c → kindAt c ≡ 32
+unfolding kindAt
+kind-other c h = rw (ne-eqb c 0 (λ e. omega arith), lt-leb c 8 (omega arith), ne-eqb c 9 (λ e. omega arith), ne-eqb c 10 (λ e. omega arith), ne-eqb c 11 (λ e. omega arith), ne-eqb c 12 (λ e. omega arith))
+
+kind-of : (l : ℕ) (s : List ℕ) (x : Val) → IsVal l s x → kind x ≡ kindAt (getD s 0 0)
+unfolding kindAt
+kind-of l s x (is-null y c) = ap kindAt (sym c)
+kind-of l s x (is-boolean y c) = ap kindAt (sym c)
+kind-of l s x (is-number y c) = ap kindAt (sym c)
+kind-of l s x (is-string y c) = ap kindAt (sym c)
+kind-of l s x (is-temporal y h i) = omega (arith, code-type (decode-temporal (getD s 0 0 - 4)), code-decode (getD s 0 0 - 4) (omega arith), kind-plain (getD s 0 0) (omega arith) (omega arith))
+kind-of l s x (is-range i j a b c k p) = ap kindAt (sym c)
+kind-of l s x (is-list vs c k p) = ap kindAt (sym c)
+kind-of l s x (is-context es c k p) = ap kindAt (sym c)
+kind-of l s x (is-definition r ps b c k p) = ap kindAt (sym c)
+kind-of l s x (is-built-in y c) = ap kindAt (sym c)
+kind-of l s x (is-type t c p) = ap kindAt (sym c)
+kind-of l s x (is-irrelevant c) = ap kindAt (sym c)
+
+-- a command up to 8 is a leaf's and no other, and behind 9 to 11 stand two bytes more
+shaped : (l : ℕ) (s : List ℕ) (x : Val) → IsVal l s x → (getD s 0 0 ≤ 8 → isDataLeaf x ≡ true) × (9 ≤ getD s 0 0 → getD s 0 0 ≤ 11 → 3 ≤ length s) × (isDataLeaf x ≡ true → getD s 0 0 ≤ 8)
+shaped l s x (is-null y c) = (λ h. refl, λ h k. omega arith, λ h. omega arith)
+shaped l s x (is-boolean y c) = (λ h. refl, λ h k. omega arith, λ h. omega arith)
+shaped l s x (is-number y c) = (λ h. refl, λ h k. omega arith, λ h. omega arith)
+shaped l s x (is-string y c) = (λ h. refl, λ h k. omega arith, λ h. omega arith)
+shaped l s x (is-temporal y h i) = (λ h. refl, λ h k. omega arith, λ h. omega arith)
+shaped l s x (is-range i j a b c k p) = (λ h. absurd (omega arith), λ h i. k, λ h. absurd (true≢false (sym h)))
+shaped l s x (is-list vs c k p) = (λ h. absurd (omega arith), λ h i. k, λ h. absurd (true≢false (sym h)))
+shaped l s x (is-context es c k p) = (λ h. absurd (omega arith), λ h i. k, λ h. absurd (true≢false (sym h)))
+shaped l s x (is-definition r ps b c k p) = (λ h. absurd (omega arith), λ h k. omega arith, λ h. absurd (true≢false (sym h)))
+shaped l s x (is-built-in y c) = (λ h. absurd (omega arith), λ h k. omega arith, λ h. absurd (true≢false (sym h)))
+shaped l s x (is-type t c p) = (λ h. absurd (omega arith), λ h k. omega arith, λ h. absurd (true≢false (sym h)))
+shaped l s x (is-irrelevant c) = (λ h. absurd (omega arith), λ h k. omega arith, λ h. absurd (true≢false (sym h)))
+
+-- what a definition is made of
+pub record IsDefinition (l : ℕ) (s : List ℕ) (x : Val) : Type 0 where
+  pub r : Ty
+  pub ps : Params
+  pub b : ℕ
+  pub four : 4 ≤ length s
+  pub read : definitionAt (l - 1) (getD s 1 0) (drop 4 s) ≡ some (definition r ps)
+  pub is : x ≡ v-function ps b r
+
+definition-of : (l : ℕ) (s : List ℕ) (x : Val) → IsVal l s x → getD s 0 0 ≡ 12 → IsDefinition l s x
+definition-of l s x (is-null y c) d = absurd (omega arith)
+definition-of l s x (is-boolean y c) d = absurd (omega arith)
+definition-of l s x (is-number y c) d = absurd (omega arith)
+definition-of l s x (is-string y c) d = absurd (omega arith)
+definition-of l s x (is-temporal y h i) d = absurd (omega arith)
+definition-of l s x (is-range i j a b c k p) d = absurd (omega arith)
+definition-of l s x (is-list vs c k p) d = absurd (omega arith)
+definition-of l s x (is-context es c k p) d = absurd (omega arith)
+definition-of l s x (is-definition r ps b c k p) d = record { r = r; ps = ps; b = b; four = k; read = p; is = refl }
+definition-of l s x (is-built-in y c) d = absurd (omega arith)
+definition-of l s x (is-type t c p) d = absurd (omega arith)
+definition-of l s x (is-irrelevant c) d = absurd (omega arith)
+
+module _ (l : ℕ) (s : List ℕ) (x : Val) (e : valueAt l s ≡ some x) where
+  pub kind-is : kind x ≡ kindAt (getD s 0 0)
+  kind-is = kind-of l s x (is-val l s x e)
+
+  pub leaf-is : getD s 0 0 ≤ 8 → isDataLeaf x ≡ true
+  leaf-is = shaped l s x (is-val l s x e) .0
+
+  pub long-is : 9 ≤ getD s 0 0 → getD s 0 0 ≤ 11 → 3 ≤ length s
+  long-is = shaped l s x (is-val l s x e) .1
+
+  pub small-is : isDataLeaf x ≡ true → getD s 0 0 ≤ 8
+  small-is = shaped l s x (is-val l s x e) .2
+
+  pub definition-is : getD s 0 0 ≡ 12 → IsDefinition l s x
+  definition-is d = definition-of l s x (is-val l s x e) d
+
+-- ---- conformance by kinds
+-- only Any
+not-any : (s : Simple) → (cmd (leaf s) ≡ 32 → ⊥) → flat any s ≡ false
+not-any s a = simp (ne-eqb (code s) 0 (λ e. a (omega arith)), ne-eqb 0 (code s) (λ e. a (omega arith)))
+
+pub kinds-differ : (x : Val) (u : Ty) → (kind x ≡ 41 → ⊥) → (cmd u ≡ 32 → ⊥) → (kind x ≡ cmd u → ⊥) → conforms fixed x u ≡ false
+unfolding conforms
+kinds-differ (v-leaf f) u n a d = le-other (leaf (leaf-type f)) u d n a
+kinds-differ (v-range i j x y) (leaf s) n a d = not-any s a
+kinds-differ (v-range i j x y) (built (list t)) n a d = refl
+kinds-differ (v-range i j x y) (built (range t)) n a d = absurd (d refl)
+kinds-differ (v-range i j x y) (built (context fs)) n a d = refl
+kinds-differ (v-range i j x y) (built (function ps r)) n a d = refl
+kinds-differ (v-list vs) (leaf s) n a d = not-any s a
+kinds-differ (v-list vs) (built (list t)) n a d = absurd (d refl)
+kinds-differ (v-list vs) (built (range t)) n a d = refl
+kinds-differ (v-list vs) (built (context fs)) n a d = refl
+kinds-differ (v-list vs) (built (function ps r)) n a d = refl
+kinds-differ (v-context es) (leaf s) n a d = not-any s a
+kinds-differ (v-context es) (built (list t)) n a d = refl
+kinds-differ (v-context es) (built (range t)) n a d = refl
+kinds-differ (v-context es) (built (context fs)) n a d = absurd (d refl)
+kinds-differ (v-context es) (built (function ps r)) n a d = refl
+kinds-differ (v-function ps b r) (leaf s) n a d = not-any s a
+kinds-differ (v-function ps b r) (built (list t)) n a d = refl
+kinds-differ (v-function ps b r) (built (range t)) n a d = refl
+kinds-differ (v-function ps b r) (built (context fs)) n a d = refl
+kinds-differ (v-function ps b r) (built (function qs s)) n a d = absurd (d refl)
+kinds-differ (v-built-in y) (leaf s) n a d = not-any s a
+kinds-differ (v-built-in y) (built t) n a d = refl
+kinds-differ (v-type t) (leaf s) n a d = not-any s a
+kinds-differ (v-type t) (built u) n a d = refl
+kinds-differ v-irrelevant (leaf s) n a d = not-any s a
+kinds-differ v-irrelevant (built t) n a d = refl
+
+any-type : (u : Ty) → cmd u ≡ 32 → u ≡ leaf any
+any-type (leaf s) e = ap leaf (same-simple s any e)
+any-type (built (list t)) e = absurd (omega arith)
+any-type (built (range t)) e = absurd (omega arith)
+any-type (built (context fs)) e = absurd (omega arith)
+any-type (built (function ps r)) e = absurd (omega arith)
+
+of-any : (x : Val) → conforms fixed x (leaf any) ≡ true
+unfolding conforms cmp
+of-any (v-leaf f) = fixed-laws .any-greatest (leaf-type f)
+of-any (v-range i j a b) = refl
+of-any (v-list vs) = refl
+of-any (v-context es) = refl
+of-any (v-function ps b r) = refl
+of-any (v-built-in x) = refl
+of-any (v-type t) = refl
+of-any v-irrelevant = refl
+
+pub to-any : (x : Val) (u : Ty) → cmd u ≡ 32 → conforms fixed x u ≡ true
+to-any x u e = ap (conforms fixed x) (any-type u e) ∙ of-any x
+
+-- ---- a leaf of data
+leaf-tree : (x : Val) → isDataLeaf x ≡ true → (f : Leaf) × (x ≡ v-leaf f)
+leaf-tree (v-leaf f) e = (f, refl)
+leaf-tree (v-range i j a b) e = absurd (true≢false (sym e))
+leaf-tree (v-list vs) e = absurd (true≢false (sym e))
+leaf-tree (v-context es) e = absurd (true≢false (sym e))
+leaf-tree (v-function ps b r) e = absurd (true≢false (sym e))
+leaf-tree (v-built-in x) e = absurd (true≢false (sym e))
+leaf-tree (v-type t) e = absurd (true≢false (sym e))
+leaf-tree v-irrelevant e = absurd (true≢false (sym e))
+
+pub leaf-null : (x : Val) (u : Ty) → isDataLeaf x ≡ true → kind x ≡ 41 → conforms fixed x u ≡ true
+unfolding conforms
+leaf-null x u h e = let g = leaf-tree x h in ap (λ y. conforms fixed y u) (g .1) ∙ le-null (leaf (leaf-type (g .0))) u (sym (ap kind (g .1)) ∙ e) .1
+
+pub leaf-same : (x : Val) (u : Ty) → isDataLeaf x ≡ true → simple u ≡ true → kind x ≡ cmd u → conforms fixed x u ≡ true
+unfolding conforms
+leaf-same x (leaf s) h k e = let g = leaf-tree x h in ap (λ y. conforms fixed y (leaf s)) (g .1) ∙ le-leaves (leaf-type (g .0)) s (same-simple (leaf-type (g .0)) s (sym (ap kind (g .1)) ∙ e))
+leaf-same x (built y) h k e = absurd (true≢false (sym k))
+
+pub simple-is : (u : Ty) → cmd u ≤ 41 → simple u ≡ true
+simple-is (leaf s) h = refl
+simple-is (built (list t)) h = absurd (omega arith)
+simple-is (built (range t)) h = absurd (omega arith)
+simple-is (built (context fs)) h = absurd (omega arith)
+simple-is (built (function ps r)) h = absurd (omega arith)
+
+pub simple-cmd : (u : Ty) → simple u ≡ true → (cmd u ≤ 41) × (size u ≡ 1)
+unfolding size
+simple-cmd (leaf s) h = let k = code-small s in (omega arith, refl)
+simple-cmd (built y) h = absurd (true≢false (sym h))
+
+pub not-simple : (u : Ty) → simple u ≡ false → 42 ≤ cmd u
+not-simple (leaf s) h = absurd (true≢false h)
+not-simple (built (list t)) h = omega arith
+not-simple (built (range t)) h = omega arith
+not-simple (built (context fs)) h = omega arith
+not-simple (built (function ps r)) h = omega arith
+
+-- ---- definitions
+cmps-count : (ps qs : Tys) → (countTys ps ≡ countTys qs → ⊥) → cmps fixed up ps qs ≡ false
+unfolding cmp countTys
+cmps-count no-params no-params d = absurd (d refl)
+cmps-count no-params (param t qs) d = refl
+cmps-count (param t ps) no-params d = refl
+cmps-count (param t ps) (param u qs) d = ap (λ x. cmp fixed up t u && x) (cmps-count ps qs (λ e. d (ap suc e))) ∙ and-false (cmp fixed up t u)
+
+params-count : (l n : ℕ) (s : List ℕ) (ps : Params) → paramsAt l n s ≡ some ps → countTys (types-of ps) ≡ n
+unfolding countTys types-of
+params-count l zero s ps e = ap (λ x. countTys (types-of x)) (no-parameter l s ps e)
+params-count l (suc n) s ps e =
+    let g = next-parameter l n s ps e in
+    ap (λ x. countTys (types-of x)) (g .is) ∙ ap suc (params-count l n (drop (size (g .t)) (drop nameWidth s)) (g .more) (g .second))
+
+abbrev params-of : Definition → Params
+params-of (definition r ps) = ps
+
+definition-count : (l n : ℕ) (s : List ℕ) (r : Ty) (ps : Params) → definitionAt l n s ≡ some (definition r ps) → countTys (types-of ps) ≡ n
+definition-count l n s r ps e =
+    let g = definition-parts l n s (definition r ps) e in
+    ap (λ d. countTys (types-of (params-of d))) (g .is) ∙ params-count l n (drop (size (g .r)) s) (g .ps) (g .second)
+
+pub held-function : (ps : Params) (b : ℕ) (r : Ty) (f : Sig) → conforms fixed (v-function ps b r) (funOf f) ≡ definitionConforms (definition r ps) f
+unfolding conforms
+held-function ps b r (sig qs s) = refl
+
+-- no, since the counts differ
+pub counts-differ : (l n : ℕ) (s : List ℕ) (r : Ty) (ps : Params) (f : Sig) → definitionAt l n s ≡ some (definition r ps) → (n ≡ count-sig f → ⊥) → definitionConforms (definition r ps) f ≡ false
+counts-differ l n s r ps (sig qs t) e d = ap (λ x. x && cmp fixed up r t) (cmps-count (types-of ps) qs (λ z. d (sym (definition-count l n s r ps e) ∙ z)))

@@ -1,0 +1,217 @@
+-- A function definition against a function type: each own parameter to the target's, result to result. The definition was read, with one level less than
+-- the type has; what is left of the type decides, whether it is read or not.
+-- Assumes nothing.
+use Prim.Native.Nat.{ℕ, _+_, _-_, _<_, _≤_}
+use mathlib.Core.Path.{_≡_, refl, sym, ap, ap₂, subst, _∙_}
+use mathlib.Core.Bool.{Bool, true, _&&_}
+use mathlib.Core.Option.{some}
+use mathlib.Core.List.{List}
+use native.Mathlib.Omega.{arith}
+use lib.ListN.{length, getD, take, drop, length-drop}
+use lib.Seq.{drop-drop}
+use Rattle.form.specs.Trees.{Ty, no-params, Params, no-parameters, parameter, Val, v-function}
+use Rattle.form.specs.Limits.{nameWidth}
+use Rattle.form.specs.Read.{Got, got, readT}
+use Rattle.form.proofs.AnySize.{Fair}
+use Rattle.form.proofs.Fuel.{stays}
+use Rattle.order.specs.Order.{up, fixed}
+use Rattle.order.specs.Types.{cmp, cmps, le}
+use Rattle.order.specs.Size.{size, size-params, size-val}
+use Rattle.order.specs.Values.{types-of}
+use Rattle.order.specs.Inferred.{valueConformsTo}
+use Rattle.order.proofs.Bools.{and-assoc}
+use Rattle.types.specs.At.{typeAt, Sig, sig, cons, funOf, size-sig, sigAt, sizeAt, Ok}
+use Rattle.types.specs.Conform.{Conform, judge, conformBy, conformOf, grown, Met}
+use Rattle.types.proofs.Reading.{rest, seen-got, got-seen, ok-got, is-ok, is-fun, t-good, size-cons, size-fun, result}
+use Rattle.types.proofs.Entries.{step, size-got}
+use Rattle.types.proofs.InStep.{param-at}
+use Rattle.types.proofs.Conforming.{sig-count}
+use Rattle.types.proofs.Forward as forward
+use Rattle.types.proofs.Forward.{param-on, result-read}
+use Rattle.types.proofs.Names.{readable-type}
+use Rattle.types.proofs.Pairs.{mapO, mapO-same, both, no-when, mapped, grown-on, grown-none, met-yes, met-no, met-as, Pair, MetAt, pair, pair-no, pair-in}
+use Rattle.values.specs.At.{valueAt, Definition, definition, size-definition, definitionAt, sizeAtV}
+use Rattle.values.specs.Held.{held, definitionConforms, heldDefinition}
+use Rattle.values.proofs.Reading.{paramsAt, definition-parts, next-parameter, no-parameter}
+use Rattle.values.proofs.ByKind.{definition-is, held-function, counts-differ}
+use Rattle.values.proofs.Holding.{never, fails}
+
+same-tree : {X : Type 0} {x y : X} → some x ≡ some y → x ≡ y
+same-tree e = cc
+
+-- more levels read the same type
+pub type-up : (l m : ℕ) (s : List ℕ) (t : Ty) → l ≤ m → typeAt l s ≡ some t → typeAt m s ≡ some t
+unfolding typeAt
+type-up l m s t h e = seen-got (readT l s) t e (λ n r. got-seen (readT m s) t n (stays l m s h (subst Fair (sym r) tt) ∙ r))
+
+-- the test of what is left
+abbrev left-conforms : Ty → Params → Sig → Bool
+left-conforms r ps f = definitionConforms (definition r ps) f
+
+left-cons : (r : Ty) (n : ℕ) (a : Ty) (ps : Params) (u : Ty) (f : Sig) → left-conforms r (parameter n a ps) (cons u f) ≡ le fixed a u && left-conforms r ps f
+unfolding cmp types-of
+left-cons r n a ps u (sig qs s) = and-assoc (cmp fixed up a u) (cmps fixed up (types-of ps) qs) (cmp fixed up r s)
+
+pub record DefinitionGo (l m : ℕ) (whole : Conform) (v t : List ℕ) (count at bt i : ℕ) : Type 0 where
+  pub r : Ty
+  pub ps : Params
+  pub more : l ≤ m
+  pub below : i ≤ count
+  pub in-v : at ≤ length v
+  pub in-t : bt ≤ length t
+  pub read-r : typeAt m v ≡ some r
+  pub read-v : paramsAt l (count - i) (drop at v) ≡ some ps
+  pub goes : whole ≡ grown at bt (conformBy size-params size-sig (left-conforms r) (some ps) (sigAt m (count - i) (drop bt t)))
+
+pub definition-start : (l m : ℕ) (v t : List ℕ) (count : ℕ) → l ≤ m → Ok (definitionAt l count v) → (at : ℕ) → at ≡ sizeAt (typeAt m v)
+    → DefinitionGo l m (heldDefinition (definitionAt l count v) (sigAt m count t)) v t count at 0 0
+unfolding mapO
+definition-start l m v t count h o at k =
+    let g = ok-got (definitionAt l count v) o in
+    let P = definition-parts l count v (g .0) (g .1) in
+    let R = type-up l m v (P .r) h (P .first) in
+    let a : at ≡ size (P .r) = k ∙ size-got (typeAt m v) (P .r) R in
+    let c : count ≡ count - 0 = omega arith in
+    record {
+      r = P .r;
+      ps = P .ps;
+      more = h;
+      below = omega arith;
+      in-v = omega (arith, t-good m v (P .r) R .1);
+      in-t = omega arith;
+      read-r = R;
+      read-v = ap₂ (λ k z. paramsAt l k (drop z v)) (sym c) a ∙ P .second;
+      goes = ap₂ heldDefinition (g .1 ∙ ap some (P .is)) (sym (mapO-same (sigAt m count t)))
+          ∙ mapped size-params size-sig (left-conforms (P .r)) size-definition size-sig definitionConforms (definition (P .r)) (λ f. f) at 0 (some (P .ps)) (sigAt m count t) (λ x y e f. refl) (λ x e. omega arith) (λ f. omega arith)
+          ∙ ap (λ n. grown at 0 (conformBy size-params size-sig (left-conforms (P .r)) (some (P .ps)) (sigAt m n t))) c;
+    }
+
+module _ {l m : ℕ} {whole : Conform} {v t : List ℕ} {count at bt i : ℕ} (I : DefinitionGo l m whole v t count at bt i) where
+  -- an own parameter whose name stands at `at`
+  record Own : Type 0 where
+    pub name : ℕ
+    pub a : Ty
+    pub more : Params
+    pub two : at + nameWidth ≤ length v
+    pub first : typeAt m (drop (at + nameWidth) v) ≡ some a
+    pub second : paramsAt l (count - (i + 1)) (drop (at + nameWidth + size a) v) ≡ some more
+    pub is : I .ps ≡ parameter name a more
+
+  own : i < count → Own
+  own h =
+      let g = next-parameter l (count - (i + 1)) (drop at v) (I .ps) (ap (λ k. paramsAt l k (drop at v)) (sym (step i count h)) ∙ I .read-v) in
+      let in-v = I .in-v in
+      let two = simp length-drop at (g .two) in
+      record {
+        name = g .name;
+        a = g .t;
+        more = g .more;
+        two = omega arith;
+        first = type-up l m (drop (at + nameWidth) v) (g .t) (I .more) (ap (typeAt l) (sym (drop-drop nameWidth at v)) ∙ g .first);
+        second = ap (paramsAt l (count - (i + 1))) (sym (drop-drop (size (g .t)) (at + nameWidth) v) ∙ ap (drop (size (g .t))) (sym (drop-drop nameWidth at v))) ∙ g .second;
+        is = g .is;
+      }
+
+  pub name-there : i < count → at + nameWidth ≤ length v
+  name-there h = own h .two
+
+  module _ (h : i < count) (x y : ℕ) where
+    pub param-apart : MetAt (readable-type m) (readable-type m) (le fixed) v (at + nameWidth) t bt x y → x ≡ 0 → (u : ℕ) → Met (grown 4 2 whole) 0 u
+    param-apart w z u = met-no 0 u (ap (grown 4 2) (I .goes ∙ ap (grown at bt) (no-when size-params size-sig (left-conforms (I .r)) (some (I .ps)) (sigAt m (count - i) (drop bt t)) (λ qs f e g.
+        let A = own h in
+        let B = param-at m i count bt t f h (I .in-t) g in
+        ap₂ (left-conforms (I .r)) (sym (same-tree e) ∙ A .is) (B .is) ∙ left-cons (I .r) (A .name) (A .a) (A .more) (B .t) (B .more)
+        ∙ ap (λ q. q && left-conforms (I .r) (A .more) (B .more)) (pair-no (readable-type m) (readable-type m) (le fixed) v (at + nameWidth) t bt x y w z (A .a) (B .t) (A .first) (B .first)))))) refl
+
+    module _ (P : Pair (readable-type m) (readable-type m) (le fixed) v (at + nameWidth) t bt x y) where
+      pub param-fits : (at + nameWidth + x ≤ length v) × (bt + y ≤ length t)
+      param-fits = pair-in (readable-type m) (readable-type m) (le fixed) v (at + nameWidth) t bt x y (own h .two) (I .in-t) P
+
+      pub param-turn : DefinitionGo l m whole v t count (at + nameWidth + x) (bt + y) (i + 1)
+      unfolding size-params mapO
+      param-turn =
+          let A = own h in
+          let S = sigAt m (count - (i + 1)) (drop (bt + y) t) in
+          let a : P .x ≡ A .a = same-tree (sym (P .read-a) ∙ A .first) in
+          let xa : x ≡ size (A .a) = P .size-a ∙ ap size a in
+          let e : sigAt m (count - i) (drop bt t) ≡ mapO (cons (P .y)) S = param-on m i count bt t (P .y) h (P .read-b) ∙ ap (λ k. mapO (cons (P .y)) (sigAt m (count - (i + 1)) (drop (bt + k) t))) (sym (P .size-b)) in
+          let o : at + (nameWidth + x) ≡ at + nameWidth + x = omega arith in
+          record {
+            r = I .r;
+            ps = A .more;
+            more = I .more;
+            below = omega arith;
+            in-v = param-fits .0;
+            in-t = param-fits .1;
+            read-r = I .read-r;
+            read-v = ap (λ k. paramsAt l (count - (i + 1)) (drop (at + nameWidth + k) v)) xa ∙ A .second;
+            goes = I .goes ∙ ap (grown at bt) (ap₂ (conformBy size-params size-sig (left-conforms (I .r))) (ap some (A .is)) e
+                ∙ mapped size-params size-sig (left-conforms (I .r)) size-params size-sig (left-conforms (I .r)) (parameter (A .name) (A .a)) (cons (P .y)) (nameWidth + x) y (some (A .more)) S
+                (λ qs f p q. left-cons (I .r) (A .name) (A .a) qs (P .y) f ∙ ap (λ b. b && left-conforms (I .r) qs f) (ap (λ k. le fixed k (P .y)) (sym a) ∙ P .holds)) (λ qs p. omega (arith, xa)) (λ f. omega (arith, size-cons (P .y) f, P .size-b)))
+                ∙ grown-on at bt (nameWidth + x) y (conformBy size-params size-sig (left-conforms (I .r)) (some (A .more)) S)
+                ∙ ap (λ k. grown k (bt + y) (conformBy size-params size-sig (left-conforms (I .r)) (some (A .more)) S)) o;
+          }
+
+  -- behind the last parameter: the results
+  module _ (h : count ≤ i) (x y : ℕ) (w : MetAt (readable-type m) (readable-type m) (le fixed) v 0 t bt x y) where
+    no-more : count - i ≡ 0
+    no-more = omega arith
+
+    last : I .ps ≡ no-parameters
+    last = no-parameter l (drop at v) (I .ps) (ap (λ n. paramsAt l n (drop at v)) (sym no-more) ∙ I .read-v)
+
+    pub result-apart : x ≡ 0 → (u : ℕ) → Met (grown 4 2 whole) 0 u
+    unfolding cmp types-of
+    result-apart z u = met-no 0 u (ap (grown 4 2) (I .goes ∙ ap (grown at bt) (no-when size-params size-sig (left-conforms (I .r)) (some (I .ps)) (sigAt m (count - i) (drop bt t)) (λ qs f e g.
+        let S = result m (drop bt t) f (ap (λ n. sigAt m n (drop bt t)) (sym no-more) ∙ g) in
+        ap₂ (left-conforms (I .r)) (sym (same-tree e) ∙ last) (S .2) ∙ pair-no (readable-type m) (readable-type m) (le fixed) v 0 t bt x y w z (I .r) (S .0) (I .read-r) (S .1))))) refl
+
+    module _ (z : x ≡ 0 → ⊥) where
+      P : Pair (readable-type m) (readable-type m) (le fixed) v 0 t bt x y
+      P = pair (readable-type m) (readable-type m) (le fixed) v 0 t bt x y w z
+
+      pub result-fits : bt + y ≤ length t
+      result-fits = pair-in (readable-type m) (readable-type m) (le fixed) v 0 t bt x y (omega arith) (I .in-t) P .1
+
+      pub result-yes : (p q : ℕ) → p ≡ at + 4 → q ≡ bt + y + 2 → Met (grown 4 2 whole) p q
+      unfolding cmp types-of size size-params mapO
+      result-yes p q e f =
+          let s : sigAt m (count - i) (drop bt t) ≡ some (sig no-params (P .y)) = ap (λ n. sigAt m n (drop bt t)) no-more ∙ result-read m (drop bt t) ∙ ap (mapO (sig no-params)) (P .read-b) in
+          let k : left-conforms (I .r) no-parameters (sig no-params (P .y)) ≡ true = ap (λ r. le fixed r (P .y)) (same-tree (sym (I .read-r) ∙ P .read-a)) ∙ P .holds in
+          met-yes (ap (grown 4 2) (I .goes ∙ ap (grown at bt) (both size-params size-sig (left-conforms (I .r)) (some (I .ps)) (sigAt m (count - i) (drop bt t)) no-parameters (sig no-params (P .y)) (ap some last) s ∙ ap (λ b. judge b 0 (size-sig (sig no-params (P .y)))) k))) (omega (arith, e)) (omega (arith, f, P .size-b))
+
+-- ---- the returns of `conform_other` at a definition
+module _ (l m : ℕ) (v t : List ℕ) (mp : 0 < m) (c : getD v 0 0 ≡ 12) (d : getD t 0 0 ≡ 45) (two : 2 ≤ length t) (x : Val) (e : valueAt l v ≡ some x) where
+  pub definition-bytes : 4 ≤ length v
+  definition-bytes = definition-is l v x e c .four
+
+  pub definition-ok : (n : ℕ) → n ≡ getD v 1 0 → Ok (definitionAt (l - 1) n (take (length v - 4) (drop 4 v)))
+  definition-ok n k = let D = definition-is l v x e c in rw (rest v 4) (is-ok (definitionAt (l - 1) n (drop 4 v)) (definition (D .r) (D .ps)) (ap (λ j. definitionAt (l - 1) j (drop 4 v)) k ∙ D .read))
+
+  function-of : ℕ → Definition → Val
+  function-of b (definition r ps) = v-function ps b r
+
+  pub definition-counts : (getD v 1 0 ≡ getD t 1 0 → ⊥) → (u : ℕ) → Met (held (valueAt l v) (typeAt m t)) 0 u
+  definition-counts n u = fails valueConformsTo l m v t u (λ y z f g.
+      let D = definition-is l v y f c in
+      let F = is-fun m t z g d in
+      ap₂ valueConformsTo (D .is) (F .is) ∙ held-function (D .ps) (D .b) (D .r) (F .f)
+      ∙ counts-differ (l - 1) (getD v 1 0) (drop 4 v) (D .r) (D .ps) (F .f) (D .read) (λ z. n (z ∙ sig-count (m - 1) (getD t 1 0) (drop 2 t) (F .f) (F .read))))
+
+  pub met-definition : (n : ℕ) → n ≡ getD v 1 0 → getD v 1 0 ≡ getD t 1 0 → (r u : ℕ)
+      → Met (grown 4 2 (heldDefinition (definitionAt (l - 1) n (take (length v - 4) (drop 4 v))) (sigAt (m - 1) n (take (length t - 2) (drop 2 t))))) r u
+      → Met (held (valueAt l v) (typeAt m t)) r u
+  unfolding size-val mapO function-of
+  met-definition n k q r u w =
+      let D = definition-is l v x e c in
+      let ev : valueAt l v ≡ mapO (function-of (D .b)) (definitionAt (l - 1) n (drop 4 v)) = e ∙ ap some (D .is) ∙ sym (ap (λ j. mapO (function-of (D .b)) (definitionAt (l - 1) j (drop 4 v))) k ∙ ap (mapO (function-of (D .b))) (D .read)) in
+      let et : typeAt m t ≡ mapO funOf (sigAt (m - 1) n (drop 2 t)) = forward.node-function m t mp (omega arith) d two ∙ ap (λ j. mapO funOf (sigAt (m - 1) j (drop 2 t))) (sym (k ∙ q)) in
+      met-as (grown 4 2 (heldDefinition (definitionAt (l - 1) n (drop 4 v)) (sigAt (m - 1) n (drop 2 t)))) r u
+      (ap₂ held ev et ∙ mapped size-definition size-sig definitionConforms size-val size valueConformsTo (function-of (D .b)) funOf 4 2 (definitionAt (l - 1) n (drop 4 v)) (sigAt (m - 1) n (drop 2 t)) (tested (D .b)) (λ y f. sizes (D .b) y) size-fun) (rw (rest v 4, rest t 2) at w)
+    where
+      tested : (b : ℕ) (y : Definition) (f : Sig) → definitionAt (l - 1) n (drop 4 v) ≡ some y → sigAt (m - 1) n (drop 2 t) ≡ some f
+          → valueConformsTo (function-of b y) (funOf f) ≡ definitionConforms y f
+      tested b (definition s ps) f p g = held-function ps b s f
+
+      sizes : (b : ℕ) (y : Definition) → size-val (function-of b y) ≡ size-definition y + 4
+      sizes b (definition s ps) = omega arith
