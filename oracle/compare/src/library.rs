@@ -25,8 +25,29 @@ pub const COMPARED: &str = if cfg!(feature = "self-check") {
     "libfeel.a"
 };
 
+/// Declares the functions, and those of an earlier library where one is linked too (`build.rs`).
 #[cfg(not(feature = "self-check"))]
-unsafe extern "C" {
+macro_rules! functions {
+    ($(pub fn $name:ident($($arg:ident: $t:ty),* $(,)?) -> u64;)*) => {
+        unsafe extern "C" {
+            $(pub fn $name($($arg: $t),*) -> u64;)*
+        }
+
+        /// The functions of the earlier library.
+        #[cfg(feel_before)]
+        pub mod before {
+            unsafe extern "C" {
+                $(
+                    #[link_name = concat!("before_", stringify!($name))]
+                    pub fn $name($($arg: $t),*) -> u64;
+                )*
+            }
+        }
+    };
+}
+
+#[cfg(not(feature = "self-check"))]
+functions! {
     pub fn feel_check_value(v: *const u8, len: usize) -> u64;
     pub fn feel_check_type(t: *const u8, len: usize) -> u64;
     pub fn feel_type_is_conformant(a: *const u8, a_len: usize, b: *const u8, b_len: usize) -> u64;

@@ -24,22 +24,27 @@ fn chosen_records(
     most: usize,
     is_chosen: fn(&[u8]) -> bool,
 ) -> Vec<Vec<u8>> {
-    let check = match kind {
-        Kind::Value => feel_check_value,
-        Kind::Type => feel_check_type,
-    };
     let mut random = Random::new(7);
     let mut records = vec![];
     let mut bytes = 0;
     while bytes < SET {
         let record = random_draft(kind, &mut random).bytes;
         let fits = (least..=most).contains(&record.len()) && is_chosen(&record);
-        if fits && one(check, &record) >> 32 == 0 {
+        if fits && accepts(kind, &record) {
             bytes += record.len();
             records.push(record);
         }
     }
     records
+}
+
+/// Whether the library accepts a record.
+pub fn accepts(kind: Kind, record: &[u8]) -> bool {
+    let check = match kind {
+        Kind::Value => feel_check_value,
+        Kind::Type => feel_check_type,
+    };
+    one(check, record) >> 32 == 0
 }
 
 /// Data of these lengths: contexts whose entries are lists of equal records, with the names 0, 1, 2.

@@ -1,5 +1,6 @@
 //! The measuring of one row.
 
+use crate::ours::Both;
 use std::hint::black_box;
 use std::time::{Duration, Instant};
 
@@ -51,9 +52,26 @@ impl Answer for Vec<u8> {
     }
 }
 
+/// An answer that is not refused.
 impl<A: Answer> Answer for Result<A, u8> {
     fn is(&self, number: u64) -> bool {
         self.as_ref().is_ok_and(|answer| answer.is(number))
+    }
+}
+
+/// The refusal of a record that is to be refused.
+pub struct Refusal(Option<u8>);
+
+impl Refusal {
+    pub fn of<T>(answer: Result<T, u8>) -> Refusal {
+        Refusal(answer.err())
+    }
+}
+
+impl Answer for Refusal {
+    fn is(&self, number: u64) -> bool {
+        self.0
+            .is_some_and(|refusal| number == 1 << 32 | u64::from(refusal))
     }
 }
 
@@ -79,47 +97,84 @@ pub struct Measured {
     pub ours: f64,
     pub rust: f64,
     pub ready: Option<f64>,
+    pub lean: Option<f64>,
+    pub before: Option<f64>,
 }
 
-/// For calls with nothing to do on a tree.
-pub fn nothing<C>() -> Option<fn(&C)> {
+/// For calls with nothing to do on a tree, and those without a lean Rust.
+pub fn nothing<C>() -> Option<fn(&C) -> u64> {
     None
 }
 
-/// A call on all cases, by `ours`, by `rust` over the bytes and by `ready` over the trees, in turn.
-/// Before that, ours and the Rust's answers are compared.
-pub fn contest<C: Given, A: Answer, T>(
+/// A call on all cases, in turn: by `ours` with the function of the library and with that of the
+/// earlier one, by `rust` over the bytes, by `lean` over the bytes and by `ready` over the trees.
+/// Before that, the answers are compared.
+pub fn contest<C: Given, F: Copy, A: Answer, L: Answer, T>(
     cases: &[C],
-    mut ours: impl FnMut(&C) -> u64,
+    function: Both<F>,
+    mut ours: impl FnMut(F, &C) -> u64,
     mut rust: impl FnMut(&C) -> A,
+    mut lean: Option<impl FnMut(&C) -> L>,
     mut ready: Option<impl FnMut(&C) -> T>,
 ) -> Measured {
+    // The functions are hidden, so that those of both libraries are called in the same way.
+    let Both { now, before } = black_box(function);
     for case in cases {
-        let number = ours(case);
+        let number = ours(now, case);
         assert!(rust(case).is(number), "another answer: {number:X}");
+        if let Some(lean) = &mut lean {
+            assert!(lean(case).is(number), "lean, another answer: {number:X}");
+        }
+        if let Some(before) = before {
+            assert_eq!(ours(before, case), number, "before, another answer");
+        }
     }
-    let mut of_ours = Best::new(cases, &mut ours);
-    let mut of_rust = Best::new(cases, &mut rust);
-    let mut of_ready = ready.as_mut().map(|work| Best::new(cases, work));
+    let mut of_ours = Best::<NOW>::new(cases, &mut calling(now, &mut ours));
+    let mut of_before =
+        before.map(|before| Best::<BEFORE>::new(cases, &mut calling(before, &mut ours)));
+    let mut of_rust = Best::<RUST>::new(cases, &mut rust);
+    let mut of_lean = lean.as_mut().map(|work| Best::<LEAN>::new(cases, work));
+    let mut of_ready = ready.as_mut().map(|work| Best::<READY>::new(cases, work));
     for _ in 0..ROUNDS {
-        of_ours.round(cases, &mut ours);
+        of_ours.round(cases, &mut calling(now, &mut ours));
+        if let (Some(best), Some(before)) = (&mut of_before, before) {
+            best.round(cases, &mut calling(before, &mut ours));
+        }
         of_rust.round(cases, &mut rust);
+        if let (Some(best), Some(work)) = (&mut of_lean, &mut lean) {
+            best.round(cases, work);
+        }
         if let (Some(best), Some(work)) = (&mut of_ready, &mut ready) {
             best.round(cases, work);
         }
     }
     let bytes: usize = cases.iter().map(Given::length).sum();
+    let count = cases.len();
     Measured {
-        bytes: bytes as f64 / cases.len() as f64,
-        ours: of_ours.a_call(cases.len()),
-        rust: of_rust.a_call(cases.len()),
-        ready: of_ready.map(|best| best.a_call(cases.len())),
+        bytes: bytes as f64 / count as f64,
+        ours: of_ours.a_call(count),
+        rust: of_rust.a_call(count),
+        ready: of_ready.map(|best| best.a_call(count)),
+        lean: of_lean.map(|best| best.a_call(count)),
+        before: of_before.map(|best| best.a_call(count)),
     }
 }
 
-/// The best times of one contestant. The cases are timed in groups and the best time of each group
-/// counts, so that what else the machine does in between is left out.
-struct Best {
+/// The call by this function.
+fn calling<C, F: Copy>(f: F, ours: &mut impl FnMut(F, &C) -> u64) -> impl FnMut(&C) -> u64 {
+    move |case| ours(f, case)
+}
+
+/// The contestants.
+const NOW: u8 = 0;
+const BEFORE: u8 = 1;
+const RUST: u8 = 2;
+const LEAN: u8 = 3;
+const READY: u8 = 4;
+
+/// The best times of the contestant `WHO`. The cases are timed in groups and the best time of each
+/// group counts, so that what else the machine does in between is left out.
+struct Best<const WHO: u8> {
     /// How often it goes through all groups in one round.
     passes: u128,
     /// How often it goes through a group at once.
@@ -130,15 +185,15 @@ struct Best {
     times: Vec<Duration>,
 }
 
-impl Best {
-    fn new<C, T>(cases: &[C], work: &mut impl FnMut(&C) -> T) -> Best {
+impl<const WHO: u8> Best<WHO> {
+    fn new<C, T>(cases: &[C], work: &mut impl FnMut(&C) -> T) -> Self {
         // A few times through, since the first may be slow.
-        let once = (0..3).map(|_| timed(1, cases, work)).min();
+        let once = (0..3).map(|_| timed::<WHO, _, _>(1, cases, work)).min();
         let once = once.unwrap_or_default().as_nanos().max(20);
         let group = GROUP.as_nanos();
         let groups = once.div_ceil(group).min(cases.len() as u128);
         let size = cases.len().div_ceil(groups as usize);
-        Best {
+        Self {
             passes: ROUND.as_nanos().div_ceil(once.max(group)),
             repeats: group.div_ceil(once) as u32,
             size,
@@ -149,7 +204,7 @@ impl Best {
     fn round<C, T>(&mut self, cases: &[C], work: &mut impl FnMut(&C) -> T) {
         for _ in 0..self.passes {
             for (best, group) in self.times.iter_mut().zip(cases.chunks(self.size)) {
-                *best = timed(self.repeats, group, work).min(*best);
+                *best = timed::<WHO, _, _>(self.repeats, group, work).min(*best);
             }
         }
     }
@@ -161,7 +216,15 @@ impl Best {
     }
 }
 
-fn timed<C, T>(repeats: u32, cases: &[C], work: &mut impl FnMut(&C) -> T) -> Duration {
+/// The time of all cases, so many times over. Each contestant has its own copy of this code: where two
+/// share one branch to their functions, the processor expects that of the first.
+#[inline(never)]
+fn timed<const WHO: u8, C, T>(
+    repeats: u32,
+    cases: &[C],
+    work: &mut impl FnMut(&C) -> T,
+) -> Duration {
+    black_box(WHO);
     let start = Instant::now();
     for _ in 0..repeats {
         for case in cases {

@@ -1,5 +1,38 @@
 //! The exported functions over slices, by their shapes.
 
+/// A function of the library, and that of an earlier library where one is linked too.
+#[derive(Clone, Copy)]
+pub struct Both<F> {
+    pub now: F,
+    pub before: Option<F>,
+}
+
+/// Both functions of this name, by their shape: `both!(feel_check_value as One)`.
+macro_rules! both {
+    ($name:ident as $shape:ty) => {
+        crate::ours::Both::<$shape> {
+            now: compare::library::$name,
+            before: crate::ours::earlier!($name),
+        }
+    };
+}
+pub(crate) use both;
+
+#[cfg(feel_before)]
+macro_rules! earlier {
+    ($name:ident) => {
+        Some(compare::library::before::$name)
+    };
+}
+
+#[cfg(not(feel_before))]
+macro_rules! earlier {
+    ($name:ident) => {
+        None
+    };
+}
+pub(crate) use earlier;
+
 /// The room of an output, and of a record.
 pub const ROOM: usize = 16_384;
 

@@ -59,10 +59,35 @@ pub fn context(bytes: Vec<u8>) -> Record<FeelContext> {
     Record { bytes, tree }
 }
 
+/// The records of these bytes, by their reader. All bytes stand before the first tree: between the
+/// trees they would be far from each other, and a small record would take the time of its way from
+/// memory.
+pub fn records<T>(bytes: impl Iterator<Item = Vec<u8>>, read: Reader<T>) -> Vec<Record<T>> {
+    let bytes: Vec<Vec<u8>> = bytes.collect();
+    bytes.into_iter().map(read).collect()
+}
+
+/// Makes a record of its bytes.
+type Reader<T> = fn(Vec<u8>) -> Record<T>;
+
 /// Two records.
 pub struct Pair<A, B> {
     pub a: Record<A>,
     pub b: Record<B>,
+}
+
+/// The pairs of these bytes, as [records].
+pub fn pairs<A, B>(
+    bytes: impl Iterator<Item = [Vec<u8>; 2]>,
+    read_a: Reader<A>,
+    read_b: Reader<B>,
+) -> Vec<Pair<A, B>> {
+    let bytes: Vec<[Vec<u8>; 2]> = bytes.collect();
+    let pair = |[a, b]: [Vec<u8>; 2]| Pair {
+        a: read_a(a),
+        b: read_b(b),
+    };
+    bytes.into_iter().map(pair).collect()
 }
 
 impl<A, B> Given for Pair<A, B> {
@@ -87,11 +112,11 @@ impl Given for Spot {
 }
 
 impl Spot {
-    pub fn new(c: &[u8], path: &[u16]) -> Spot {
+    fn new(c: Vec<u8>, path: Vec<u16>) -> Spot {
         Spot {
-            c: context(c.to_vec()),
-            path: path.to_vec(),
+            c: context(c),
             names: path.iter().map(|number| name(*number)).collect(),
+            path,
             put: None,
         }
     }
@@ -109,6 +134,13 @@ impl Spot {
         let put = self.put.as_ref().expect("a value to be put");
         (&put.bytes, &put.tree)
     }
+}
+
+/// Contexts with these paths, as [records].
+pub fn spots(places: impl Iterator<Item = (Vec<u8>, Vec<u16>)>) -> Vec<Spot> {
+    let places: Vec<(Vec<u8>, Vec<u16>)> = places.collect();
+    let spot = |(c, path)| Spot::new(c, path);
+    places.into_iter().map(spot).collect()
 }
 
 /// The cases of one size that several calls have.
@@ -137,8 +169,8 @@ impl Stock {
     pub fn values(&self) -> &[Record<Value>] {
         let Size { least, most, .. } = self.size;
         self.values.get_or_init(|| {
-            let records = data::records(Kind::Value, least, most).into_iter();
-            records.map(value).collect()
+            let bytes = data::records(Kind::Value, least, most);
+            records(bytes.into_iter(), value)
         })
     }
 
@@ -146,8 +178,8 @@ impl Stock {
     pub fn types(&self) -> &[Record<FeelType>] {
         let Size { least, most, .. } = self.size;
         self.types.get_or_init(|| {
-            let records = data::records(Kind::Type, least, most).into_iter();
-            records.map(feel_type).collect()
+            let bytes = data::records(Kind::Type, least, most);
+            records(bytes.into_iter(), feel_type)
         })
     }
 
@@ -155,11 +187,8 @@ impl Stock {
     pub fn near_types(&self) -> &[Pair<FeelType, FeelType>] {
         let Size { least, most, .. } = self.size;
         self.near.get_or_init(|| {
-            let pair = |[a, b]: [Vec<u8>; 2]| Pair {
-                a: feel_type(a),
-                b: feel_type(b),
-            };
-            data::pairs(least, most).into_iter().map(pair).collect()
+            let bytes = data::pairs(least, most);
+            pairs(bytes.into_iter(), feel_type, feel_type)
         })
     }
 
@@ -182,15 +211,15 @@ impl Stock {
 
     /// Contexts with a path that starts from how many entries they have.
     pub fn spots(&self, path: impl Fn(u16) -> Vec<u16>) -> Vec<Spot> {
-        let spot = |c: &Vec<u8>| Spot::new(c, &path(count(c)));
-        self.data().iter().map(spot).collect()
+        let place = |c: &Vec<u8>| (c.clone(), path(count(c)));
+        spots(self.data().iter().map(place))
     }
 
     /// Contexts with a path of three names, the last of which starts from how many entries the
     /// context has that stands inside two others.
     pub fn deep_spots(&self, last: impl Fn(u16) -> u16) -> Vec<Spot> {
-        let spot = |c: &Vec<u8>| Spot::new(c, &[1, 2, last(count(&c[10..]))]);
-        self.data_inside().iter().map(spot).collect()
+        let place = |c: &Vec<u8>| (c.clone(), vec![1, 2, last(count(&c[10..]))]);
+        spots(self.data_inside().iter().map(place))
     }
 }
 

@@ -7,10 +7,33 @@ use std::cmp::Ordering;
 /// The growth that is linear, with room for what the machine does.
 const LINEAR: f64 = 1.5;
 
+/// The places in a record, and the kinds of records, that a row may be of.
+pub const PLACES: [&str; 13] = [
+    "first",
+    "last",
+    "front",
+    "deep",
+    "cut",
+    "unordered",
+    "first-cut",
+    "second-cut",
+    "no",
+    "leaf",
+    "null",
+    "definitions",
+    "type-values",
+];
+
+/// Whether an earlier library is linked, so that there is a column for it.
+pub const HAS_BEFORE: bool = cfg!(feel_before);
+
+/// What is listed as slower than before, with room for what the machine does.
+const SLOWER: f64 = 0.9;
+
 /// One line of the table.
 struct Row {
     call: &'static str,
-    /// Which place in the record, for calls that have several rows of a size.
+    /// One of [PLACES], or none.
     place: &'static str,
     size: &'static str,
     measured: Measured,
@@ -35,28 +58,66 @@ impl Row {
         }
     }
 
+    /// The time of lean Rust, divided by ours.
+    fn lean(&self) -> Option<f64> {
+        self.measured.lean.map(|lean| lean / self.measured.ours)
+    }
+
+    /// The time of the earlier library, divided by ours.
+    fn before(&self) -> Option<f64> {
+        self.measured
+            .before
+            .map(|before| before / self.measured.ours)
+    }
+
     fn print(&self) {
         let Measured {
             bytes, ours, ready, ..
         } = self.measured;
-        let line = format!(
-            "{:<34} {:<8} {:>6.0} {:>10} {:>10} {:>11} {:>8} {:>7}",
-            self.label(),
+        let known = |number: Option<f64>| number.map_or(String::new(), figures);
+        print_columns([
+            &self.label(),
             self.size,
-            bytes,
-            figures(ours),
-            figures(self.a_byte()),
-            figures(self.ratio()),
-            ready.map_or(String::new(), |ready| figures(ready / ours)),
-            self.growth.map_or(String::new(), figures),
-        );
-        println!("{}", line.trim_end());
+            &format!("{bytes:.0}"),
+            &figures(ours),
+            &figures(self.a_byte()),
+            &figures(self.ratio()),
+            &known(ready.map(|ready| ready / ours)),
+            &known(self.lean()),
+            &known(self.before()),
+            &known(self.growth),
+        ]);
     }
+}
+
+/// Prints one line. The column of the earlier library is there only when there is one.
+fn print_columns(columns: [&str; 10]) {
+    let [
+        label,
+        size,
+        bytes,
+        a_call,
+        a_byte,
+        rust,
+        ready,
+        lean,
+        before,
+        growth,
+    ] = columns;
+    let before = match HAS_BEFORE {
+        true => format!("{before:>8}"),
+        false => String::new(),
+    };
+    let line = format!(
+        "{label:<34} {size:<8} {bytes:>6} {a_call:>10} {a_byte:>10} {rust:>11} {ready:>8} {lean:>8} \
+         {before}{growth:>8}"
+    );
+    println!("{}", line.trim_end());
 }
 
 /// The rows so far.
 pub struct Table {
-    /// The names of the calls; all calls when there is none.
+    /// Calls, places, or a call with a place, `CALL:PLACE`; all rows when there is none.
     only: Vec<String>,
     rows: Vec<Row>,
 }
@@ -69,10 +130,18 @@ impl Table {
     /// Prints a title and the heads of the columns.
     pub fn section(&mut self, title: &str) {
         println!();
-        println!(
-            "{title:<34} {:<8} {:>6} {:>10} {:>10} {:>11} {:>8} {:>7}",
-            "size", "bytes", "ns a call", "ns a byte", "from bytes", "ready", "growth"
-        );
+        print_columns([
+            title,
+            "size",
+            "bytes",
+            "ns a call",
+            "ns a byte",
+            "from bytes",
+            "ready",
+            "lean",
+            "before",
+            "growth",
+        ]);
     }
 
     /// A call for each size.
@@ -110,7 +179,17 @@ impl Table {
         self.add(call, "", size, None, measure);
     }
 
-    /// Measures and prints a row, where the call is wanted, and gives its nanoseconds a byte.
+    /// A call with one row, on these records.
+    pub fn one_at(
+        &mut self,
+        call: &'static str,
+        place: &'static str,
+        measure: impl FnOnce() -> Measured,
+    ) {
+        self.add(call, place, "", None, measure);
+    }
+
+    /// Measures and prints a row, where it is wanted, and gives its nanoseconds a byte.
     fn add(
         &mut self,
         call: &'static str,
@@ -119,7 +198,8 @@ impl Table {
         smaller: Option<f64>,
         measure: impl FnOnce() -> Measured,
     ) -> Option<f64> {
-        if !self.wants(call) {
+        assert!(place.is_empty() || PLACES.contains(&place), "{place}");
+        if !self.wants(call, place) {
             return None;
         }
         let mut row = Row {
@@ -136,13 +216,17 @@ impl Table {
         Some(a_byte)
     }
 
-    fn wants(&self, call: &str) -> bool {
-        self.only.is_empty() || self.only.iter().any(|name| name == call)
+    fn wants(&self, call: &str, place: &str) -> bool {
+        let names = |name: &String| match name.split_once(':') {
+            Some(both) => both == (call, place),
+            None => name == call || name == place,
+        };
+        self.only.is_empty() || self.only.iter().any(names)
     }
 
     /// Panics where a wanted call has no row.
     pub fn missing(&self, calls: impl Iterator<Item = &'static str>) {
-        for call in calls.filter(|call| self.wants(call)) {
+        for call in calls.filter(|call| self.wants(call, "")) {
             let is_there = self.rows.iter().any(|row| row.call == call);
             assert!(is_there, "{call} is not measured");
         }
@@ -152,6 +236,12 @@ impl Table {
     pub fn end(&self) {
         let slow = |row: &Row| Some(row.ratio()).filter(|ratio| *ratio < 1.0);
         self.list("under 1 times the Rust from bytes", slow);
+        let slow = |row: &Row| row.lean().filter(|ratio| *ratio < 1.0);
+        self.list("under 1 times the lean Rust", slow);
+        if HAS_BEFORE {
+            let slower = |row: &Row| row.before().filter(|ratio| *ratio < SLOWER);
+            self.list("under 0.9 times the earlier library", slower);
+        }
         let grown = |row: &Row| row.growth.filter(|growth| *growth > LINEAR);
         self.list("growth over 1.5", grown);
         let by_ratio = |a: &&Row, b: &&Row| -> Ordering { a.ratio().total_cmp(&b.ratio()) };

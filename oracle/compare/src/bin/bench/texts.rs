@@ -1,14 +1,10 @@
 //! The calls over texts.
 
 use crate::data::SET;
-use crate::measure::{Answer, Given, Measured, contest};
-use crate::ours::{One, ROOM, one, one_build, two_build};
+use crate::measure::{Answer, Given, Measured, contest, nothing};
+use crate::ours::{Both, One, OneBuild, ROOM, TwoBuild, both, one, one_build, two_build};
 use crate::stock::{Size, Stock};
 use crate::table::Table;
-use compare::library::{
-    feel_names_display, feel_names_from_str, feel_names_is_built_in_type_name, feel_names_name_new,
-    feel_names_trim,
-};
 use dsntk_feel::types::is_built_in_type_name;
 use dsntk_feel::{FeelType, Name};
 use feel_cases::{Random, Tree, parts_of, renamed, table_of};
@@ -37,17 +33,20 @@ pub fn run(stocks: &[Stock], table: &mut Table) {
         let mut out = vec![0; TEXT];
         contest(
             &shown(stock.size),
-            |case| two_build(feel_names_display, &case.t, &case.table, &mut out),
+            both!(feel_names_display as TwoBuild),
+            |f, case| two_build(f, &case.t, &case.table, &mut out),
             |case| names::display(&case.t, &case.table, TEXT),
+            nothing(),
             Some(|case: &Shown| case.tree.to_string()),
         )
     });
     table.each("names_from_str", stocks, |stock| {
         let ready = |s: &str| FeelType::from_str(s).is_ok();
-        of_strings(stock, feel_names_from_str, names::from_str, ready)
+        let function = both!(feel_names_from_str as One);
+        of_strings(stock, function, names::from_str, ready)
     });
     table.each("names_is_built_in_type_name", stocks, |stock| {
-        let function = feel_names_is_built_in_type_name;
+        let function = both!(feel_names_is_built_in_type_name as One);
         let rust = names::is_built_in_type_name;
         of_strings(stock, function, rust, is_built_in_type_name)
     });
@@ -55,8 +54,10 @@ pub fn run(stocks: &[Stock], table: &mut Table) {
         let mut out = vec![0; ROOM];
         contest(
             &parts(stock.size),
-            |case| one_build(feel_names_name_new, &case.bytes, &mut out),
+            both!(feel_names_name_new as OneBuild),
+            |f, case| one_build(f, &case.bytes, &mut out),
             |case| names::name_new(&case.bytes, ROOM),
+            nothing(),
             Some(|case: &Parts| {
                 let parts: Vec<&str> = case.parts.iter().map(String::as_str).collect();
                 Name::new(&parts)
@@ -67,12 +68,14 @@ pub fn run(stocks: &[Stock], table: &mut Table) {
         let mut out = vec![0; ROOM];
         contest(
             &blanks(stock.size),
-            |s| one_build(feel_names_trim, s.0.as_bytes(), &mut out),
+            both!(feel_names_trim as OneBuild),
+            |f, s| one_build(f, s.0.as_bytes(), &mut out),
             // All bytes here are ASCII, so that the Rust needs no other string.
             |s| {
                 let name = Name::from(from_utf8(s.0.as_bytes()).expect("ASCII"));
                 String::from(name).into_bytes()
             },
+            nothing(),
             Some(|s: &Text| Name::from(s.0.as_str())),
         )
     });
@@ -101,7 +104,7 @@ fn shown(Size { least, most, .. }: Size) -> Vec<Shown> {
     let names: Vec<Name> = texts.iter().map(|text| Name::from(&text[..])).collect();
     let table = table_of(&texts).bytes;
     let mut random = Random::new(7);
-    let mut types = vec![];
+    let mut trees = vec![];
     let mut bytes = 0;
     while bytes < SET {
         // A context of random types, as many as make up the length.
@@ -113,18 +116,22 @@ fn shown(Size { least, most, .. }: Size) -> Vec<Shown> {
             length += 2 + child.bytes().len();
             entries.push((entries.len() as u16, child));
         }
-        let tree = Tree::Context(entries);
-        let t = tree.bytes();
-        if (least..=most).contains(&t.len()) {
-            bytes += t.len();
-            types.push(Shown {
-                t,
-                table: table.clone(),
-                tree: named(&tree, &names),
-            });
+        if (least..=most).contains(&length) {
+            bytes += length;
+            trees.push(Tree::Context(entries));
         }
     }
-    types
+    // All bytes stand before the first tree, as those of other records.
+    let given: Vec<[Vec<u8>; 2]> = trees
+        .iter()
+        .map(|tree| [tree.bytes(), table.clone()])
+        .collect();
+    let shown = |(tree, [t, table]): (&Tree, [Vec<u8>; 2])| Shown {
+        t,
+        table,
+        tree: named(tree, &names),
+    };
+    trees.iter().zip(given).map(shown).collect()
 }
 
 /// The type with these names.
@@ -158,7 +165,7 @@ impl Given for Text {
 /// A question on strings: the names and near misses are small, others begin with a name.
 fn of_strings<A: Answer>(
     stock: &Stock,
-    function: One,
+    function: Both<One>,
     rust: fn(&[u8]) -> A,
     ready: fn(&str) -> bool,
 ) -> Measured {
@@ -168,8 +175,10 @@ fn of_strings<A: Answer>(
     };
     contest(
         &strings,
-        |s| one(function, s.0.as_bytes()),
+        function,
+        |f, s| one(f, s.0.as_bytes()),
         |s| rust(s.0.as_bytes()),
+        nothing(),
         Some(|s: &Text| ready(&s.0)),
     )
 }

@@ -1,18 +1,14 @@
 //! The updates of contexts, at their last entries.
 
 use crate::data::named_values;
-use crate::measure::{Measured, contest};
+use crate::measure::{Measured, contest, nothing};
 use crate::ours::{
-    Bytes, NameBuild, PathPut, ROOM, TwoBuild, name_build, name_put, names_build, path_put,
+    Both, Bytes, NameBuild, NamePut, NamesBuild, PathPut, ROOM, TwoBuild, both, name_build,
+    name_put, names_build, path_put,
 };
-use crate::stock::{Pair, Size, Spot, Stock, context};
+use crate::stock::{Pair, Size, Spot, Stock, context, pairs};
 use crate::table::Table;
 use crate::values::built;
-use compare::library::{
-    feel_context_apply_entries, feel_context_create_entries, feel_context_move_entry,
-    feel_context_overwrite, feel_context_remove_entry, feel_context_set_entry,
-    feel_context_set_null, feel_context_zip,
-};
 use dsntk_feel::Name;
 use dsntk_feel::context::FeelContext;
 use dsntk_feel::values::Value;
@@ -32,16 +28,19 @@ pub fn run(stocks: &[Stock], table: &mut Table) {
         let apply = |c: &mut FeelContext, names: &[Name], v| {
             c.apply_entries(names, v).expect("contexts on the way");
         };
-        let (function, rust) = (feel_context_apply_entries, contexts::apply_entries);
+        let function = both!(feel_context_apply_entries as PathPut);
+        let rust = contexts::apply_entries;
         entries(&new_inside(stock), function, rust, apply)
     });
     table.each("context_zip", stocks, |stock| {
-        let pairs = two_contexts(stock);
-        both(&pairs, feel_context_zip, contexts::zip, FeelContext::zip)
+        let function = both!(feel_context_zip as TwoBuild);
+        let rust = contexts::zip;
+        made_one(&two_contexts(stock), function, rust, FeelContext::zip)
     });
     table.each("context_overwrite", stocks, |stock| {
-        let (function, rust) = (feel_context_overwrite, contexts::overwrite);
-        both(&two_contexts(stock), function, rust, FeelContext::overwrite)
+        let function = both!(feel_context_overwrite as TwoBuild);
+        let (rust, ready) = (contexts::overwrite, FeelContext::overwrite);
+        made_one(&two_contexts(stock), function, rust, ready)
     });
     table.each("context_move_entry", stocks, moving);
     table.each("context_set_entry", stocks, |stock| {
@@ -50,13 +49,14 @@ pub fn run(stocks: &[Stock], table: &mut Table) {
         setting(&spots)
     });
     table.each("context_remove_entry", stocks, |stock| {
-        let (function, rust) = (feel_context_remove_entry, contexts::remove_entry);
-        at_last(stock, function, rust, |c, name| {
+        let function = both!(feel_context_remove_entry as NameBuild);
+        at_last(stock, function, contexts::remove_entry, |c, name| {
             c.remove_entry(name);
         })
     });
     table.each("context_set_null", stocks, |stock| {
-        let (function, rust) = (feel_context_set_null, contexts::set_null);
+        let function = both!(feel_context_set_null as NameBuild);
+        let rust = contexts::set_null;
         at_last(stock, function, rust, |c, name| c.set_null(name.clone()))
     });
 }
@@ -69,22 +69,25 @@ fn new_inside(stock: &Stock) -> Vec<Spot> {
 
 /// `context_create_entries`.
 pub fn creation(spots: &[Spot]) -> Measured {
-    let (function, rust) = (feel_context_create_entries, contexts::create_entries);
+    let function = both!(feel_context_create_entries as PathPut);
+    let rust = contexts::create_entries;
     entries(spots, function, rust, FeelContext::create_entries)
 }
 
 /// A value put at the end of a path.
 fn entries(
     spots: &[Spot],
-    function: PathPut,
+    function: Both<PathPut>,
     rust: fn(&[u8], &[u16], &[u8], usize) -> Bytes,
     ready: impl Fn(&mut FeelContext, &[Name], Value),
 ) -> Measured {
     let mut out = vec![0; ROOM];
     contest(
         spots,
-        |spot| path_put(function, &spot.c.bytes, &spot.path, spot.put().0, &mut out),
+        function,
+        |f, spot| path_put(f, &spot.c.bytes, &spot.path, spot.put().0, &mut out),
         |spot| rust(&spot.c.bytes, &spot.path, spot.put().0, ROOM),
+        nothing(),
         Some(|spot: &Spot| {
             let mut copy = spot.c.tree.clone();
             ready(&mut copy, &spot.names, spot.put().1.clone());
@@ -99,18 +102,14 @@ fn two_contexts(stock: &Stock) -> Vec<Contexts> {
     let Size { least, most, .. } = stock.size;
     let own = named_values(least, most.min(12_288), 2).into_iter();
     let others = named_values(least / 4, 20.max(most / 4), 3);
-    own.zip(others)
-        .map(|(c, other)| Pair {
-            a: context(c),
-            b: context(other),
-        })
-        .collect()
+    let bytes = own.zip(others).map(|(c, other)| [c, other]);
+    pairs(bytes, context, context)
 }
 
 /// Two contexts made one.
-fn both(
+fn made_one(
     pairs: &[Contexts],
-    function: TwoBuild,
+    function: Both<TwoBuild>,
     rust: fn(&[u8], &[u8], usize) -> Bytes,
     ready: fn(&mut FeelContext, &FeelContext),
 ) -> Measured {
@@ -126,11 +125,10 @@ fn moving(stock: &Stock) -> Measured {
     let mut out = vec![0; ROOM];
     contest(
         &stock.spots(|count| vec![count - 1, count]),
-        |spot| {
-            let names = [spot.path[0], spot.path[1]];
-            names_build(feel_context_move_entry, &spot.c.bytes, names, &mut out)
-        },
+        both!(feel_context_move_entry as NamesBuild),
+        |f, spot| names_build(f, &spot.c.bytes, [spot.path[0], spot.path[1]], &mut out),
         |spot| contexts::move_entry(&spot.c.bytes, spot.path[0], spot.path[1], ROOM),
+        nothing(),
         Some(|spot: &Spot| {
             let mut copy = spot.c.tree.clone();
             copy.move_entry(spot.names[0].clone(), spot.names[1].clone());
@@ -144,11 +142,10 @@ pub fn setting(spots: &[Spot]) -> Measured {
     let mut out = vec![0; ROOM];
     contest(
         spots,
-        |spot| {
-            let (c, v) = (&spot.c.bytes, spot.put().0);
-            name_put(feel_context_set_entry, c, spot.path[0], v, &mut out)
-        },
+        both!(feel_context_set_entry as NamePut),
+        |f, spot| name_put(f, &spot.c.bytes, spot.path[0], spot.put().0, &mut out),
         |spot| contexts::set_entry(&spot.c.bytes, spot.path[0], spot.put().0, ROOM),
+        nothing(),
         Some(|spot: &Spot| {
             let mut copy = spot.c.tree.clone();
             copy.set_entry(&spot.names[0], spot.put().1.clone());
@@ -160,15 +157,17 @@ pub fn setting(spots: &[Spot]) -> Measured {
 /// An update of the last entry that needs no value.
 fn at_last(
     stock: &Stock,
-    function: NameBuild,
+    function: Both<NameBuild>,
     rust: fn(&[u8], u16, usize) -> Bytes,
     ready: fn(&mut FeelContext, &Name),
 ) -> Measured {
     let mut out = vec![0; ROOM];
     contest(
         &stock.spots(|count| vec![count - 1]),
-        |spot| name_build(function, &spot.c.bytes, spot.path[0], &mut out),
+        function,
+        |f, spot| name_build(f, &spot.c.bytes, spot.path[0], &mut out),
         |spot| rust(&spot.c.bytes, spot.path[0], ROOM),
+        nothing(),
         Some(|spot: &Spot| {
             let mut copy = spot.c.tree.clone();
             ready(&mut copy, &spot.names[0]);

@@ -1,21 +1,14 @@
 //! The calls over values, and the small questions on values, intervals and built-in functions.
 
 use crate::data::{own_type, ranges};
-use crate::measure::{Given, Measured, contest};
+use crate::lean;
+use crate::measure::{Given, Measured, contest, nothing};
 use crate::ours::{
-    Buffers, Bytes, OfByte, One, OneScratch, ROOM, TwoBuild, byte_build, of_byte, one, one_scratch,
-    two, two_build,
+    Both, Buffers, ByteBuild, Bytes, OfByte, One, OneScratch, ROOM, Two, TwoBuild, both,
+    byte_build, of_byte, one, one_scratch, two, two_build,
 };
-use crate::stock::{Pair, Record, Size, Stock, feel_type, value};
+use crate::stock::{Pair, Record, Size, Stock, feel_type, pairs, records, value};
 use crate::table::Table;
-use compare::library::{
-    feel_bif_feel_type, feel_interval_closed, feel_interval_opened, feel_interval_undefined,
-    feel_type_get_conformant_value, feel_type_get_value_checked, feel_value_coerced,
-    feel_value_is_conformant, feel_value_is_false, feel_value_is_invalid_coercion,
-    feel_value_is_list, feel_value_is_null, feel_value_is_number, feel_value_is_range,
-    feel_value_is_string, feel_value_is_true, feel_value_is_valid_range, feel_value_least_type,
-    feel_value_type_of,
-};
 use dsntk_feel::FeelType;
 use dsntk_feel::bif::Bif;
 use dsntk_feel::ranges::IntervalType;
@@ -41,10 +34,10 @@ pub fn run(stocks: &[Stock], table: &mut Table) {
         checked_retrieval(&by_own_types(stock))
     });
     table.each("type_get_conformant_value", stocks, |stock| {
+        let function = both!(feel_type_get_conformant_value as TwoBuild);
         let rust = calls::get_conformant_value;
         let ready = |pair: &TypeAndValue| pair.a.tree.get_conformant_value(&pair.b.tree);
-        let pairs = by_own_types(stock);
-        built(&pairs, feel_type_get_conformant_value, rust, ready)
+        built(&by_own_types(stock), function, rust, ready)
     });
     table.each("value_coerced", stocks, |stock| {
         coercion(&with_lists_of_own_types(stock))
@@ -56,8 +49,10 @@ pub fn run(stocks: &[Stock], table: &mut Table) {
     table.one("bif_feel_type", "", || {
         contest(
             &positions,
-            |b| byte_build(feel_bif_feel_type, b.0, &mut out),
+            both!(feel_bif_feel_type as ByteBuild),
+            |f, b| byte_build(f, b.0, &mut out),
             |b| calls::bif_feel_type(b.0, ROOM),
+            nothing(),
             Some(|b: &Byte<Bif>| b.1.feel_type()),
         )
     });
@@ -65,16 +60,13 @@ pub fn run(stocks: &[Stock], table: &mut Table) {
 
 /// Data of the size.
 fn data(stock: &Stock) -> Vec<Record<Value>> {
-    stock.data().iter().cloned().map(value).collect()
+    records(stock.data().iter().cloned(), value)
 }
 
 /// Values with their least types.
-fn with_own_types(stock: &Stock) -> Vec<ValueAndType> {
-    let pair = |a: Record<Value>| Pair {
-        b: feel_type(own_type(&a.bytes)),
-        a,
-    };
-    data(stock).into_iter().map(pair).collect()
+pub fn with_own_types(stock: &Stock) -> Vec<ValueAndType> {
+    let pair = |v: &Vec<u8>| [v.clone(), own_type(v)];
+    pairs(stock.data().iter().map(pair), value, feel_type)
 }
 
 /// The same, the types first. It is the value that has the size.
@@ -85,76 +77,80 @@ fn by_own_types(stock: &Stock) -> Vec<TypeAndValue> {
 
 /// Values with lists of their least types.
 fn with_lists_of_own_types(stock: &Stock) -> Vec<ValueAndType> {
-    let list = |Pair { a, b }: ValueAndType| Pair {
-        a,
-        b: feel_type([&[0x2A], &b.bytes[..]].concat()),
-    };
-    with_own_types(stock).into_iter().map(list).collect()
+    let pair = |v: &Vec<u8>| [v.clone(), [&[0x2A], &own_type(v)[..]].concat()];
+    pairs(stock.data().iter().map(pair), value, feel_type)
 }
 
 /// `value_is_conformant`.
 pub fn conformance(pairs: &[ValueAndType]) -> Measured {
     contest(
         pairs,
-        |Pair { a, b }| two(feel_value_is_conformant, &a.bytes, &b.bytes),
+        both!(feel_value_is_conformant as Two),
+        |f, Pair { a, b }| two(f, &a.bytes, &b.bytes),
         |Pair { a, b }| calls::value_is_conformant(&a.bytes, &b.bytes),
+        Some(|pair: &ValueAndType| lean::value_is_conformant(&pair.a.bytes, &pair.b.bytes)),
         Some(|pair: &ValueAndType| pair.a.tree.is_conformant(&pair.b.tree)),
     )
 }
 
 /// `value_least_type`.
 pub fn least_types(values: &[Record<Value>]) -> Measured {
-    let (function, rust) = (feel_value_least_type, calls::value_least_type);
-    of_values(values, function, rust, least_type)
+    let function = both!(feel_value_least_type as OneScratch);
+    of_values(values, function, calls::value_least_type, least_type)
 }
 
 /// `value_type_of`.
 pub fn types_of(values: &[Record<Value>]) -> Measured {
-    let (function, rust) = (feel_value_type_of, calls::value_type_of);
-    of_values(values, function, rust, Value::type_of)
+    let function = both!(feel_value_type_of as OneScratch);
+    of_values(values, function, calls::value_type_of, Value::type_of)
 }
 
 /// A type of values, with scratch.
 fn of_values<T>(
     values: &[Record<Value>],
-    function: OneScratch,
+    function: Both<OneScratch>,
     rust: fn(&[u8], usize, usize) -> Bytes,
     ready: fn(&Value) -> T,
 ) -> Measured {
     let mut buffers = Buffers::new();
     contest(
         values,
-        |v| one_scratch(function, &v.bytes, &mut buffers),
+        function,
+        |f, v| one_scratch(f, &v.bytes, &mut buffers),
         |v| rust(&v.bytes, 4 * ROOM, ROOM),
+        nothing(),
         Some(|v: &Record<Value>| ready(&v.tree)),
     )
 }
 
 /// `type_get_value_checked`.
 pub fn checked_retrieval(pairs: &[TypeAndValue]) -> Measured {
-    let (function, rust) = (feel_type_get_value_checked, calls::get_value_checked);
+    let function = both!(feel_type_get_value_checked as TwoBuild);
     let ready = |pair: &TypeAndValue| pair.a.tree.get_value_checked(&pair.b.tree);
-    built(pairs, function, rust, ready)
+    built(pairs, function, calls::get_value_checked, ready)
 }
 
 /// `value_coerced`.
 pub fn coercion(pairs: &[ValueAndType]) -> Measured {
+    let function = both!(feel_value_coerced as TwoBuild);
     let ready = |pair: &ValueAndType| pair.a.tree.coerced(&pair.b.tree);
-    built(pairs, feel_value_coerced, calls::coerced, ready)
+    built(pairs, function, calls::coerced, ready)
 }
 
 /// A call over two records that writes a value.
 pub fn built<A, B, T>(
     pairs: &[Pair<A, B>],
-    function: TwoBuild,
+    function: Both<TwoBuild>,
     rust: fn(&[u8], &[u8], usize) -> Bytes,
     ready: impl FnMut(&Pair<A, B>) -> T,
 ) -> Measured {
     let mut out = vec![0; ROOM];
     contest(
         pairs,
-        |Pair { a, b }| two_build(function, &a.bytes, &b.bytes, &mut out),
+        function,
+        |f, Pair { a, b }| two_build(f, &a.bytes, &b.bytes, &mut out),
         |Pair { a, b }| rust(&a.bytes, &b.bytes, ROOM),
+        nothing(),
         Some(ready),
     )
 }
@@ -162,7 +158,7 @@ pub fn built<A, B, T>(
 /// A question on a value: the name, ours, the Rust from the bytes and on the tree.
 type Question = (
     &'static str,
-    One,
+    Both<One>,
     fn(&[u8]) -> Result<bool, u8>,
     fn(&Value) -> bool,
 );
@@ -170,55 +166,55 @@ type Question = (
 const QUESTIONS: [Question; 9] = [
     (
         "value_is_invalid_coercion",
-        feel_value_is_invalid_coercion,
+        both!(feel_value_is_invalid_coercion as One),
         calls::value_is_invalid_coercion,
         Value::is_invalid_coercion,
     ),
     (
         "value_is_valid_range",
-        feel_value_is_valid_range,
+        both!(feel_value_is_valid_range as One),
         calls::value_is_valid_range,
         Value::is_valid_range,
     ),
     (
         "value_is_null",
-        feel_value_is_null,
+        both!(feel_value_is_null as One),
         calls::value_is_null,
         Value::is_null,
     ),
     (
         "value_is_true",
-        feel_value_is_true,
+        both!(feel_value_is_true as One),
         calls::value_is_true,
         Value::is_true,
     ),
     (
         "value_is_false",
-        feel_value_is_false,
+        both!(feel_value_is_false as One),
         calls::value_is_false,
         Value::is_false,
     ),
     (
         "value_is_number",
-        feel_value_is_number,
+        both!(feel_value_is_number as One),
         calls::value_is_number,
         Value::is_number,
     ),
     (
         "value_is_string",
-        feel_value_is_string,
+        both!(feel_value_is_string as One),
         calls::value_is_string,
         Value::is_string,
     ),
     (
         "value_is_list",
-        feel_value_is_list,
+        both!(feel_value_is_list as One),
         calls::value_is_list,
         Value::is_list,
     ),
     (
         "value_is_range",
-        feel_value_is_range,
+        both!(feel_value_is_range as One),
         calls::value_is_range,
         Value::is_range,
     ),
@@ -232,15 +228,17 @@ fn questions(stocks: &[Stock], table: &mut Table) {
             let ranges: Vec<Record<Value>>;
             let values = match call {
                 "value_is_valid_range" => {
-                    ranges = self::ranges(least, most).into_iter().map(value).collect();
+                    ranges = records(self::ranges(least, most).into_iter(), value);
                     &ranges
                 }
                 _ => stock.values(),
             };
             contest(
                 values,
-                |v| one(function, &v.bytes),
+                function,
+                |f, v| one(f, &v.bytes),
                 |v| rust(&v.bytes),
+                nothing(),
                 Some(|v: &Record<Value>| ready(&v.tree)),
             )
         });
@@ -258,7 +256,12 @@ impl<T> Given for Byte<T> {
 
 /// A question on an interval byte. It takes a few instructions, so both are asked in the same way:
 /// by a C function that answers one number.
-type IntervalQuestion = (&'static str, OfByte, OfByte, fn(&IntervalType) -> bool);
+type IntervalQuestion = (
+    &'static str,
+    Both<OfByte>,
+    OfByte,
+    fn(&IntervalType) -> bool,
+);
 
 /// The number of the Rust's answer.
 fn number(answer: Result<bool, u8>) -> u64 {
@@ -286,19 +289,19 @@ fn intervals(table: &mut Table) {
     let questions: [IntervalQuestion; 3] = [
         (
             "interval_opened",
-            feel_interval_opened,
+            both!(feel_interval_opened as OfByte),
             rust_opened,
             IntervalType::opened,
         ),
         (
             "interval_closed",
-            feel_interval_closed,
+            both!(feel_interval_closed as OfByte),
             rust_closed,
             IntervalType::closed,
         ),
         (
             "interval_undefined",
-            feel_interval_undefined,
+            both!(feel_interval_undefined as OfByte),
             rust_undefined,
             IntervalType::undefined,
         ),
@@ -307,8 +310,10 @@ fn intervals(table: &mut Table) {
         table.one(call, "", || {
             contest(
                 &bytes,
-                |i| of_byte(function, i.0),
+                function,
+                |f, i| of_byte(f, i.0),
                 |i| of_byte(rust, i.0),
+                nothing(),
                 Some(|i: &Byte<IntervalType>| ready(&i.1)),
             )
         });

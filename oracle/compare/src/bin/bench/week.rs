@@ -2,15 +2,11 @@
 //! missions.
 
 use crate::contexts::search;
-use crate::measure::{contest, nothing};
-use crate::ours::one;
-use crate::stock::{Pair, Record, Spot, feel_type, value};
+use crate::stock::{Spot, feel_type, pairs, records, spots, value};
 use crate::table::Table;
-use crate::types::{Types, conformance, supertypes};
+use crate::types::{Types, conformance, reading, supertypes};
 use crate::updates::{creation, setting};
 use crate::values::{self, TypeAndValue, ValueAndType};
-use compare::library::feel_check_value;
-use dsntk_feel::values::Value;
 use feel_form::{calls, read_value};
 use std::fs;
 
@@ -34,12 +30,8 @@ pub fn run(table: &mut Table) {
     let mut requests = lines("requests.txt");
     requests.retain(|request| read_value(request).is_ok());
     let missions = lines("missions.txt");
-    let values: Vec<Record<Value>> = requests.iter().cloned().map(value).collect();
-    table.one("check_value", "week", || {
-        let ours = |v: &Record<_>| one(feel_check_value, &v.bytes);
-        let rust = |v: &Record<_>| read_value(&v.bytes).map(|(_, level)| level);
-        contest(&values, ours, rust, nothing())
-    });
+    let values = records(requests.iter().cloned(), value);
+    table.one("check_value", "week", || reading(&values));
     table.one("value_is_conformant", "week", || {
         values::conformance(&judged(&requests, &missions))
     });
@@ -57,17 +49,17 @@ pub fn run(table: &mut Table) {
     table.one("type_common_supertype", "week", || {
         supertypes(&types(&missions))
     });
-    let at = |path: &'static [u16]| requests.iter().map(|c| Spot::new(c, path));
+    let at = |path: &[u16]| spots(requests.iter().map(|c| (c.clone(), path.to_vec())));
     table.one("context_search_deep", "week", || {
-        search(&at(&[SPACECRAFT, SPACECRAFT_ID]).collect::<Vec<Spot>>())
+        search(&at(&[SPACECRAFT, SPACECRAFT_ID]))
     });
     table.one("context_create_entries", "week", || {
-        let spots = at(&[SPACECRAFT, OPERATOR]);
+        let spots = at(&[SPACECRAFT, OPERATOR]).into_iter();
         let spots: Vec<Spot> = spots.map(|spot| spot.putting(&AN_OPERATOR)).collect();
         creation(&spots)
     });
     table.one("context_set_entry", "week", || {
-        let spots = at(&[WINDOW]);
+        let spots = at(&[WINDOW]).into_iter();
         let spots: Vec<Spot> = spots.map(|spot| spot.putting(&A_WINDOW)).collect();
         setting(&spots)
     });
@@ -88,42 +80,24 @@ fn bytes(digits: &str) -> Vec<u8> {
 
 /// Each request with a mission, the missions in turn.
 fn judged(requests: &[Vec<u8>], missions: &[Vec<u8>]) -> Vec<ValueAndType> {
-    let pair = |(v, t): (&Vec<u8>, &Vec<u8>)| Pair {
-        a: value(v.clone()),
-        b: feel_type(t.clone()),
-    };
-    requests
-        .iter()
-        .zip(missions.iter().cycle())
-        .map(pair)
-        .collect()
+    let bytes = requests.iter().zip(missions.iter().cycle());
+    pairs(bytes.map(|(v, t)| [v.clone(), t.clone()]), value, feel_type)
 }
 
 /// Each request with the first mission that retrieves it, from another one on in turn; those that
 /// none retrieves are left out.
 fn retrieved(requests: &[Vec<u8>], missions: &[Vec<u8>]) -> Vec<TypeAndValue> {
-    let mut pairs = vec![];
-    for (place, v) in requests.iter().enumerate() {
+    let pair = |(place, v): (usize, &Vec<u8>)| {
         let mut turn = missions.iter().cycle().skip(place).take(missions.len());
         let retrieves = |t: &&Vec<u8>| calls::get_value_checked(t, v, v.len()).is_ok();
-        pairs.extend(turn.find(retrieves).map(|t| Pair {
-            a: feel_type(t.clone()),
-            b: value(v.clone()),
-        }));
-    }
-    pairs
+        turn.find(retrieves).map(|t| [t.clone(), v.clone()])
+    };
+    let bytes = requests.iter().enumerate().filter_map(pair);
+    pairs(bytes, feel_type, value)
 }
 
 /// Each mission with each.
 fn types(missions: &[Vec<u8>]) -> Vec<Types> {
-    let mut pairs = vec![];
-    for a in missions {
-        for b in missions {
-            pairs.push(Pair {
-                a: feel_type(a.clone()),
-                b: feel_type(b.clone()),
-            });
-        }
-    }
-    pairs
+    let each = |a| missions.iter().map(move |b| [Vec::clone(a), b.clone()]);
+    pairs(missions.iter().flat_map(each), feel_type, feel_type)
 }

@@ -1,0 +1,81 @@
+//! Lean Rust on the same bytes, nothing proved: what a call costs that reads slices, allocates
+//! nothing and has no strings. It is plain code by document 01 and answers as the calls do, refusals
+//! too; the tests hold it to the published Rust. The arguments are read in turn, then comes the
+//! answer.
+
+mod conformance;
+mod read;
+#[cfg(test)]
+mod tests;
+mod walk;
+
+use read::{read_type, read_value};
+use walk::{Entries, skip_value};
+
+/// The level of a value.
+#[inline(never)]
+pub fn check_value(v: &[u8]) -> Result<usize, u8> {
+    read_value(v)
+}
+
+/// The level of a type.
+#[inline(never)]
+pub fn check_type(t: &[u8]) -> Result<usize, u8> {
+    read_type(t)
+}
+
+#[inline(never)]
+pub fn type_is_conformant(a: &[u8], b: &[u8]) -> Result<bool, u8> {
+    read_type(a)?;
+    read_type(b)?;
+    Ok(conformance::of_type(a, b))
+}
+
+#[inline(never)]
+pub fn value_is_conformant(v: &[u8], t: &[u8]) -> Result<bool, u8> {
+    read_value(v)?;
+    read_type(t)?;
+    Ok(conformance::of_value(v, t))
+}
+
+#[inline(never)]
+pub fn type_instance_of(a: &[u8], b: &[u8]) -> Result<bool, u8> {
+    read_type(a)?;
+    read_type(b)?;
+    Ok(conformance::is_instance(a, b))
+}
+
+/// The bytes of the entry with this name.
+#[inline(never)]
+pub fn context_get_entry(c: &[u8], name: u16) -> Result<Option<&[u8]>, u8> {
+    read_value(c)?;
+    match c[0] {
+        0x0B => Ok(search(c, &[name])),
+        _ => Err(12),
+    }
+}
+
+/// The bytes of the value at the end of the path.
+#[inline(never)]
+pub fn context_search_deep<'a>(c: &'a [u8], path: &[u16]) -> Result<Option<&'a [u8]>, u8> {
+    read_value(c)?;
+    match c[0] {
+        _ if path.len() > 31 => Err(11),
+        0x0B => Ok(search(c, path)),
+        _ => Err(12),
+    }
+}
+
+fn search<'a>(c: &'a [u8], path: &[u16]) -> Option<&'a [u8]> {
+    if path.is_empty() {
+        return None;
+    }
+    let mut at = 0;
+    for name in path {
+        if c[at] != 0x0B {
+            return None;
+        }
+        at = Entries::new(c, at + 1, skip_value).find(*name)?;
+    }
+    Some(&c[at..skip_value(c, at)])
+}
