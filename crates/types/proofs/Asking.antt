@@ -87,7 +87,7 @@ whole-by sz read base positive told = record {
 
 -- ---- whether the call answers yes
 module _ {X Y : Type 0} {sx : X → ℕ} {sy : Y → ℕ} {one : List ℕ → Option X} {two : List ℕ → Option Y} {first : List ℕ → Outcome X} {second : List ℕ → Outcome Y} (P : Whole sx one first) (Q : Whole sy two second) (test : X → Y → Bool) (a b : List ℕ) where
-  answers-no : ((x : X) (y : Y) → first a ≡ done x → second b ≡ done y → test x y ≡ false) → false ≡ isYes (asked test (first a) (second b))
+  pub answers-no : ((x : X) (y : Y) → first a ≡ done x → second b ≡ done y → test x y ≡ false) → false ≡ isYes (asked test (first a) (second b))
   unfolding _>>=_
   answers-no f = go (first a) (second b) refl refl
     where

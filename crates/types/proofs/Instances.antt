@@ -8,12 +8,15 @@ use mathlib.Core.List.{List}
 use native.Mathlib.Omega.{arith}
 use lib.ListN.{length, getD, take, drop, length-drop}
 use lib.Seq.{getD-drop}
-use borrow.Author.Tests.{eq-eqb, ne-eqb}
-use Rattle.form.specs.Trees.{any, null, code, Ty, leaf, built, list, range, context, function, Fields, no-fields, field}
+use lib.Dec.{eqb}
+use borrow.Author.Tests.{eq-eqb, ne-eqb, eqb-true, eqb-false}
+use Rattle.form.specs.Trees.{any, null, code, Ty, leaf, built, list, range, context, function, Fields, no-fields, field, decode}
 use Rattle.form.specs.Form.{Bytes, numAt, enc, Wf}
-use Rattle.form.specs.Read.{readT}
+use Rattle.form.specs.Limits.{mostBytes, typeLevels}
+use Rattle.form.specs.Outcome.{done}
+use Rattle.form.specs.Read.{readT, readType}
 use Rattle.form.proofs.ExactTypes.{enc-read}
-use Rattle.form.proofs.Types.{took-enc, enc-same}
+use Rattle.form.proofs.Types.{took-enc, enc-same, type-accepted}
 use Rattle.order.specs.Types.{all-fields}
 use Rattle.order.specs.Ascending.{Asc, AscFields}
 use Rattle.order.specs.Size.{size, size-fields}
@@ -21,13 +24,18 @@ use Rattle.order.specs.Document.{eqTy, eqFields, nullOrSame, instanceBuilt, isI
 use Rattle.order.proofs.Simple.{and-both}
 use Rattle.order.proofs.Size.{size-positive}
 use Rattle.order.proofs.Equal.{eq-ty-same, eq-ty-self, eq-fields-same}
-use Rattle.types.specs.At.{typeAt, fieldsAt}
+use Rattle.types.specs.At.{typeAt, fieldsAt, sizeAt}
 use Rattle.types.specs.Conform.{conformBy, typesBy, entries, anyTwo, grown, Met}
-use Rattle.types.proofs.Reading.{seen-got, type-told, cmd, cmd-is, some-byte, t-good, is-list}
-use Rattle.types.proofs.Pairs.{Both, taken, same-test, met-as, yes-of, told-no, told-yes}
-use Rattle.types.proofs.Conforming.{eq-false}
+use Rattle.types.specs.Calls.{isYes}
+use Rattle.types.proofs.Reading.{seen-got, type-told, cmd, cmd-is, some-byte, t-good, is-list, is-ctx}
+use Rattle.types.proofs.Pairs.{mapO, Both, taken, same-test, met-as, yes-of, told-no, told-yes}
+use Rattle.types.proofs.Conforming.{eq-false, le-any}
 use Rattle.types.proofs.Merging.{common}
-use Rattle.types.proofs.Passing.{fails, met-contexts}
+use Rattle.types.proofs.Entries.{size-got}
+use Rattle.types.proofs.Forward.{read-simple, node-list}
+use Rattle.types.proofs.Passing.{sized, fails, met-contexts}
+use Rattle.types.proofs.Asking.{asked, both-read, answers-no}
+use Rattle.types.proofs.Calling.{whole-type}
 
 -- ---- the bytes of a type at the front
 pub front-bytes : (l : ℕ) (s : List ℕ) (t : Ty) → Bytes s → typeAt l s ≡ some t → Wf t × (take (size t) s ≡ enc t)
@@ -72,10 +80,6 @@ module _ (l : ℕ) (a b : List ℕ) (x y : ℕ) (m : Met (typesBy anyTwo (typeAt
 
   pub byte-first : 0 < length a
   byte-first = some-byte l a (B .x) (B .read-a)
-
-  -- the second byte of a list
-  pub byte-inner : getD b 0 0 ≡ 0x2A → 1 < length b
-  byte-inner c = let Y = is-list l b (B .y) (B .read-b) c in let h = some-byte (l - 1) (drop 1 b) (Y .0) (Y .1) in omega (arith, length-drop 1 b)
 
   sizes : (t u : Ty) → typeAt l a ≡ some t → typeAt l b ≡ some u → (x ≡ size t) × (y ≡ size u)
   sizes t u e f = let d = told-yes size size anyTwo size-positive x y m t u e f z in (d .1, d .2)
@@ -153,51 +157,125 @@ other (built (context x)) (built y) h k = absurd (k refl)
 other (built (function ps x)) (built y) h k = refl
 
 -- two lists
-record Lists (l : ℕ) (b : List ℕ) (t u : Ty) : Type 0 where
+record Lists (b : List ℕ) (t u : Ty) : Type 0 where
   pub x : Ty
   pub y : Ty
   pub is-a : t ≡ built (list x)
   pub is-b : u ≡ built (list y)
   pub inner : cmd y ≡ getD b 1 0
+  pub two : 2 ≤ length b
 
-module _ (l : ℕ) (a b : List ℕ) (c : getD a 0 0 ≡ 0x2A) (d : getD b 0 0 ≡ 0x2A) where
-  lists : (t u : Ty) → typeAt l a ≡ some t → typeAt l b ≡ some u → Lists l b t u
-  lists t u e f =
-      let X = is-list l a t e c in
-      let Y = is-list l b u f d in
-      record { x = X .0; y = Y .0; is-a = X .2; is-b = Y .2; inner = cmd-is (l - 1) (drop 1 b) (Y .0) (Y .1) ∙ getD-drop 1 b 0 0 }
+lists : (l : ℕ) (a b : List ℕ) → getD a 0 0 ≡ 0x2A → getD b 0 0 ≡ 0x2A → (t u : Ty) → typeAt l a ≡ some t → typeAt l b ≡ some u → Lists b t u
+lists l a b c d t u e f =
+    let X = is-list l a t e c in
+    let Y = is-list l b u f d in
+    let h = some-byte (l - 1) (drop 1 b) (Y .0) (Y .1) in
+    record { x = X .0; y = Y .0; is-a = X .2; is-b = Y .2; inner = cmd-is (l - 1) (drop 1 b) (Y .0) (Y .1) ∙ getD-drop 1 b 0 0; two = omega (arith, length-drop 1 b) }
 
-  list-test : (t u : Ty) (L : Lists l b t u) → isInstanceOf t u ≡ eqTy (L .x) (L .y) || eqTy (L .y) (leaf any)
+module _ (b : List ℕ) (t u : Ty) (L : Lists b t u) where
+  list-test : isInstanceOf t u ≡ eqTy (L .x) (L .y) || eqTy (L .y) (leaf any)
   unfolding isInstanceOf instanceBuilt
-  list-test t u L = ap₂ isInstanceOf (L .is-a) (L .is-b)
+  list-test = ap₂ isInstanceOf (L .is-a) (L .is-b)
 
-  same-inner : (t u : Ty) (L : Lists l b t u) → eqTy t u ≡ eqTy (L .x) (L .y)
+  list-of-any : getD b 1 0 ≡ 0x20 → isInstanceOf t u ≡ true
+  list-of-any h = list-test ∙ ap (λ (q : Bool). eqTy (L .x) (L .y) || q) (any-eq (L .y) .0 (L .inner ∙ h)) ∙ or-true (eqTy (L .x) (L .y))
+
+  same-lists : t ≡ u → isInstanceOf t u ≡ true
   unfolding eqTy
-  same-inner t u L = ap₂ eqTy (L .is-a) (L .is-b)
+  same-lists e = list-test ∙ ap (λ (q : Bool). q || eqTy (L .y) (leaf any)) (sym (ap₂ eqTy (L .is-a) (L .is-b)) ∙ ap (eqTy t) (sym e) ∙ eq-ty-self t)
 
-  module _ (x y : ℕ) (m : Met (typesBy anyTwo (typeAt l a) (typeAt l b)) x y) (z : x ≡ 0 → ⊥) where
-    pub list-of-any : getD b 1 0 ≡ 0x20 → Met (typesBy isInstanceOf (typeAt l a) (typeAt l b)) x y
-    list-of-any h = passes-test l a b x y m z isInstanceOf (λ t u e f. let L = lists t u e f in list-test t u L ∙ ap (λ (q : Bool). eqTy (L .x) (L .y) || q) (any-eq (L .y) .0 (L .inner ∙ h)) ∙ or-true (eqTy (L .x) (L .y)))
+  other-lists : (getD b 1 0 ≡ 0x20 → ⊥) → (t ≡ u → ⊥) → isInstanceOf t u ≡ false
+  other-lists n d = list-test ∙ ap₂ _||_ (eq-false (L .x) (L .y) (λ z. d (L .is-a ∙ ap (λ w. built (list w)) z ∙ sym (L .is-b)))) (any-eq (L .y) .1 (λ q. n (sym (L .inner) ∙ q)))
 
-    module _ (ba : Bytes a) (bb : Bytes b) where
-      pub same-lists : take x a ≡ take y b → Met (typesBy isInstanceOf (typeAt l a) (typeAt l b)) x y
-      same-lists h = passes-test l a b x y m z isInstanceOf (λ t u e f.
-          let L = lists t u e f in
-          let s = same-type l a b x y m z ba bb h t u e f in
-          list-test t u L ∙ ap (λ (q : Bool). q || eqTy (L .y) (leaf any)) (sym (same-inner t u L) ∙ ap (eqTy t) (sym s) ∙ eq-ty-self t))
+-- ---- the returns of `instance_list`, over whole arguments
+abbrev Answer : List ℕ → List ℕ → Bool
+Answer a b = isYes (asked isInstanceOf (readType a) (readType b))
 
-      pub other-lists : (getD b 1 0 ≡ 0x20 → ⊥) → (take x a ≡ take y b → ⊥) → (t : ℕ) → Met (typesBy isInstanceOf (typeAt l a) (typeAt l b)) 0 t
-      other-lists n h t = fails isInstanceOf l a b t (λ t u e f.
-          let L = lists t u e f in
-          list-test t u L ∙ ap₂ _||_ (sym (same-inner t u L) ∙ other-type l a b x y m z ba bb h t u e f) (any-eq (L .y) .1 (λ q. n (sym (L .inner) ∙ q))))
+module _ (a b : List ℕ) (c : getD a 0 0 ≡ 0x2A) where
+  no-answer : ((t u : Ty) → readType a ≡ done t → readType b ≡ done u → isInstanceOf t u ≡ false) → false ≡ Answer a b
+  no-answer f = answers-no whole-type whole-type isInstanceOf a b f
 
--- two others
-module _ (l : ℕ) (a b : List ℕ) (t : ℕ) where
-  pub commands-differ : (getD a 0 0 ≡ getD b 0 0 → ⊥) → Met (typesBy isInstanceOf (typeAt l a) (typeAt l b)) 0 t
-  commands-differ h = fails isInstanceOf l a b t (λ x y e f. differ x y (λ q. h (sym (cmd-is l a x e) ∙ q ∙ cmd-is l b y f)))
+  there-a : (t : Ty) → readType a ≡ done t → typeAt typeLevels a ≡ some t
+  there-a t e = whole-type .stands a t e
 
-  pub neither-kind : (getD a 0 0 ≡ 0x2A → ⊥) → (getD a 0 0 ≡ 0x2C → ⊥) → Met (typesBy isInstanceOf (typeAt l a) (typeAt l b)) 0 t
-  neither-kind h k = fails isInstanceOf l a b t (λ x y e f. other x y (λ q. h (sym (cmd-is l a x e) ∙ q)) (λ q. k (sym (cmd-is l a x e) ∙ q)))
+  there-b : (u : Ty) → readType b ≡ done u → typeAt typeLevels b ≡ some u
+  there-b u e = whole-type .stands b u e
+
+  pub list-short : length b < 2 → false ≡ Answer a b
+  list-short h = no-answer (λ t u e f. differ t u (λ q. let d = sym (cmd-is typeLevels b u (there-b u f)) ∙ sym q ∙ cmd-is typeLevels a t (there-a t e) ∙ c in omega (arith, lists typeLevels a b c d t u (there-a t e) (there-b u f) .two)))
+
+  pub list-apart : (getD b 0 0 ≡ 0x2A → ⊥) → false ≡ Answer a b
+  list-apart h = no-answer (λ t u e f. differ t u (λ q. h (sym (cmd-is typeLevels b u (there-b u f)) ∙ sym q ∙ cmd-is typeLevels a t (there-a t e) ∙ c)))
+
+  module _ (d : getD b 0 0 ≡ 0x2A) where
+    both-lists : (t u : Ty) → readType a ≡ done t → readType b ≡ done u → Lists b t u
+    both-lists t u e f = lists typeLevels a b c d t u (there-a t e) (there-b u f)
+
+    -- a list of Any has two bytes
+    pub list-over : getD b 1 0 ≡ 0x20 → (length b ≡ 2 → ⊥) → false ≡ Answer a b
+    unfolding size
+    list-over h n = no-answer (λ t u e f.
+        let L = both-lists t u e f in
+        let z = le-any (L .y) (L .y) (L .inner ∙ h) .0 in
+        let g = whole-type .fills b u f in
+        absurd (n (omega (arith, g .0, ap size (L .is-b)))))
+
+    module _ (n : ℕ) (ne : n ≡ sizeAt (typeAt typeLevels a)) (short : length a ≤ mostBytes) (some-a : 0 < length a) where
+      -- the first is no whole type
+      not-whole : eqb n (length a) ≡ false → false ≡ Answer a b
+      not-whole q = no-answer (λ t u e f. absurd (eqb-false n (length a) q (ne ∙ size-got (typeAt typeLevels a) t (there-a t e) ∙ whole-type .fills a t e .0)))
+
+      first-read : eqb n (length a) ≡ true → (t : Ty) × (readType a ≡ done t)
+      first-read q =
+          let k = eqb-true n (length a) q in
+          let S = sized typeLevels a n ne (λ z. omega arith) in
+          (S .x, whole-type .accepts a (S .x) (S .read) (sym (S .is) ∙ k) short)
+
+      by-first : ((t : Ty) → readType a ≡ done t → true ≡ Answer a b) → eqb n (length a) ≡ Answer a b
+      by-first f = go (eqb n (length a)) refl
+        where
+          go : (q : Bool) → eqb n (length a) ≡ q → eqb n (length a) ≡ Answer a b
+          go true q = q ∙ (let g = first-read q in f (g .0) (g .1))
+          go false q = q ∙ not-whole q
+
+      pub list-any : getD b 1 0 ≡ 0x20 → length b ≡ 2 → eqb n (length a) ≡ Answer a b
+      unfolding size mapO
+      list-any h k = by-first (λ t e.
+          let some-b : 0 < length b = omega arith in
+          let z = decode (getD (drop 1 b) 0 0 - 32) in
+          let i = getD-drop 1 b 0 0 in
+          let r : typeAt typeLevels b ≡ some (built (list (leaf z))) = node-list typeLevels b (omega arith) some-b d ∙ ap (mapO (λ w. built (list w))) (read-simple (typeLevels - 1) (drop 1 b) (omega arith) (simp length-drop (omega arith)) (omega arith) (omega arith)) in
+          let f = whole-type .accepts b (built (list (leaf z))) r (sym k) (omega arith) in
+          sym (ap isYes (both-read isInstanceOf (readType b) e f) ∙ list-of-any b t (built (list (leaf z))) (both-lists t (built (list (leaf z))) e f) h))
+
+      pub list-same : a ≡ b → eqb n (length a) ≡ Answer a b
+      list-same s = by-first (λ t e.
+          let f = ap readType (sym s) ∙ e in
+          sym (ap isYes (both-read isInstanceOf (readType b) e f) ∙ same-lists b t t (both-lists t t e f) refl))
+
+    pub list-differ : Bytes a → Bytes b → (getD b 1 0 ≡ 0x20 → ⊥) → (a ≡ b → ⊥) → false ≡ Answer a b
+    list-differ ba bb n s = no-answer (λ t u e f. other-lists b t u (both-lists t u e f) n (λ q. s (type-accepted a ba t e .bytes ∙ ap enc q ∙ sym (type-accepted b bb u f .bytes))))
+
+-- ---- the returns of `instance_context` and `is_instance`
+pub other-kinds : (a b : List ℕ) → (getD a 0 0 ≡ 0x2A → ⊥) → (getD a 0 0 ≡ 0x2C → ⊥) → false ≡ Answer a b
+other-kinds a b h k = answers-no whole-type whole-type isInstanceOf a b (λ t u e f. let g = cmd-is typeLevels a t (whole-type .stands a t e) in other t u (λ q. h (sym g ∙ q)) (λ q. k (sym g ∙ q)))
+
+pub nothing-first : (a b : List ℕ) → length a ≡ 0 → false ≡ Answer a b
+nothing-first a b z = answers-no whole-type whole-type isInstanceOf a b (λ t u e f. absurd (omega (arith, some-byte typeLevels a t (whole-type .stands a t e))))
+
+module _ (a b : List ℕ) (c : getD a 0 0 ≡ 0x2C) where
+  pub context-cut : (3 ≤ length a → ⊥) → false ≡ Answer a b
+  context-cut h = answers-no whole-type whole-type isInstanceOf a b (λ t u e f. absurd (h (is-ctx typeLevels a t (whole-type .stands a t e) c .three)))
+
+  -- the other is a context, or of another kind
+  beside : ((u : Ty) → readType b ≡ done u → getD b 0 0 ≡ 0x2C → ⊥) → false ≡ Answer a b
+  beside h = answers-no whole-type whole-type isInstanceOf a b (λ t u e f. differ t u (λ q. h u f (sym (cmd-is typeLevels b u (whole-type .stands b u f)) ∙ sym q ∙ cmd-is typeLevels a t (whole-type .stands a t e) ∙ c)))
+
+  pub context-short : (3 ≤ length b → ⊥) → false ≡ Answer a b
+  context-short h = beside (λ u f d. h (is-ctx typeLevels b u (whole-type .stands b u f) d .three))
+
+  pub context-apart : (getD b 0 0 ≡ 0x2C → ⊥) → false ≡ Answer a b
+  context-apart h = beside (λ u f d. h d)
 
 -- two contexts
 pub instance-contexts : (l : ℕ) (a b : List ℕ) → 0 < l → 0 < length a → 0 < length b → (r t n k : ℕ) → n ≡ numAt 2 1 a → k ≡ numAt 2 1 b → getD a 0 0 ≡ 44 → getD b 0 0 ≡ 44

@@ -2,13 +2,13 @@
 ghost use mathlib.Core.Path.{_≡_};
 ghost use mathlib.Core.Bool.{cond};
 ghost use Prim.Native.Nat.{_+_, _<_, _≤_, _^_};
-ghost use lib.ListN.{length, drop};
+ghost use lib.ListN.{length, drop, getD};
 ghost use lib.Dec.{ltb, eqb};
-ghost use Rattle.form.specs.Limits.{nameWidth, nameEnd};
+ghost use Rattle.form.specs.Limits.{nameWidth, nameEnd, mostBytes};
 ghost use Rattle.form.specs.Form.{numAt};
 ghost use Rattle.order.specs.Order.{fixed};
 ghost use Rattle.order.specs.Types.{le};
-ghost use Rattle.order.specs.Document.{nullOrSame, isInstanceOf};
+ghost use Rattle.order.specs.Document.{nullOrSame};
 ghost use Rattle.order.specs.Size.{size-fields};
 ghost use Rattle.types.specs.At.{typeAt, fieldsAt, sigAt, size-sig, sizeAt};
 ghost use Rattle.types.specs.Conform.{conformOf, conformBy, typesBy, entries, le-sig, anyTwo, sameSimple, grown, Met};
@@ -406,70 +406,52 @@ fn instance_fields(a: &[u8], n: usize, b: &[u8], m: usize, left: usize, other: &
     at + 3
 }
 
-// Whether the type at the front of `a` is an instance of the one at the front of `b`.
-fn instance(a: &[u8], b: &[u8], left: usize, other: &mut usize) -> usize
-    ensures { λ r. ⌜ Met (typesBy isInstanceOf (typeAt left (now (a .entry))) (typeAt left (now (b .entry)))) r (now (other .exit)) ⌝ }
-{
-    if left == 0 {
-        return 0;
-    }
-    if a.len() == 0 {
-        return 0;
-    }
-    if b.len() == 0 {
-        return 0;
-    }
-    let c = a[0];
-    if c != b[0] {
-        return 0;
-    }
-    match c {
-        0x2A => {
-            let x = skip_both(a, b, left, other);
-            if x == 0 {
-                return 0;
-            }
-            if b[1] == 0x20 {
-                return x;
-            }
-            let y = *other;
-            if check::same(&a[..x], &b[..y]) {
-                return x;
-            }
-            0
-        }
-        0x2C => {
-            if a.len() < 3 {
-                return 0;
-            }
-            if b.len() < 3 {
-                return 0;
-            }
-            instance_fields(
-                &a[3..],
-                form::word_at(a, 1),
-                &b[3..],
-                form::word_at(b, 1),
-                left - 1,
-                other,
-            )
-        }
-        _ => 0,
-    }
-}
-
-// Whether both are whole types and the first is an instance of the second.
-fn is_instance(a: &[u8], b: &[u8]) -> bool
+// Whether both are whole types, of which the first is a list type, and the first is an instance of the second: the other inner type is Any, or both are the same bytes.
+fn instance_list(a: &[u8], b: &[u8]) -> bool
+    requires { ⌜ (0 < length (now a)) × (length (now a) ≤ mostBytes) × (length (now b) ≤ mostBytes) × (getD (now a) 0 0 ≡ 42) ⌝ }
     ensures { λ r. ⌜ r ≡ isYes (instanceOf (now (a .entry)) (now (b .entry))) ⌝ }
 {
-    if MOST_BYTES < a.len() {
+    if b.len() < 2 {
         return false;
     }
-    if MOST_BYTES < b.len() {
+    if b[0] != 0x2A {
+        return false;
+    }
+    if b[1] == 0x20 {
+        if b.len() != 2 {
+            return false;
+        }
+        return skip(a, TYPE_LEVELS) == a.len();
+    }
+    if check::same(a, b) {
+        return skip(a, TYPE_LEVELS) == a.len();
+    }
+    false
+}
+
+// The same for context types: each name of the second is in the first with Null or the equal type.
+fn instance_context(a: &[u8], b: &[u8]) -> bool
+    requires { ⌜ (0 < length (now a)) × (length (now a) ≤ mostBytes) × (length (now b) ≤ mostBytes) × (getD (now a) 0 0 ≡ 44) ⌝ }
+    ensures { λ r. ⌜ r ≡ isYes (instanceOf (now (a .entry)) (now (b .entry))) ⌝ }
+{
+    if a.len() < 3 {
+        return false;
+    }
+    if b.len() < 3 {
+        return false;
+    }
+    if b[0] != 0x2C {
         return false;
     }
     let mut other: usize = 0;
-    let size = instance(a, b, TYPE_LEVELS, &mut other);
+    let size = instance_fields(
+        &a[3..],
+        form::word_at(a, 1),
+        &b[3..],
+        form::word_at(b, 1),
+        TYPE_LEVELS - 1,
+        &mut other,
+    );
     if size == 0 {
         return false;
     }
@@ -477,6 +459,26 @@ fn is_instance(a: &[u8], b: &[u8]) -> bool
         return false;
     }
     other == b.len()
+}
+
+// Whether both are whole types and the first is an instance of the second.
+fn is_instance(a: &[u8], b: &[u8]) -> bool
+    ensures { λ r. ⌜ r ≡ isYes (instanceOf (now (a .entry)) (now (b .entry))) ⌝ }
+{
+    if a.len() == 0 {
+        return false;
+    }
+    if MOST_BYTES < a.len() {
+        return false;
+    }
+    if MOST_BYTES < b.len() {
+        return false;
+    }
+    match a[0] {
+        0x2A => instance_list(a, b),
+        0x2C => instance_context(a, b),
+        _ => false,
+    }
 }
 
 // `FeelType::instance_of`.

@@ -1,4 +1,4 @@
--- What stands at the front of the bytes of a value, for the walks that come after the reader: the reader's tree without its size.
+-- What stands at the front of the bytes of a value, for the walks over values: the reader's tree without its size.
 -- Assumes nothing.
 use Prim.Native.Nat.{ℕ, _+_}
 use mathlib.Core.Option.{Option, none, some}
