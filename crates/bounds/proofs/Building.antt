@@ -10,15 +10,17 @@ use borrow.Rule.Slice.PartMut.{putMid}
 use Rattle.form.specs.Trees.{Simple, any, boolean, number, string, date, time, dateTime, daysAndTime, yearsAndMonths, null, code, Ty, leaf, built, list, range, context, function, Fields, no-params}
 use Rattle.form.specs.Form.{numAt, enc, encFields, countFields, countTys}
 use Rattle.form.specs.Answers.{onto}
+use Rattle.form.proofs.Runs.{rest, length-rest}
 use Rattle.order.specs.Order.{Dir, top, bottom}
 use Rattle.order.specs.Size.{size, size-fields}
 use Rattle.order.proofs.Size.{size-positive}
 use Rattle.types.specs.At.{typeAt, fieldsAt, Sig, funOf, sigAt, sizeAt}
-use Rattle.types.proofs.Reading.{rest, cmd, cmd-is, some-byte, some-level, is-list, is-range, is-ctx, is-fun, t-good, size-fun}
+use Rattle.types.proofs.Reading.{cmd, cmd-is, some-byte, some-level, is-list, is-range, is-ctx, is-fun, t-good, size-fun}
 use Rattle.types.proofs.Entries.{size-got}
 use Rattle.bounds.specs.Writing.{answer, answerFields, answerSig, encSig, Joining, ofTypes, ofFields, ofSigs, mostAnswer, Ready, Wrote, Combined, Counted}
-use Rattle.bounds.proofs.Laws.{length-rest, onto-first, onto-two, onto-three, late-three, back}
-use Rattle.bounds.proofs.Trees.{enc-ctx, enc-fun, count-size, countSig, sig-count, count-answer, functions, functions-none, functions-other, lists, ranges, contexts, self, same-simple, least, least-right, other, leaves}
+use Rattle.bounds.proofs.Laws.{onto-first, onto-two, onto-three, late-three, back}
+use Rattle.bounds.proofs.Trees.{enc-ctx, enc-fun, count-size, countSig, sig-count, count-answer, functions, functions-none, functions-other, lists, ranges, contexts, self, same-simple, least}
+use Rattle.bounds.proofs.Trees.{least-right, other, leaves}
 
 -- ---- the predicates of the contracts, in and out
 module _ {X : Type 0} (J : Joining X) where
@@ -80,9 +82,11 @@ module _ (d : Dir) (l : ℕ) (a b : List ℕ) (n : ℕ) (p : Ready (ofTypes d) (
       (g .0, self d (K .u) (t-good l b (K .u) (K .read-b) .0) ∙ sym (g .1))
 
   pub left-ready : getD a 0 0 ≡ 32 + code (bottom d) → Ready (ofTypes d) (typeAt l b) (typeAt l b) n
-  left-ready c = ready (ofTypes d) (typeAt l b) (typeAt l b) (K .u) (K .u) n (K .read-b) (K .read-b) (omega (arith, K .room, ap size (left-least c .1))) (omega (arith, K .cap, ap size (left-least c .1)))
+  left-ready c = ready (ofTypes d) (typeAt l b) (typeAt l b) (K .u) (K .u) n (K .read-b) (K .read-b) (omega (arith, K .room, ap size (left-least c .1)))
+      (omega (arith, K .cap, ap size (left-least c .1)))
 
-  pub left-done : getD a 0 0 ≡ 32 + code (bottom d) → (old new : List ℕ) (i j w : ℕ) → Combined (ofTypes d) (typeAt l b) (typeAt l b) old new i j w → Combined (ofTypes d) (typeAt l a) (typeAt l b) old new 1 j w
+  pub left-done : getD a 0 0 ≡ 32 + code (bottom d) → (old new : List ℕ) (i j w : ℕ) → Combined (ofTypes d) (typeAt l b) (typeAt l b) old new i j w
+      → Combined (ofTypes d) (typeAt l a) (typeAt l b) old new 1 j w
   left-done c old new i j w h =
       let g = combined-is (ofTypes d) (typeAt l b) (typeAt l b) (K .u) (K .u) old new i j w (K .read-b) (K .read-b) h in
       is-combined (ofTypes d) (typeAt l a) (typeAt l b) (K .t) (K .u) old new 1 j w (K .read-a) (K .read-b)
@@ -94,34 +98,46 @@ module _ (d : Dir) (l : ℕ) (a b : List ℕ) (n : ℕ) (p : Ready (ofTypes d) (
       (g .0, self d (K .t) (t-good l a (K .t) (K .read-a) .0) ∙ sym (g .1))
 
   pub right-ready : getD b 0 0 ≡ 32 + code (bottom d) → Ready (ofTypes d) (typeAt l a) (typeAt l a) n
-  right-ready c = ready (ofTypes d) (typeAt l a) (typeAt l a) (K .t) (K .t) n (K .read-a) (K .read-a) (omega (arith, K .room, ap size (right-least c .1))) (omega (arith, K .cap, ap size (right-least c .1)))
+  right-ready c = ready (ofTypes d) (typeAt l a) (typeAt l a) (K .t) (K .t) n (K .read-a) (K .read-a) (omega (arith, K .room, ap size (right-least c .1)))
+      (omega (arith, K .cap, ap size (right-least c .1)))
 
-  pub right-done : getD b 0 0 ≡ 32 + code (bottom d) → (old new : List ℕ) (i j w : ℕ) → Combined (ofTypes d) (typeAt l a) (typeAt l a) old new i j w → Combined (ofTypes d) (typeAt l a) (typeAt l b) old new i 1 w
+  pub right-done : getD b 0 0 ≡ 32 + code (bottom d) → (old new : List ℕ) (i j w : ℕ) → Combined (ofTypes d) (typeAt l a) (typeAt l a) old new i j w
+      → Combined (ofTypes d) (typeAt l a) (typeAt l b) old new i 1 w
   right-done c old new i j w h =
       let g = combined-is (ofTypes d) (typeAt l a) (typeAt l a) (K .t) (K .t) old new i j w (K .read-a) (K .read-a) h in
       is-combined (ofTypes d) (typeAt l a) (typeAt l b) (K .t) (K .u) old new i 1 w (K .read-a) (K .read-b)
       (record { one = g .one; two = sym (right-least c .0); long = g .long ∙ ap size (right-least c .1); out = g .out ∙ ap (λ (z : Ty). onto (enc z) old) (right-least c .1) })
 
   -- the answer is a known tree, whose bytes were written, and both inputs were skipped
-  known : (T : Ty) → answer d (K .t) (K .u) ≡ T → (old new : List ℕ) → new ≡ onto (enc T) old → (x y w : ℕ) → x ≡ sizeAt (typeAt l a) → y ≡ sizeAt (typeAt l b) → w ≡ size T → Combined (ofTypes d) (typeAt l a) (typeAt l b) old new x y w
+  known : (T : Ty) → answer d (K .t) (K .u) ≡ T → (old new : List ℕ) → new ≡ onto (enc T) old → (x y w : ℕ) → x ≡ sizeAt (typeAt l a) → y ≡ sizeAt (typeAt l b) → w ≡ size T
+      → Combined (ofTypes d) (typeAt l a) (typeAt l b) old new x y w
   known T s old new en x y w ex ey ew =
       is-combined (ofTypes d) (typeAt l a) (typeAt l b) (K .t) (K .u) old new x y w (K .read-a) (K .read-b)
-      (record { one = ex ∙ size-got (typeAt l a) (K .t) (K .read-a); two = ey ∙ size-got (typeAt l b) (K .u) (K .read-b); long = ew ∙ sym (ap size s); out = en ∙ ap (λ (z : Ty). onto (enc z) old) (sym s) })
+      (record {
+        one = ex ∙ size-got (typeAt l a) (K .t) (K .read-a);
+        two = ey ∙ size-got (typeAt l b) (K .u) (K .read-b);
+        long = ew ∙ sym (ap size s);
+        out = en
+            ∙ ap (λ (z : Ty). onto (enc z) old) (sym s);
+      })
 
   leaf-bytes : (s : Simple) → (enc (leaf s) ≡ (32 + code s) ∷ []) × (size (leaf s) ≡ 1)
   unfolding enc size
   leaf-bytes s = (refl, refl)
 
   -- the answer is the greatest
-  pub top-done : answer d (K .t) (K .u) ≡ leaf (top d) → (old : List ℕ) → n ≡ length old → (x y : ℕ) → x ≡ sizeAt (typeAt l a) → y ≡ sizeAt (typeAt l b) → Combined (ofTypes d) (typeAt l a) (typeAt l b) old (set old 0 (32 + code (top d))) x y 1
+  pub top-done : answer d (K .t) (K .u) ≡ leaf (top d) → (old : List ℕ) → n ≡ length old → (x y : ℕ) → x ≡ sizeAt (typeAt l a) → y ≡ sizeAt (typeAt l b)
+      → Combined (ofTypes d) (typeAt l a) (typeAt l b) old (set old 0 (32 + code (top d))) x y 1
   top-done s old en x y ex ey =
       let o = one in
       let g = leaf-bytes (top d) in
       known (leaf (top d)) s old (set old 0 (32 + code (top d))) (onto-first old (32 + code (top d)) (omega arith) ∙ ap (λ (z : List ℕ). onto z old) (sym (g .0))) x y 1 ex ey (sym (g .1))
 
-  pub other-done : (getD a 0 0 ≡ getD b 0 0 → ⊥) → (getD a 0 0 ≡ 32 + code (bottom d) → ⊥) → (getD b 0 0 ≡ 32 + code (bottom d) → ⊥) → (old : List ℕ) → n ≡ length old → (x y : ℕ) → x ≡ sizeAt (typeAt l a) → y ≡ sizeAt (typeAt l b) → Combined (ofTypes d) (typeAt l a) (typeAt l b) old (set old 0 (32 + code (top d))) x y 1
+  pub other-done : (getD a 0 0 ≡ getD b 0 0 → ⊥) → (getD a 0 0 ≡ 32 + code (bottom d) → ⊥) → (getD b 0 0 ≡ 32 + code (bottom d) → ⊥) → (old : List ℕ) → n ≡ length old → (x y : ℕ)
+      → x ≡ sizeAt (typeAt l a) → y ≡ sizeAt (typeAt l b) → Combined (ofTypes d) (typeAt l a) (typeAt l b) old (set old 0 (32 + code (top d))) x y 1
   other-done h ca cb =
-      top-done (other d (K .t) (K .u) (λ z. h (sym (cmd-is l a (K .t) (K .read-a)) ∙ z ∙ cmd-is l b (K .u) (K .read-b))) (λ z. ca (sym (cmd-is l a (K .t) (K .read-a)) ∙ z)) (λ z. cb (sym (cmd-is l b (K .u) (K .read-b)) ∙ z)))
+      top-done (other d (K .t) (K .u) (λ z. h (sym (cmd-is l a (K .t) (K .read-a)) ∙ z ∙ cmd-is l b (K .u) (K .read-b))) (λ z. ca (sym (cmd-is l a (K .t) (K .read-a)) ∙ z))
+      (λ z. cb (sym (cmd-is l b (K .u) (K .read-b)) ∙ z)))
 
 -- ---- two things inside the two types, k bytes behind their starts
 pub record Inner (d : Dir) (l : ℕ) (a b : List ℕ) (n : ℕ) {X : Type 0} (J : Joining X) (k : ℕ) (ga gb : Option X) : Type 0 where
@@ -148,8 +164,12 @@ module _ {d : Dir} {l : ℕ} {a b : List ℕ} {n : ℕ} {X : Type 0} {J : Joinin
 
     pub inner-ends : (i + k ≤ length a) × (j + k ≤ length b) × (w + k ≤ n)
     inner-ends =
-        let g = inner-wrote in
-        (omega (arith, g .one, I .longer (I .x), t-good l a (I .mk (I .x)) (I .read-a) .1), omega (arith, g .two, I .longer (I .y), t-good l b (I .mk (I .y)) (I .read-b) .1), omega (arith, g .long, I .room))
+        let g = inner-wrote in (
+          omega (arith, g .one, I .longer (I .x), t-good l a (I .mk (I .x)) (I .read-a) .1),
+          omega (arith, g .two, I .longer (I .y), t-good l b (I .mk (I .y)) (I .read-b) .1),
+          omega
+              (arith, g .long, I .room),
+        )
 
     pub inner-done : (all new : List ℕ) → new ≡ onto (enc (I .mk (J .join (I .x) (I .y)))) all → Combined (ofTypes d) (typeAt l a) (typeAt l b) all new (i + k) (j + k) (w + k)
     inner-done all new e =
@@ -245,12 +265,19 @@ module _ (d : Dir) (l : ℕ) (a b : List ℕ) (n : ℕ) (p : Ready (ofTypes d) (
           let s = leaves d (x .0) (y .0) (same-simple (x .0) (y .0) (ca ∙ same ∙ sym cb)) in
           let o = one d l a b n p in
           is-combined (ofTypes d) (typeAt l a) (typeAt l b) (leaf (x .0)) (leaf (y .0)) old _ 1 1 1 ea eb
-          (record { one = refl; two = refl; long = sym (ap size s); out = onto-first old (getD a 0 0) (omega arith) ∙ ap (λ (z : ℕ). onto (z ∷ []) old) (sym ca) ∙ ap (λ (z : Ty). onto (enc z) old) (sym s) })
+          (record {
+            one = refl;
+            two = refl;
+            long = sym (ap size s);
+            out = onto-first old (getD a 0 0) (omega arith) ∙ ap (λ (z : ℕ). onto (z ∷ []) old) (sym ca)
+                ∙ ap (λ (z : Ty). onto (enc z) old) (sym s);
+          })
 
   pub wrapped : 42 ≤ getD a 0 0 → getD a 0 0 < 44 → Wrapped d l a b n (getD a 0 0)
   wrapped lo hi = go (getD a 0 0 - 42) refl
     where
-      in-list : getD a 0 0 ≡ 42 → (x : Ty) × (typeAt (l - 1) (drop 1 a) ≡ some x) × (B .t ≡ built (list x)) → (y : Ty) × (typeAt (l - 1) (drop 1 b) ≡ some y) × (B .u ≡ built (list y)) → Wrapped d l a b n (getD a 0 0)
+      in-list : getD a 0 0 ≡ 42 → (x : Ty) × (typeAt (l - 1) (drop 1 a) ≡ some x) × (B .t ≡ built (list x)) → (y : Ty) × (typeAt (l - 1) (drop 1 b) ≡ some y) × (B .u ≡ built (list y))
+          → Wrapped d l a b n (getD a 0 0)
       in-list c x y =
           let s = ap₂ (answer d) (x .2) (y .2) ∙ lists d (x .0) (y .0) in
           record {
@@ -270,7 +297,8 @@ module _ (d : Dir) (l : ℕ) (a b : List ℕ) (n : ℕ) (p : Ready (ofTypes d) (
             byte = λ t. size-list t .1 ∙ ap (λ (z : ℕ). z ∷ enc t) (sym c);
           }
 
-      in-range : getD a 0 0 ≡ 43 → (x : Ty) × (typeAt (l - 1) (drop 1 a) ≡ some x) × (B .t ≡ built (range x)) → (y : Ty) × (typeAt (l - 1) (drop 1 b) ≡ some y) × (B .u ≡ built (range y)) → Wrapped d l a b n (getD a 0 0)
+      in-range : getD a 0 0 ≡ 43 → (x : Ty) × (typeAt (l - 1) (drop 1 a) ≡ some x) × (B .t ≡ built (range x)) → (y : Ty) × (typeAt (l - 1) (drop 1 b) ≡ some y) × (B .u ≡ built (range y))
+          → Wrapped d l a b n (getD a 0 0)
       in-range c x y =
           let s = ap₂ (answer d) (x .2) (y .2) ∙ ranges d (x .0) (y .0) in
           record {
@@ -339,7 +367,9 @@ module _ (d : Dir) (l : ℕ) (a b : List ℕ) (n : ℕ) (p : Ready (ofTypes d) (
       }
 
 -- the list or range was written
-pub wrapped-done : {d : Dir} {l : ℕ} {a b : List ℕ} {n c : ℕ} (W : Wrapped d l a b n c) (old ys : List ℕ) (i j w : ℕ) → n ≡ length old → Combined (ofTypes d) (typeAt (l - 1) (behind 1 a)) (typeAt (l - 1) (behind 1 b)) (behind 1 (set old 0 c)) ys i j w → Combined (ofTypes d) (typeAt l a) (typeAt l b) old (putMid 1 (length (set old 0 c) - 1) (set old 0 c) ys) (i + 1) (j + 1) (w + 1)
+pub wrapped-done : {d : Dir} {l : ℕ} {a b : List ℕ} {n c : ℕ} (W : Wrapped d l a b n c) (old ys : List ℕ) (i j w : ℕ) → n ≡ length old
+    → Combined (ofTypes d) (typeAt (l - 1) (behind 1 a)) (typeAt (l - 1) (behind 1 b)) (behind 1 (set old 0 c)) ys i j w
+    → Combined (ofTypes d) (typeAt l a) (typeAt l b) old (putMid 1 (length (set old 0 c) - 1) (set old 0 c) ys) (i + 1) (j + 1) (w + 1)
 wrapped-done {d} {l} {a} {b} {n} {c} W old ys i j w en h =
     let I = W .inner in
     let g = inner-wrote I (behind 1 (set old 0 c)) ys i j w h in
@@ -348,7 +378,9 @@ wrapped-done {d} {l} {a} {b} {n} {c} W old ys i j w en h =
     (back (c ∷ []) (enc (answer d (I .x) (I .y))) old (set old 0 c) ys 1 (onto-first old c some) refl some (g .out) ∙ ap (λ (z : List ℕ). onto z old) (sym (W .byte (answer d (I .x) (I .y)))))
 
 -- ---- the contexts were written; their count is stored last
-module _ (d : Dir) (l : ℕ) (a b : List ℕ) (n : ℕ) (p : Ready (ofTypes d) (typeAt l a) (typeAt l b) n) (same : getD a 0 0 ≡ getD b 0 0) (c : getD a 0 0 ≡ 44) (i j : ℕ) (ei : i ≡ numAt 2 1 a) (ej : j ≡ numAt 2 1 b) (old ys : List ℕ) (u v w k : ℕ) (en : n ≡ length old) (h : Combined (ofFields d) (fieldsAt (l - 1) i 0 (behind 3 a)) (fieldsAt (l - 1) j 0 (behind 3 b)) (behind 3 old) ys u v w) (m : Counted d (fieldsAt (l - 1) i 0 (behind 3 a)) (fieldsAt (l - 1) j 0 (behind 3 b)) k) where
+module _ (d : Dir) (l : ℕ) (a b : List ℕ) (n : ℕ) (p : Ready (ofTypes d) (typeAt l a) (typeAt l b) n) (same : getD a 0 0 ≡ getD b 0 0) (c : getD a 0 0 ≡ 44) (i j : ℕ) (ei : i ≡ numAt 2 1 a)
+    (ej : j ≡ numAt 2 1 b) (old ys : List ℕ) (u v w k : ℕ) (en : n ≡ length old) (h : Combined (ofFields d) (fieldsAt (l - 1) i 0 (behind 3 a)) (fieldsAt (l - 1) j 0 (behind 3 b))
+    (behind 3 old) ys u v w) (m : Counted d (fieldsAt (l - 1) i 0 (behind 3 a)) (fieldsAt (l - 1) j 0 (behind 3 b)) k) where
   abbrev C : Inner d l a b n (ofFields d) 3 (fieldsAt (l - 1) i 0 (behind 3 a)) (fieldsAt (l - 1) j 0 (behind 3 b))
   C = in-contexts d l a b n p same c i j ei ej
 
@@ -358,7 +390,8 @@ module _ (d : Dir) (l : ℕ) (a b : List ℕ) (n : ℕ) (p : Ready (ofTypes d) (
   pub ctx-count : k < 65536
   ctx-count = omega (arith, ctx-counted, C .cap, count-size (answerFields d (C .x) (C .y)))
 
-  pub ctx-done : (lo hi : ℕ) → lo ≡ k % 256 → hi ≡ k / 256 → Combined (ofTypes d) (typeAt l a) (typeAt l b) old (set (set (set (putMid 3 (length old - 3) old ys) 0 44) 1 lo) 2 hi) (u + 3) (v + 3) (w + 3)
+  pub ctx-done : (lo hi : ℕ) → lo ≡ k % 256 → hi ≡ k / 256 → Combined (ofTypes d) (typeAt l a) (typeAt l b) old (set (set (set (putMid 3 (length old - 3) old ys) 0 44) 1 lo) 2 hi) (u + 3) (v + 3)
+      (w + 3)
   ctx-done lo hi el eh =
       let g = inner-wrote C (behind 3 old) ys u v w h in
       let R = answerFields d (C .x) (C .y) in
@@ -371,15 +404,23 @@ module _ (d : Dir) (l : ℕ) (a b : List ℕ) (n : ℕ) (p : Ready (ofTypes d) (
 -- ---- functions
 module _ {d : Dir} {l : ℕ} {a b : List ℕ} {n : ℕ} (F : Functions d l a b n) where
   -- both were skipped
-  fun-known : (T : Ty) → answer d (funOf (F .f)) (funOf (F .g)) ≡ T → (old new : List ℕ) → new ≡ onto (enc T) old → (x y w : ℕ) → x ≡ sizeAt (typeAt l a) → y ≡ sizeAt (typeAt l b) → w ≡ size T → Combined (ofTypes d) (typeAt l a) (typeAt l b) old new x y w
+  fun-known : (T : Ty) → answer d (funOf (F .f)) (funOf (F .g)) ≡ T → (old new : List ℕ) → new ≡ onto (enc T) old → (x y w : ℕ) → x ≡ sizeAt (typeAt l a) → y ≡ sizeAt (typeAt l b) → w ≡ size T
+      → Combined (ofTypes d) (typeAt l a) (typeAt l b) old new x y w
   fun-known T s old new en x y w ex ey ew =
       is-combined (ofTypes d) (typeAt l a) (typeAt l b) (funOf (F .f)) (funOf (F .g)) old new x y w (F .read-a) (F .read-b)
-      (record { one = ex ∙ size-got (typeAt l a) (funOf (F .f)) (F .read-a); two = ey ∙ size-got (typeAt l b) (funOf (F .g)) (F .read-b); long = ew ∙ sym (ap size s); out = en ∙ ap (λ (z : Ty). onto (enc z) old) (sym s) })
+      (record {
+        one = ex ∙ size-got (typeAt l a) (funOf (F .f)) (F .read-a);
+        two = ey ∙ size-got (typeAt l b) (funOf (F .g)) (F .read-b);
+        long = ew ∙ sym (ap size s);
+        out = en
+            ∙ ap (λ (z : Ty). onto (enc z) old) (sym s);
+      })
 
   pub fun-one : 1 ≤ n
   fun-one = omega (arith, F .room, size-positive (answer d (funOf (F .f)) (funOf (F .g))))
 
-  pub fun-other : (getD a 1 0 ≡ getD b 1 0 → ⊥) → (old : List ℕ) → n ≡ length old → (x y : ℕ) → x ≡ sizeAt (typeAt l a) → y ≡ sizeAt (typeAt l b) → Combined (ofTypes d) (typeAt l a) (typeAt l b) old (set old 0 (32 + code (top d))) x y 1
+  pub fun-other : (getD a 1 0 ≡ getD b 1 0 → ⊥) → (old : List ℕ) → n ≡ length old → (x y : ℕ) → x ≡ sizeAt (typeAt l a) → y ≡ sizeAt (typeAt l b)
+      → Combined (ofTypes d) (typeAt l a) (typeAt l b) old (set old 0 (32 + code (top d))) x y 1
   unfolding enc size
   fun-other h old en x y ex ey =
       let o = fun-one in
@@ -396,7 +437,8 @@ module _ {d : Dir} {l : ℕ} {a b : List ℕ} {n : ℕ} (F : Functions d l a b n
     pub fun-none-room : getD a 1 0 ≡ 0 → 3 ≤ n
     fun-none-room z = omega (arith, F .room, ap size (functions-none d (F .f) (F .g) counts (F .count-a ∙ z)), none-size .0)
 
-    pub fun-none : getD a 1 0 ≡ 0 → (old : List ℕ) → n ≡ length old → (x y : ℕ) → x ≡ sizeAt (typeAt l a) → y ≡ sizeAt (typeAt l b) → Combined (ofTypes d) (typeAt l a) (typeAt l b) old (set (set (set old 0 45) 1 (getD a 1 0)) 2 32) x y 3
+    pub fun-none : getD a 1 0 ≡ 0 → (old : List ℕ) → n ≡ length old → (x y : ℕ) → x ≡ sizeAt (typeAt l a) → y ≡ sizeAt (typeAt l b)
+        → Combined (ofTypes d) (typeAt l a) (typeAt l b) old (set (set (set old 0 45) 1 (getD a 1 0)) 2 32) x y 3
     fun-none z old en x y ex ey =
         let o = fun-none-room z in
         let g = none-size in
@@ -426,7 +468,9 @@ module _ {d : Dir} {l : ℕ} {a b : List ℕ} {n : ℕ} (F : Functions d l a b n
       pub fun-two : 2 ≤ n
       fun-two = omega (arith, in-sigs (getD a 1 0) refl .room)
 
-      pub fun-done : (k : ℕ) (ek : k ≡ getD a 1 0) (old ys : List ℕ) (u v w : ℕ) → n ≡ length old → Combined (ofSigs d) (sigAt (l - 1) k (behind 2 a)) (sigAt (l - 1) k (behind 2 b)) (behind 2 (set (set old 0 45) 1 (getD a 1 0))) ys u v w → Combined (ofTypes d) (typeAt l a) (typeAt l b) old (putMid 2 (length (set (set old 0 45) 1 (getD a 1 0)) - 2) (set (set old 0 45) 1 (getD a 1 0)) ys) (u + 2) (v + 2) (w + 2)
+      pub fun-done : (k : ℕ) (ek : k ≡ getD a 1 0) (old ys : List ℕ) (u v w : ℕ) → n ≡ length old
+          → Combined (ofSigs d) (sigAt (l - 1) k (behind 2 a)) (sigAt (l - 1) k (behind 2 b)) (behind 2 (set (set old 0 45) 1 (getD a 1 0))) ys u v w
+          → Combined (ofTypes d) (typeAt l a) (typeAt l b) old (putMid 2 (length (set (set old 0 45) 1 (getD a 1 0)) - 2) (set (set old 0 45) 1 (getD a 1 0)) ys) (u + 2) (v + 2) (w + 2)
       fun-done k ek old ys u v w en h =
           let I = in-sigs k ek in
           let g = inner-wrote I _ ys u v w h in

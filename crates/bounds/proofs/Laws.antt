@@ -11,6 +11,7 @@ use borrow.Rule.Slice.PartMut.{putMid, same-len-mid}
 use Rattle.form.specs.Form.{bytes, numAt, Bytes}
 use Rattle.form.proofs.Numbers.{bytes-num, bytes-take}
 use Rattle.form.proofs.Exact.{bytes-drop}
+use Rattle.form.proofs.Runs.{rest}
 use Rattle.form.specs.Answers.{onto}
 use Rattle.bounds.specs.Writing.{over}
 
@@ -22,13 +23,6 @@ onto-nil old = refl
 pub length-onto : (p old : List ℕ) → length p ≤ length old → length (onto p old) ≡ length old
 unfolding onto
 length-onto p old h = simp (length-append, length-drop) (omega arith)
-
--- the part `&s[n..]` is the rest of s
-pub rest {ℓ} : {A : Type ℓ} (s : List A) (n : ℕ) → take (length s - n) (drop n s) ≡ drop n s
-rest s n = take-all (length s - n) (drop n s) (simp length-drop (omega arith))
-
-pub length-rest : (s : List ℕ) (n : ℕ) → length (take (length s - n) (drop n s)) ≡ length s - n
-length-rest s n = ap length (rest s n) ∙ length-drop n s
 
 -- the next byte is stored
 pub onto-set : (p old : List ℕ) (n b : ℕ) → length p ≡ n → n < length old → set (onto p old) n b ≡ onto (p ++ (b ∷ [])) old
@@ -105,7 +99,8 @@ name-bytes k at s bs h =
     sym (bytes-num k (take k (drop at s)) l (bytes-take k (drop at s) (bytes-drop at s bs)))
 
 -- three bytes that are stored after the rest
-pub late-three : (old ys bs : List ℕ) (p q r : ℕ) → 3 ≤ length old → ys ≡ onto bs (take (length old - 3) (drop 3 old)) → set (set (set (putMid 3 (length old - 3) old ys) 0 p) 1 q) 2 r ≡ onto (p ∷ q ∷ r ∷ bs) old
+pub late-three : (old ys bs : List ℕ) (p q r : ℕ) → 3 ≤ length old → ys ≡ onto bs (take (length old - 3) (drop 3 old))
+    → set (set (set (putMid 3 (length old - 3) old ys) 0 p) 1 q) 2 r ≡ onto (p ∷ q ∷ r ∷ bs) old
 unfolding onto
 late-three [] ys bs p q r h e = absurd (omega arith)
 late-three (x ∷ []) ys bs p q r h e = absurd (omega arith)

@@ -12,12 +12,13 @@ use lib.ListN.{length, getD, drop}
 use Rattle.form.specs.Trees.{Simple, Ty, leaf, built, list, range, context, Fields, no-fields, field, no-params, param}
 use Rattle.form.specs.Limits.{nameWidth}
 use Rattle.form.specs.Form.{numAt, countTys}
+use Rattle.form.proofs.Runs.{rest}
 use Rattle.order.specs.Order.{fixed}
 use Rattle.order.specs.Types.{reduce, reduce-fields}
 use Rattle.order.specs.Size.{size, size-fields}
 use Rattle.order.proofs.Size.{size-reduce}
 use Rattle.types.specs.At.{typeAt, fieldsAt, Sig, sig, cons, funOf, size-sig, sigAt, Ok, sizeAt}
-use Rattle.types.proofs.Reading.{rest, is-ok, ok-got, cmd-is, some-byte, some-level, is-list, is-range, is-ctx, is-fun, t-good, size-fun, size-cons}
+use Rattle.types.proofs.Reading.{is-ok, ok-got, cmd-is, some-byte, some-level, is-list, is-range, is-ctx, is-fun, t-good, size-fun, size-cons}
 use Rattle.types.proofs.Entries.{Here, here, gone, size-entry, size-got}
 use Rattle.bounds.specs.Writing.{reduceSig, Measured, Roomy}
 use Rattle.bounds.proofs.Trees.{size-field, size-none, size-result, countSig, sig-count}
@@ -200,7 +201,19 @@ entries-start l a n p = go (ok-got (fieldsAt l n 0 a) p)
     go : (x : Fields) × (fieldsAt l n 0 a ≡ some x) → EntriesInv l a n 0 0 0
     go x =
         let en : n - 0 ≡ n = omega arith in
-        record { all = x .0; fs = x .0; least = 0; whole = x .1; below = omega arith; within = omega arith; low = omega arith; read = ap (λ (z : ℕ). fieldsAt l z 0 a) en ∙ x .1; sizes = omega arith; short = omega arith }
+        record {
+          all = x .0;
+          fs = x .0;
+          least = 0;
+          whole = x .1;
+          below = omega arith;
+          within = omega arith;
+          low = omega arith;
+          read = ap (λ (z : ℕ). fieldsAt l z 0 a) en
+              ∙ x .1;
+          sizes = omega arith;
+          short = omega arith;
+        }
 
 module _ {l : ℕ} {a : List ℕ} {n at to i : ℕ} (v : EntriesInv l a n at to i) where
   module _ (h : i < n) where
@@ -226,7 +239,8 @@ module _ {l : ℕ} {a : List ℕ} {n at to i : ℕ} (v : EntriesInv l a n at to 
       pub entry-next : EntriesInv l a n (at + nameWidth + r) (to + nameWidth + s) (i + 1)
       entry-next =
           let g = entry-is in
-          let shorter = ap (λ (z : Fields). size-fields (reduce-fields fixed z)) (A .is) ∙ ap size-fields (reduce-field (A .name) (A .t) (A .more)) ∙ size-field (A .name) (reduce fixed (A .t)) (reduce-fields fixed (A .more)) in
+          let shorter = ap (λ (z : Fields). size-fields (reduce-fields fixed z)) (A .is) ∙ ap size-fields (reduce-field (A .name) (A .t) (A .more))
+          ∙ size-field (A .name) (reduce fixed (A .t)) (reduce-fields fixed (A .more)) in
           record {
             all = v .all;
             fs = A .more;
@@ -265,7 +279,18 @@ parameters-start l a n p = go (ok-got (sigAt l n a) p)
     go : (x : Sig) × (sigAt l n a ≡ some x) → ParametersInv l a n 0 0 0
     go x =
         let en : n - 0 ≡ n = omega arith in
-        record { all = x .0; f = x .0; whole = x .1; below = omega arith; within = omega arith; low = omega arith; read = ap (λ (z : ℕ). sigAt l z a) en ∙ x .1; sizes = omega arith; short = omega arith }
+        record {
+          all = x .0;
+          f = x .0;
+          whole = x .1;
+          below = omega arith;
+          within = omega arith;
+          low = omega arith;
+          read = ap (λ (z : ℕ). sigAt l z a) en
+              ∙ x .1;
+          sizes = omega arith;
+          short = omega arith;
+        }
 
 module _ {l : ℕ} {a : List ℕ} {n at to i : ℕ} (v : ParametersInv l a n at to i) where
   module _ (h : i < n) where

@@ -15,16 +15,17 @@ use Rattle.form.specs.Limits.{nameWidth, nameEnd}
 use Rattle.form.specs.Form.{bytes, numAt, enc, encFields, countFields}
 use Rattle.form.specs.Answers.{onto}
 use Rattle.form.proofs.Numbers.{length-bytes}
+use Rattle.form.proofs.Runs.{rest, length-rest}
 use Rattle.order.specs.Order.{Dir, up, down, fixed}
 use Rattle.order.specs.Ascending.{AscFields}
 use Rattle.order.specs.Size.{size, size-fields}
 use Rattle.order.proofs.Size.{length-enc, length-fields}
 use Rattle.order.proofs.Sentences.{sup-fields-first, sup-fields-second, sub-fields-first, sub-fields-second}
 use Rattle.types.specs.At.{typeAt, fieldsAt, sizeAt}
-use Rattle.types.proofs.Reading.{rest, t-good}
+use Rattle.types.proofs.Reading.{t-good}
 use Rattle.types.proofs.Entries.{Here, here, gone, ahead, next-is, size-entry, size-got}
 use Rattle.bounds.specs.Writing.{answer, answerFields, ofTypes, ofFields, mostAnswer, Ready, Combined, Counted, over}
-use Rattle.bounds.proofs.Laws.{onto-nil, back, back-length, length-rest, over-onto, length-over}
+use Rattle.bounds.proofs.Laws.{onto-nil, back, back-length, over-onto, length-over}
 use Rattle.bounds.proofs.Trees.{enc-field, enc-none, size-field, size-none, count-field, count-none, count-size, fields-none, fields-both, self}
 use Rattle.bounds.proofs.Building.{both, Both, ready, is-combined, combined-is, is-counted, behind}
 
@@ -63,7 +64,8 @@ pub record Peeked (a : List ℕ) (n : ℕ) (b : List ℕ) (m at i bt j x y : ℕ
   pub low : x ≤ nameEnd
   pub low2 : y ≤ nameEnd
 
-pub fields-start : (d : Dir) (l : ℕ) (a : List ℕ) (n : ℕ) (b : List ℕ) (m : ℕ) (old : List ℕ) → Ready (ofFields d) (fieldsAt l n 0 a) (fieldsAt l m 0 b) (length old) → FieldsInv d l a n b m old old 0 0 0 0 0 0
+pub fields-start : (d : Dir) (l : ℕ) (a : List ℕ) (n : ℕ) (b : List ℕ) (m : ℕ) (old : List ℕ) → Ready (ofFields d) (fieldsAt l n 0 a) (fieldsAt l m 0 b) (length old)
+    → FieldsInv d l a n b m old old 0 0 0 0 0 0
 fields-start d l a n b m old p = go (both (ofFields d) (fieldsAt l n 0 a) (fieldsAt l m 0 b) (length old) p)
   where
     go : Both (ofFields d) (fieldsAt l n 0 a) (fieldsAt l m 0 b) (length old) → FieldsInv d l a n b m old old 0 0 0 0 0 0
@@ -217,7 +219,15 @@ module _ {d : Dir} {l : ℕ} {a : List ℕ} {n : ℕ} {b : List ℕ} {m : ℕ} {
     entry-room = omega (arith, v .room, v .out-len, sized)
 
     left : size-fields (answerFields d (v .fs) (v .gs)) ≤ mostAnswer
-    left = omega (arith, v .cap, ap length (v .text), length-append (v .done) (encFields (answerFields d (v .fs) (v .gs))), length-fields (answerFields d (v .fs) (v .gs)), length-fields (answerFields d (v .all-a) (v .all-b)))
+    left = omega (
+      arith,
+      v .cap,
+      ap length (v .text),
+      length-append (v .done) (encFields (answerFields d (v .fs) (v .gs))),
+      length-fields (answerFields d (v .fs) (v .gs)),
+      length-fields
+          (answerFields d (v .all-a) (v .all-b)),
+    )
 
     pub entry-cap : size U ≤ mostAnswer
     entry-cap = omega (arith, left, sized)
@@ -229,7 +239,8 @@ module _ {d : Dir} {l : ℕ} {a : List ℕ} {n : ℕ} {b : List ℕ} {m : ℕ} {
       pub entry-ready : (x y : Option Ty) (t u : Ty) → x ≡ some t → y ≡ some u → answer d t u ≡ U → Ready (ofTypes d) x y (length (behind (to + nameWidth) T))
       entry-ready x y t u ex ey s = ready (ofTypes d) x y t u _ ex ey (omega (arith, entry-room, length-rest T (to + nameWidth), entry-length, ap size s)) (omega (arith, entry-cap, ap size s))
 
-      advance : {at′ i′ bt′ j′ : ℕ} → Rest at′ i′ bt′ j′ fs′ gs′ → (ns : List ℕ) (w : ℕ) → w ≡ size U → ns ≡ onto (enc U) (behind (to + nameWidth) T) → length ns ≡ length (behind (to + nameWidth) T) → FieldsInv d l a n b m old (putMid (to + nameWidth) (length T - (to + nameWidth)) T ns) at′ i′ bt′ j′ (to + nameWidth + w) (k + 1)
+      advance : {at′ i′ bt′ j′ : ℕ} → Rest at′ i′ bt′ j′ fs′ gs′ → (ns : List ℕ) (w : ℕ) → w ≡ size U → ns ≡ onto (enc U) (behind (to + nameWidth) T) → length ns ≡ length (behind (to + nameWidth) T)
+          → FieldsInv d l a n b m old (putMid (to + nameWidth) (length T - (to + nameWidth)) T ns) at′ i′ bt′ j′ (to + nameWidth + w) (k + 1)
       advance R ns w ew en el =
           let N = bytes nameWidth name in
           let W = enc U in
@@ -271,7 +282,8 @@ module _ {d : Dir} {l : ℕ} {a : List ℕ} {n : ℕ} {b : List ℕ} {m : ℕ} {
           }
 
       -- a callee wrote it
-      pub written : (x y : Option Ty) (t u : Ty) → x ≡ some t → y ≡ some u → answer d t u ≡ U → (ns : List ℕ) (e f w : ℕ) → Combined (ofTypes d) x y (behind (to + nameWidth) T) ns e f w → (e ≡ size t) × (f ≡ size u) × (w ≡ size U) × (ns ≡ onto (enc U) (behind (to + nameWidth) T))
+      pub written : (x y : Option Ty) (t u : Ty) → x ≡ some t → y ≡ some u → answer d t u ≡ U → (ns : List ℕ) (e f w : ℕ) → Combined (ofTypes d) x y (behind (to + nameWidth) T) ns e f w
+          → (e ≡ size t) × (f ≡ size u) × (w ≡ size U) × (ns ≡ onto (enc U) (behind (to + nameWidth) T))
       written x y t u ex ey s ns e f w h =
           let g = combined-is (ofTypes d) x y t u (behind (to + nameWidth) T) ns e f w ex ey h in
           (g .one, g .two, g .long ∙ ap size s, g .out ∙ ap (λ (z : Ty). onto (enc z) (behind (to + nameWidth) T)) s)
@@ -317,7 +329,8 @@ module _ {d : Dir} {l : ℕ} {a : List ℕ} {n : ℕ} {b : List ℕ} {m : ℕ} {
       abbrev B : Here l (m - (j + 1)) bt (v .least-b) b (v .gs)
       B = entry-b (more-b (omega arith))
 
-      in-step : (A : Here l (n - (i + 1)) at (v .least-a) a (v .fs)) (B : Here l (m - (j + 1)) bt (v .least-b) b (v .gs)) → A .name ≡ B .name → answerFields d (v .fs) (v .gs) ≡ field (A .name) (answer d (A .t) (B .t)) (answerFields d (A .more) (B .more))
+      in-step : (A : Here l (n - (i + 1)) at (v .least-a) a (v .fs)) (B : Here l (m - (j + 1)) bt (v .least-b) b (v .gs)) → A .name ≡ B .name
+          → answerFields d (v .fs) (v .gs) ≡ field (A .name) (answer d (A .t) (B .t)) (answerFields d (A .more) (B .more))
       in-step A B e = ap₂ (answerFields d) (A .is) (B .is ∙ ap (λ (z : ℕ). field z (B .t) (B .more)) (sym e)) ∙ fields-both d (A .name) (A .t) (B .t) (A .more) (B .more) (A .asc)
 
       now : answerFields d (v .fs) (v .gs) ≡ field (A .name) (answer d (A .t) (B .t)) (answerFields d (A .more) (B .more))
@@ -347,13 +360,21 @@ module _ {d : Dir} {l : ℕ} {a : List ℕ} {n : ℕ} {b : List ℕ} {m : ℕ} {
           both-wrote = written (A .name) (answer d (A .t) (B .t)) (A .more) (B .more) now T copied _ _ (A .t) (B .t) part-a part-b refl ns e f w h
 
           pub both-ends : (at + nameWidth + e ≤ length a) × (bt + nameWidth + f ≤ length b) × (to + nameWidth + w ≤ length out)
-          both-ends = (omega (arith, both-wrote .0, A .fits), omega (arith, both-wrote .1, B .fits), omega (arith, both-wrote .2, entry-room (A .name) (answer d (A .t) (B .t)) (A .more) (B .more) now))
+          both-ends = (
+            omega (arith, both-wrote .0, A .fits),
+            omega (arith, both-wrote .1, B .fits),
+            omega
+                (arith, both-wrote .2, entry-room (A .name) (answer d (A .t) (B .t)) (A .more) (B .more) now),
+          )
 
-          pub both-next : length ns ≡ length (behind (to + nameWidth) T) → FieldsInv d l a n b m old (putMid (to + nameWidth) (length T - (to + nameWidth)) T ns) (at + nameWidth + e) (i + 1) (bt + nameWidth + f) (j + 1) (to + nameWidth + w) (k + 1)
-          both-next el = advance (A .name) (answer d (A .t) (B .t)) (A .more) (B .more) now T copied (rest-both (rest-a (more-a less) A e (both-wrote .0)) (rest-b (more-b (omega arith)) B f (both-wrote .1))) ns w (both-wrote .2) (both-wrote .3) el
+          pub both-next : length ns ≡ length (behind (to + nameWidth) T) → FieldsInv d l a n b m old (putMid (to + nameWidth) (length T - (to + nameWidth)) T ns) (at + nameWidth + e) (i + 1)
+              (bt + nameWidth + f) (j + 1) (to + nameWidth + w) (k + 1)
+          both-next el = advance (A .name) (answer d (A .t) (B .t)) (A .more) (B .more) now T copied
+              (rest-both (rest-a (more-a less) A e (both-wrote .0)) (rest-b (more-b (omega arith)) B f (both-wrote .1))) ns w (both-wrote .2) (both-wrote .3) el
 
 -- ---- supertype: a name of one side only is passed over
-module _ {l : ℕ} {a : List ℕ} {n : ℕ} {b : List ℕ} {m : ℕ} {old out : List ℕ} {at i bt j to k : ℕ} (v : FieldsInv up l a n b m old out at i bt j to k) {x y : ℕ} (pk : Peeked a n b m at i bt j x y) where
+module _ {l : ℕ} {a : List ℕ} {n : ℕ} {b : List ℕ} {m : ℕ} {old out : List ℕ} {at i bt j to k : ℕ} (v : FieldsInv up l a n b m old out at i bt j to k) {x y : ℕ}
+    (pk : Peeked a n b m at i bt j x y) where
   module _ (q : x < y) (z : ℕ) (e : z ≡ sizeAt (typeAt l (behind (at + nameWidth) a))) where
     abbrev SA : Here l (n - (i + 1)) at (v .least-a) a (v .fs)
     SA = entry-a v (more-a v pk (omega arith))
@@ -389,7 +410,8 @@ module _ {l : ℕ} {a : List ℕ} {n : ℕ} {b : List ℕ} {m : ℕ} {old out : 
             (ap (λ (f : Fields). answerFields up (v .fs) f) (B .is) ∙ sup-fields-second fixed (v .fs) (B .name) (suc (B .name)) (B .t) (B .more) w (omega arith))
 
 -- ---- subtype: a name of one side only is written with its reduced type
-module _ {l : ℕ} {a : List ℕ} {n : ℕ} {b : List ℕ} {m : ℕ} {old out : List ℕ} {at i bt j to k : ℕ} (v : FieldsInv down l a n b m old out at i bt j to k) {x y : ℕ} (pk : Peeked a n b m at i bt j x y) where
+module _ {l : ℕ} {a : List ℕ} {n : ℕ} {b : List ℕ} {m : ℕ} {old out : List ℕ} {at i bt j to k : ℕ} (v : FieldsInv down l a n b m old out at i bt j to k) {x y : ℕ}
+    (pk : Peeked a n b m at i bt j x y) where
   module _ (q : x < y) where
     abbrev OA : Here l (n - (i + 1)) at (v .least-a) a (v .fs)
     OA = entry-a v (more-a v pk (omega arith))
@@ -397,7 +419,8 @@ module _ {l : ℕ} {a : List ℕ} {n : ℕ} {b : List ℕ} {m : ℕ} {old out : 
     only-a : (A : Here l (n - (i + 1)) at (v .least-a) a (v .fs)) → answerFields down (v .fs) (v .gs) ≡ field (A .name) (answer down (A .t) (A .t)) (answerFields down (A .more) (v .gs))
     only-a A =
         let w : AscFields (v .gs) (suc (A .name)) = ahead l j m bt (v .least-b) b (v .gs) (v .in-b) (v .read-b) (A .name) y (pk .second) (omega (arith, A .named, name-a v pk (omega arith) .1)) in
-        ap (λ (f : Fields). answerFields down f (v .gs)) (A .is) ∙ sub-fields-first fixed (A .name) (A .t) (A .more) (v .gs) (A .asc) w ∙ ap (λ (z : Ty). field (A .name) z (answerFields down (A .more) (v .gs))) (sym (self down (A .t) (t-good l (drop (at + nameWidth) a) (A .t) (A .first) .0)))
+        ap (λ (f : Fields). answerFields down f (v .gs)) (A .is) ∙ sub-fields-first fixed (A .name) (A .t) (A .more) (v .gs) (A .asc) w
+        ∙ ap (λ (z : Ty). field (A .name) z (answerFields down (A .more) (v .gs))) (sym (self down (A .t) (t-good l (drop (at + nameWidth) a) (A .t) (A .first) .0)))
 
     pub a-room : to + nameWidth ≤ length out
     a-room = omega (arith, entry-room v (OA .name) (answer down (OA .t) (OA .t)) (OA .more) (v .gs) (only-a OA))
@@ -422,8 +445,10 @@ module _ {l : ℕ} {a : List ℕ} {n : ℕ} {b : List ℕ} {m : ℕ} {old out : 
         pub a-ends : (at + nameWidth + e ≤ length a) × (to + nameWidth + w ≤ length out)
         a-ends = (omega (arith, a-wrote .0, OA .fits), omega (arith, a-wrote .2, entry-room v (OA .name) (answer down (OA .t) (OA .t)) (OA .more) (v .gs) (only-a OA)))
 
-        pub a-next : length ns ≡ length (behind (to + nameWidth) T) → FieldsInv down l a n b m old (putMid (to + nameWidth) (length T - (to + nameWidth)) T ns) (at + nameWidth + e) (i + 1) bt j (to + nameWidth + w) (k + 1)
-        a-next el = advance v (OA .name) (answer down (OA .t) (OA .t)) (OA .more) (v .gs) (only-a OA) T copied-a (rest-a v (more-a v pk (omega arith)) OA e (a-wrote .0)) ns w (a-wrote .2) (a-wrote .3) el
+        pub a-next : length ns ≡ length (behind (to + nameWidth) T) → FieldsInv down l a n b m old (putMid (to + nameWidth) (length T - (to + nameWidth)) T ns) (at + nameWidth + e) (i + 1) bt j
+            (to + nameWidth + w) (k + 1)
+        a-next el = advance v (OA .name) (answer down (OA .t) (OA .t)) (OA .more) (v .gs) (only-a OA) T copied-a (rest-a v (more-a v pk (omega arith)) OA e (a-wrote .0)) ns w (a-wrote .2)
+            (a-wrote .3) el
 
   module _ (q : y < x) where
     abbrev OB : Here l (m - (j + 1)) bt (v .least-b) b (v .gs)
@@ -432,7 +457,8 @@ module _ {l : ℕ} {a : List ℕ} {n : ℕ} {b : List ℕ} {m : ℕ} {old out : 
     only-b : (B : Here l (m - (j + 1)) bt (v .least-b) b (v .gs)) → answerFields down (v .fs) (v .gs) ≡ field (B .name) (answer down (B .t) (B .t)) (answerFields down (v .fs) (B .more))
     only-b B =
         let w : AscFields (v .fs) (suc (B .name)) = ahead l i n at (v .least-a) a (v .fs) (v .in-a) (v .read-a) (B .name) x (pk .first) (omega (arith, B .named, name-b v pk (omega arith) .1)) in
-        ap (λ (f : Fields). answerFields down (v .fs) f) (B .is) ∙ sub-fields-second fixed (v .fs) (B .name) (suc (B .name)) (B .t) (B .more) w (omega arith) ∙ ap (λ (z : Ty). field (B .name) z (answerFields down (v .fs) (B .more))) (sym (self down (B .t) (t-good l (drop (bt + nameWidth) b) (B .t) (B .first) .0)))
+        ap (λ (f : Fields). answerFields down (v .fs) f) (B .is) ∙ sub-fields-second fixed (v .fs) (B .name) (suc (B .name)) (B .t) (B .more) w (omega arith)
+        ∙ ap (λ (z : Ty). field (B .name) z (answerFields down (v .fs) (B .more))) (sym (self down (B .t) (t-good l (drop (bt + nameWidth) b) (B .t) (B .first) .0)))
 
     pub b-room : to + nameWidth ≤ length out
     b-room = omega (arith, entry-room v (OB .name) (answer down (OB .t) (OB .t)) (v .fs) (OB .more) (only-b OB))
@@ -457,5 +483,7 @@ module _ {l : ℕ} {a : List ℕ} {n : ℕ} {b : List ℕ} {m : ℕ} {old out : 
         pub b-ends : (bt + nameWidth + e ≤ length b) × (to + nameWidth + w ≤ length out)
         b-ends = (omega (arith, b-wrote .0, OB .fits), omega (arith, b-wrote .2, entry-room v (OB .name) (answer down (OB .t) (OB .t)) (v .fs) (OB .more) (only-b OB)))
 
-        pub b-next : length ns ≡ length (behind (to + nameWidth) T) → FieldsInv down l a n b m old (putMid (to + nameWidth) (length T - (to + nameWidth)) T ns) at i (bt + nameWidth + e) (j + 1) (to + nameWidth + w) (k + 1)
-        b-next el = advance v (OB .name) (answer down (OB .t) (OB .t)) (v .fs) (OB .more) (only-b OB) T copied-b (rest-b v (more-b v pk (omega arith)) OB e (b-wrote .0)) ns w (b-wrote .2) (b-wrote .3) el
+        pub b-next : length ns ≡ length (behind (to + nameWidth) T) → FieldsInv down l a n b m old (putMid (to + nameWidth) (length T - (to + nameWidth)) T ns) at i (bt + nameWidth + e) (j + 1)
+            (to + nameWidth + w) (k + 1)
+        b-next el = advance v (OB .name) (answer down (OB .t) (OB .t)) (v .fs) (OB .more) (only-b OB) T copied-b (rest-b v (more-b v pk (omega arith)) OB e (b-wrote .0)) ns w (b-wrote .2)
+            (b-wrote .3) el

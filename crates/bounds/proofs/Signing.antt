@@ -11,14 +11,15 @@ use borrow.Rule.Slice.PartMut.{putMid}
 use Rattle.form.specs.Trees.{Ty, no-params}
 use Rattle.form.specs.Form.{enc}
 use Rattle.form.specs.Answers.{onto}
+use Rattle.form.proofs.Runs.{rest, length-rest}
 use Rattle.order.specs.Order.{Dir, flip}
 use Rattle.order.specs.Size.{size}
 use Rattle.order.proofs.Size.{length-enc}
 use Rattle.types.specs.At.{typeAt, Sig, sig, cons, size-sig, sigAt}
-use Rattle.types.proofs.Reading.{rest, t-good, Then, parameter, result, size-cons}
+use Rattle.types.proofs.Reading.{t-good, Then, parameter, result, size-cons}
 use Rattle.types.proofs.Entries.{step}
 use Rattle.bounds.specs.Writing.{answer, answerSig, encSig, ofTypes, ofSigs, mostAnswer, Ready, Wrote, Combined}
-use Rattle.bounds.proofs.Laws.{onto-nil, back, back-length, length-rest}
+use Rattle.bounds.proofs.Laws.{onto-nil, back, back-length}
 use Rattle.bounds.proofs.Trees.{enc-cons, enc-result, size-result, length-sig, answer-cons, answer-result}
 use Rattle.bounds.proofs.Building.{both, Both, ready, is-combined, combined-is, behind}
 
@@ -121,7 +122,15 @@ last l i n at a f h k e = let z : n - i ≡ 0 = omega arith in go (result l (dro
 
 module _ {d : Dir} {l : ℕ} {a b : List ℕ} {n : ℕ} {old out : List ℕ} {at bt to i : ℕ} (v : SigInv d l a b n old out at bt to i) where
   left : size-sig (answerSig d (v .f) (v .g)) ≤ mostAnswer
-  left = omega (arith, v .cap, ap length (v .text), length-append (v .done) (encSig (answerSig d (v .f) (v .g))), length-sig (answerSig d (v .f) (v .g)), length-sig (answerSig d (v .all-a) (v .all-b)))
+  left = omega (
+    arith,
+    v .cap,
+    ap length (v .text),
+    length-append (v .done) (encSig (answerSig d (v .f) (v .g))),
+    length-sig (answerSig d (v .f) (v .g)),
+    length-sig
+        (answerSig d (v .all-a) (v .all-b)),
+  )
 
   -- U was written at `to`
   wrote-at : (U : Ty) (ns : List ℕ) → to + size U ≤ length old → ns ≡ onto (enc U) (behind to out) → putMid to (length out - to) out ns ≡ onto (v .done ++ enc U) old

@@ -5,13 +5,14 @@ use native.Mathlib.Omega.{arith}
 use mathlib.Core.Path.{_≡_, refl, sym, ap, ap₂, subst, _∙_}
 use mathlib.Core.Bool.{Bool, true, false, not, cond, _&&_, _||_, false≢true}
 use mathlib.Core.Option.{Option, none, some}
-use mathlib.Core.List.{List, [], _∷_, _++_, append-nil}
+use mathlib.Core.List.{List, [], _∷_, append-nil}
 use lib.ListN.{length, getD, take, drop, set, length-set, length-drop}
 use lib.Dec.{leb, eqb}
 use borrow.Author.Tests.{le-leb, lt-leb, eq-eqb, ne-eqb}
 use borrow.Rule.Slice.PartMut.{putMid}
 use Rattle.form.specs.Limits.{typeLevels, valueLevels, mostBytes, valueRefusals}
-use Rattle.form.specs.Trees.{any, boolean, number, string, date, time, dateTime, daysAndTime, yearsAndMonths, null, code, Ty, leaf, built, list, range, context, function, no-params, param, Val, v-list, v-built-in, Vals, no-items, item}
+use Rattle.form.specs.Trees.{any, boolean, number, string, date, time, dateTime, daysAndTime, yearsAndMonths, null, Ty, leaf, built, list, range, context, function, no-params, param, Val, v-list}
+use Rattle.form.specs.Trees.{v-built-in, Vals, no-items, item}
 use Rattle.form.specs.Form.{Bytes, bytes, numAt, encV, encLeaf, countVals, levelV}
 use Rattle.form.specs.Layout.{kindOf}
 use Rattle.form.specs.Outcome.{done, refused, _>>=_, _>>_, check, fits}
@@ -23,6 +24,7 @@ use Rattle.form.proofs.Exact.{bytes-drop}
 use Rattle.form.proofs.Nodes.{NodeV, nNull, nBoolean, nNumber, nString, nTemporal, nRangeV, nListV, nContextV, nDefinition, nBuiltIn, nType, nIrrelevant, value-read}
 use Rattle.form.proofs.Types.{type-told}
 use Rattle.form.proofs.Values.{value-accepted, value-told, read-upV}
+use Rattle.form.proofs.Runs.{rest, length-rest}
 use Rattle.order.specs.Types.{cmp}
 use Rattle.order.specs.Size.{size, size-val}
 use Rattle.order.specs.Document.{conformsTo}
@@ -31,7 +33,7 @@ use Rattle.order.proofs.Size.{size-positive, size-val-positive}
 use Rattle.types.specs.At.{seen, typeAt, Ok}
 use Rattle.types.specs.Conform.{judge, conformBy, conformOf, Met}
 use Rattle.types.specs.Calls.{isYes}
-use Rattle.types.proofs.Reading.{rest, is-ok, ok-got, seen-got, got-seen, cmd, cmd-is, some-byte, is-list}
+use Rattle.types.proofs.Reading.{is-ok, ok-got, seen-got, got-seen, cmd, cmd-is, some-byte, is-list}
 use Rattle.types.proofs.Calling.{whole-type}
 use Rattle.values.specs.At.{valueAt, itemsAt}
 use Rattle.values.specs.Held.{held}
@@ -40,9 +42,8 @@ use Rattle.values.proofs.Calling.{whole-value}
 use Rattle.values.proofs.Definitions.{type-up}
 use Rattle.values.proofs.Reading as reading
 use Rattle.values.proofs.Reading.{next-item, no-item}
-use Rattle.bounds.proofs.Laws.{onto-three, back, length-onto, length-rest}
+use Rattle.bounds.proofs.Laws.{onto-three, back, length-onto}
 use Rattle.bounds.proofs.Outcomes.{built-refused, built-short, built-wrote}
-use Rattle.retrieval.specs.Retrieve.{nothing}
 use Rattle.retrieval.specs.Filling.{Accepted}
 use Rattle.retrieval.specs.Calls.{result}
 use Rattle.retrieval.proofs.Calling.{not-held}
@@ -274,7 +275,8 @@ module _ (t v : List ℕ) (A : Accepted t v) where
   pub item-no : getD v 0 0 ≡ 0x0A → (n : ℕ) → n ≡ numAt 2 1 v → (n ≡ 1 → ⊥) → SaysAt itemConforms v t false
   item-no c n e h =
       let L = listed c in
-      says itemConforms false (sym (ap (λ x. itemConforms x (A .type)) (L .is) ∙ not-one (L .vs) (A .type) (λ z. h (e ∙ sym (item-count (valueLevels - 1) (numAt 2 1 v) (drop 3 v) (L .vs) (L .read)) ∙ z))))
+      says itemConforms false (sym (ap (λ x. itemConforms x (A .type)) (L .is) ∙ not-one (L .vs) (A .type)
+      (λ z. h (e ∙ sym (item-count (valueLevels - 1) (numAt 2 1 v) (drop 3 v) (L .vs) (L .read)) ∙ z))))
 
   is-one : (vs : Vals) (u : Ty) → item-conforms vs u ≡ true → countVals vs ≡ 1
   unfolding countVals
@@ -478,7 +480,8 @@ module _ (v : List ℕ) (lv : ℕ) (old : List ℕ) where
           wrap-same = ap length new-is ∙ length-onto (10 ∷ 1 ∷ 0 ∷ v) old (omega arith)
 
           pub wrap-done : Built (wrapped v lv (length old)) old (putMid 3 (length (set (set (set old 0 10) 1 1) 2 0) - 3) (set (set (set old 0 10) 1 1) 2 0) ys) (written-is.Bytes (length v + 3))
-          wrap-done = built-wrote (wrapped v lv (length old)) (0x0A ∷ 1 ∷ 0 ∷ v) old (putMid 3 (length (set (set (set old 0 10) 1 1) 2 0) - 3) (set (set (set old 0 10) 1 1) 2 0) ys) (length v + 3) wrap-is (omega arith) (omega arith) new-is
+          wrap-done = built-wrote (wrapped v lv (length old)) (0x0A ∷ 1 ∷ 0 ∷ v) old (putMid 3 (length (set (set (set old 0 10) 1 1) 2 0) - 3) (set (set (set old 0 10) 1 1) 2 0) ys)
+              (length v + 3) wrap-is (omega arith) (omega arith) new-is
 
 -- ---- arguments that are refused
 pub first-refused : (v t : List ℕ) (n k : ℕ) → readValue v ≡ refused n → coercedCall v t k ≡ refused n

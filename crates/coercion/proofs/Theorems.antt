@@ -1,20 +1,19 @@
 -- What is proved of coercion: when it fails, that coercing again changes nothing, and that on data values it is DMN's implicit conversion.
 -- Assumes nothing.
-use Prim.Native.Nat.{ℕ}
-use native.Mathlib.Omega.{arith}
 use mathlib.Core.Path.{_≡_, refl, sym, ap, _∙_}
 use mathlib.Core.Bool.{Bool, true, false, cond, _&&_, _||_, false≢true}
 use mathlib.Core.Logic.{_↔_}
-use Rattle.form.specs.Trees.{Simple, any, null, Ty, leaf, built, list, range, context, function, Leaf, l-null, l-boolean, l-number, l-string, l-temporal, Val, v-leaf, v-range, v-list, v-context, v-function, v-built-in, v-type, v-irrelevant, Vals, no-items, item, Entries}
+use Rattle.form.specs.Trees.{Ty, leaf, built, list, range, context, function, Leaf, l-null, l-boolean, l-number, l-string, l-temporal, Val, v-leaf, v-range, v-list, v-context, v-function, v-built-in}
+use Rattle.form.specs.Trees.{v-type, v-irrelevant, Vals, no-items, item}
 use Rattle.order.specs.Order.{fixed}
 use Rattle.order.specs.Types.{cmp}
-use Rattle.order.specs.Values.{conforms, all-conform, is-data, are-data}
+use Rattle.order.specs.Values.{conforms, is-data, are-data}
 use Rattle.order.specs.Dmn.{dmnConformsTo}
 use Rattle.order.specs.Inferred.{valueConformsTo, isData, leastType}
 use Rattle.order.proofs.DataDmn.{data-is-dmn}
 use Rattle.ranges.specs.Ranges.{bifType}
 use Rattle.order.specs.Document.{conformsTo}
-use Rattle.coercion.specs.Coerce.{failed, single, unchanged, item-conforms, itemConforms, first-item, innerConforms, converted, coerced}
+use Rattle.coercion.specs.Coerce.{failed, single, unchanged, item-conforms, first-item, innerConforms, converted, coerced}
 use Rattle.coercion.specs.Dmn.{dmn-from, dmn-to, dmn-converted, dmnCoerced}
 
 -- a rule of the last two applies

@@ -55,9 +55,11 @@ module _ {X : Type 0} (enc : X → List ℕ) (good : X → Type 0) (lv : X → �
       go : (a b : Bool) → leb (length s) mostBytes ≡ b → (do check base a; check base b; all base (length s) (read s)) ≡ done x → Accepted enc good lv most s x
       go false b be ee = absurd (refused-done ee)
       go true false be ee = absurd (refused-done ee)
-      go true true be ee = all-parts base (length s) (read s) x ee (λ r. let F = snd s bs x (length s) r in record { bytes = found-whole F; well = F .well; low = F .low; short = leb-true (length s) mostBytes be })
+      go true true be ee = all-parts base (length s) (read s) x ee (λ r. let F = snd s bs x (length s) r in record
+          { bytes = found-whole F; well = F .well; low = F .low; short = leb-true (length s) mostBytes be })
 
-  pub whole-accepts : ((x : X) → good x → lv x ≤ most → (r : List ℕ) → read (enc x ++ r) ≡ got x (length (enc x))) → ((x : X) → 0 < length (enc x)) → (s : List ℕ) (x : X) → Accepted enc good lv most s x → readWhole base read s ≡ done x
+  pub whole-accepts : ((x : X) → good x → lv x ≤ most → (r : List ℕ) → read (enc x ++ r) ≡ got x (length (enc x))) → ((x : X) → 0 < length (enc x)) → (s : List ℕ) (x : X)
+      → Accepted enc good lv most s x → readWhole base read s ≡ done x
   unfolding readWhole _>>_
   whole-accepts back some s x A =
       let r : read (enc x) ≡ got x (length (enc x)) = rw append-nil at (back x (A .well) (A .low) []) in

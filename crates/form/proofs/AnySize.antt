@@ -1,7 +1,7 @@
 -- Without the limit on levels there is no refusal for a level.
 -- Assumes nothing.
-use Prim.Native.Nat.{ℕ, zero, suc, _+_, _*_, _-_, _<_, _≤_}
-use mathlib.Core.Path.{_≡_, refl, sym, ap, _∙_}
+use Prim.Native.Nat.{ℕ, zero, suc, _+_, _-_, _≤_}
+use mathlib.Core.Path.{_≡_}
 use mathlib.Core.Bool.{Bool, true, false}
 use mathlib.Core.List.{List, [], _∷_}
 use native.Mathlib.Omega.{arith}
@@ -12,7 +12,8 @@ use Rattle.form.specs.Layout.{TypeKind, tSimple, tList, tRange, tContext
 use Rattle.form.specs.Limits.{nameWidth, typeRefusals}
 use Rattle.form.specs.Outcome.{done, refused, pick}
 use Rattle.form.specs.Form.{num}
-use Rattle.form.specs.Read.{Got, got, bad, front, andThen, orElse, operand, named, readRun, readNamed, readFields, readTys, ascending, counted, readFunction, stepType, stepT, readT, numberOf, all, readAnyType}
+use Rattle.form.specs.Read.{Got, got, bad, front, andThen, orElse, operand, named, readRun, readNamed, readFields, readTys, ascending, counted, readFunction, stepType, stepT, readT, numberOf}
+use Rattle.form.specs.Read.{all, readAnyType}
 use Rattle.form.specs.Faults.{Fault, Shape, Names, Level}
 
 -- a fault that is not of the level
@@ -63,7 +64,8 @@ module _ {X R : Type 0} (nil : R) (child : List ℕ → Got X) (l : ℕ) (ok : F
   named-fair cons next (suc c) least s h =
       let q = shorter nameWidth l s h in
       operand-fair nameWidth (named cons (λ j. readNamed nil cons next child c (next j)) child least) s
-      (or-fair Names (leb least (num (take nameWidth s))) (andThen (cons (num (take nameWidth s))) nameWidth (drop nameWidth s) (readNamed nil cons next child c (next (num (take nameWidth s)))) (child (drop nameWidth s))) tt
+      (or-fair Names (leb least (num (take nameWidth s))) (andThen (cons (num (take nameWidth s))) nameWidth (drop nameWidth s) (readNamed nil cons next child c (next (num (take nameWidth s))))
+      (child (drop nameWidth s))) tt
       (then-fair (cons (num (take nameWidth s))) nameWidth (drop nameWidth s) (readNamed nil cons next child c (next (num (take nameWidth s)))) (child (drop nameWidth s)) (ok (drop nameWidth s) q)
       (λ (n : ℕ). named-fair cons next c (next (num (take nameWidth s))) (drop n (drop nameWidth s)) (shorter n l (drop nameWidth s) q))))
 
@@ -73,9 +75,11 @@ module _ (child : List ℕ → Got Ty) (l : ℕ) (ok : FairUp child l) where
   type-fair tSimple b s h = tt
   type-fair tList b s h = front-fair (λ t. built (list t)) 1 (child s) (ok s h)
   type-fair tRange b s h = front-fair (λ t. built (range t)) 1 (child s) (ok s h)
-  type-fair tContext b s h = operand-fair 2 (λ c r. front (λ fs. built (context fs)) 3 (readFields child c 0 r)) s (front-fair (λ fs. built (context fs)) 3 (readFields child (num (take 2 s)) 0 (drop 2 s)) (named-fair no-fields child l ok field ascending (num (take 2 s)) 0 (drop 2 s) (shorter 2 l s h)))
+  type-fair tContext b s h = operand-fair 2 (λ c r. front (λ fs. built (context fs)) 3 (readFields child c 0 r)) s
+      (front-fair (λ fs. built (context fs)) 3 (readFields child (num (take 2 s)) 0 (drop 2 s)) (named-fair no-fields child l ok field ascending (num (take 2 s)) 0 (drop 2 s) (shorter 2 l s h)))
   type-fair tFunction b [] h = tt
-  type-fair tFunction b (c ∷ s) h = then-fair (λ ts t. built (function ts t)) 2 s child (readTys child c s) (run-fair no-params child l ok param c s (omega arith)) (λ (n : ℕ). ok (drop n s) (shorter n l s (omega arith)))
+  type-fair tFunction b (c ∷ s) h = then-fair (λ ts t. built (function ts t)) 2 s child (readTys child c s) (run-fair no-params child l ok param c s (omega arith))
+      (λ (n : ℕ). ok (drop n s) (shorter n l s (omega arith)))
 
   step-fair : (k : Kind) (b : ℕ) (s : List ℕ) → length s ≤ l → Fair (stepT child k b s)
   unfolding stepT

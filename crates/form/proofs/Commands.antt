@@ -7,7 +7,8 @@ use native.Mathlib.Omega.{arith}
 use lib.Dec.{ltb, eqb}
 use borrow.Author.Tests.{ltb-false, ltb-true, eqb-true, eqb-false, lt-ltb, le-ltb}
 use Rattle.form.specs.Outcome.{pick}
-use Rattle.form.specs.Layout.{ValueKind, kNull, kBoolean, kNumber, kString, kTemporal, kRange, kList, kContext, kDefinition, kBuiltIn, kType, kIrrelevant, TypeKind, tSimple, tList, tRange, tContext, tFunction, Kind, ofValue, ofType, noCommand, kindOf, operands, operandsV, slot, widthOf}
+use Rattle.form.specs.Layout.{ValueKind, kNull, kBoolean, kNumber, kString, kTemporal, kRange, kList, kContext, kDefinition, kBuiltIn, kType, kIrrelevant, TypeKind, tSimple, tList, tRange}
+use Rattle.form.specs.Layout.{tContext, tFunction, Kind, ofValue, ofType, noCommand, kindOf, operands, operandsV, slot, widthOf}
 
 pub data ViewV (b : ℕ) : ValueKind → Type 0 where
   isNull : b ≡ 0x00 → ViewV b kNull

@@ -1,22 +1,28 @@
 -- `readV` accepts exactly the encodings of the well-formed values of the level that is left.
 -- Assumes nothing.
-use Prim.Native.Nat.{ℕ, zero, suc, _+_, _*_, _-_, _/_, _%_, _<_, _≤_, _^_, max}
-use mathlib.Core.Path.{_≡_, refl, sym, ap, ap₂, subst, _∙_}
+use Prim.Native.Nat.{ℕ, zero, suc, _+_, _-_, _<_, _≤_, _^_}
+use mathlib.Core.Path.{_≡_, refl, sym, ap, ap₂, _∙_}
 use mathlib.Core.Bool.{Bool, true, false}
-use mathlib.Core.List.{List, [], _∷_, _++_, append-assoc, append-nil}
+use mathlib.Core.List.{List, [], _∷_, _++_, append-nil}
 use native.Mathlib.Omega.{arith}
-use lib.ListN.{length, take, drop, length-append, take-append-drop}
-use lib.Seq.{take-append-seam}
+use lib.ListN.{length, take, drop, take-append-drop}
 use lib.Dec.{leb, eqb}
 use borrow.Author.Tests.{le-leb, leb-true}
-use Rattle.form.specs.Trees.{Ty, Temporal, on-date, at-time, at-dateTime, for-daysAndTime, for-yearsAndMonths, Leaf, l-null, l-boolean, l-number, l-string, l-temporal, Params, no-parameters, parameter, Val, v-leaf, v-range, v-list, v-context, v-function, v-built-in, v-type, v-irrelevant, Vals, no-items, item, Entries, no-entries, entry, code-temporal, decode-temporal}
+use Rattle.form.specs.Trees.{Ty, Temporal, on-date, at-time, at-dateTime, for-daysAndTime, for-yearsAndMonths, Leaf, l-null, l-boolean, l-number, l-string, l-temporal, Params, no-parameters}
+use Rattle.form.specs.Trees.{parameter, Val, v-leaf, v-range, v-list, v-context, v-function, v-built-in, v-type, v-irrelevant, Vals, no-items, item, Entries, no-entries, entry, code-temporal}
+use Rattle.form.specs.Trees.{decode-temporal}
 use Rattle.form.specs.Limits.{nameWidth}
-use Rattle.form.specs.Form.{bytes, num, bit, Bytes, enc, encParams, encLeaf, encV, encVals, encEntries, level, levelParams, levelV, levelVals, levelEntries, Wf, WfParams, WfLeaf, WfV, WfVals, WfEntries, countParams, countVals, countEntries}
-use Rattle.form.specs.Layout.{ValueKind, kNull, kBoolean, kNumber, kString, kTemporal, kRange, kList, kContext, kDefinition, kBuiltIn, kType, kIrrelevant, Kind, ofValue, ofType, noCommand, kindOf}
-use Rattle.form.specs.Read.{Got, got, bad, front, andThen, orElse, readRun, readNamed, readVals, readEntries, readParams, ascending, anyOrder, readFlag, readKey, readRange, signature, readDefinition, readT, stepValue, stepV, readV}
-use Rattle.form.specs.Faults.{Shape, Names, Level}
-use Rattle.form.proofs.Commands.{ViewV, isNull, isBoolean, isNumber, isString, isTemporal, isRange, isList, isContext, isDefinition, isBuiltIn, isFeelType, isIrrelevant, View, isValue, isType, isGap, isBeyond, view, kind-temporal}
-use Rattle.form.proofs.Exact.{got-is, bad-got, bytes-head, bytes-drop, length-front, operand-read, front-read, then-read, item-read, named-read, counted-read, Found, Sound, found-as, orElse-parts, got-parts, operand-parts, operand-below, operand-bytes, front-parts, then-parts, front-found, then-found, found-behind, RunLaws, run-sound, NamedLaws, named-sound, counted-sound}
+use Rattle.form.specs.Form.{bytes, num, bit, Bytes, enc, encParams, encLeaf, encV, encVals, encEntries, level, levelParams, levelV, levelVals, levelEntries, Wf, WfParams, WfLeaf, WfV, WfVals}
+use Rattle.form.specs.Form.{WfEntries, countParams, countVals, countEntries}
+use Rattle.form.specs.Layout.{ValueKind, Kind, kindOf}
+use Rattle.form.specs.Read.{Got, got, front, andThen, orElse, readRun, readNamed, readVals, readEntries, readParams, ascending, anyOrder, readFlag, readKey, readRange, signature, readDefinition}
+use Rattle.form.specs.Read.{readT, stepValue, stepV, readV}
+use Rattle.form.specs.Faults.{Shape}
+use Rattle.form.proofs.Commands.{ViewV, isNull, isBoolean, isNumber, isString, isTemporal, isRange, isList, isContext, isDefinition, isBuiltIn, isFeelType, isIrrelevant, View, isValue, isType}
+use Rattle.form.proofs.Commands.{isGap, isBeyond, view, kind-temporal}
+use Rattle.form.proofs.Exact.{got-is, bad-got, bytes-head, bytes-drop, length-front, operand-read, front-read, then-read, item-read, named-read, counted-read, Found, Sound, found-as}
+use Rattle.form.proofs.Exact.{orElse-parts, got-parts, operand-parts, operand-below, operand-bytes, front-parts, then-parts, front-found, then-found, found-behind, RunLaws, run-sound}
+use Rattle.form.proofs.Exact.{NamedLaws, named-sound, counted-sound}
 use Rattle.form.proofs.ExactTypes.{read-enc, enc-read}
 use Rattle.form.proofs.Numbers.{length-bytes, take-length}
 
@@ -80,16 +86,21 @@ leaf-enc (l-string n) l rest g = key-read nameWidth (λ x. v-leaf (l-string x)) 
 leaf-enc (l-temporal t k) l rest g =
     temporal-enc t k l rest g
 
-params-enc : (ps : Params) (l least : ℕ) (rest : List ℕ) → WfParams ps → levelParams ps ≤ l → least ≡ 0 → readParams (readT l) (countParams ps) least (encParams ps ++ rest) ≡ got ps (length (encParams ps))
+params-enc : (ps : Params) (l least : ℕ) (rest : List ℕ) → WfParams ps → levelParams ps ≤ l → least ≡ 0
+    → readParams (readT l) (countParams ps) least (encParams ps ++ rest) ≡ got ps (length (encParams ps))
 unfolding readNamed encParams levelParams countParams WfParams
 params-enc no-parameters l least rest g h z = refl
-params-enc (parameter m t ps) l least rest g h z = named-read no-parameters parameter anyOrder (readT l) m least (enc t) (encParams ps) rest t ps (countParams ps) (omega arith) (g .0) (read-enc t l (encParams ps ++ rest) (g .1 .0) (omega arith)) (params-enc ps l 0 rest (g .1 .1) (omega arith) refl)
+params-enc (parameter m t ps) l least rest g h z = named-read no-parameters parameter anyOrder (readT l) m least (enc t) (encParams ps) rest t ps (countParams ps) (omega arith) (g .0)
+    (read-enc t l (encParams ps ++ rest) (g .1 .0) (omega arith)) (params-enc ps l 0 rest (g .1 .1) (omega arith) refl)
 
-range-enc : (child : List ℕ → Got Val) (i j : ℕ) (v w : Val) (rest : List ℕ) → i ≤ 3 → j ≤ 3 → child (encV v ++ (encV w ++ rest)) ≡ got v (length (encV v)) → child (encV w ++ rest) ≡ got w (length (encV w)) → readRange child (i ∷ j ∷ ((encV v ++ encV w) ++ rest)) ≡ got (v-range i j v w) (3 + length (encV v ++ encV w))
+range-enc : (child : List ℕ → Got Val) (i j : ℕ) (v w : Val) (rest : List ℕ) → i ≤ 3 → j ≤ 3 → child (encV v ++ (encV w ++ rest)) ≡ got v (length (encV v))
+    → child (encV w ++ rest) ≡ got w (length (encV w)) → readRange child (i ∷ j ∷ ((encV v ++ encV w) ++ rest)) ≡ got (v-range i j v w) (3 + length (encV v ++ encV w))
 unfolding readRange orElse
 range-enc child i j v w rest p q hv hw = rw (le-leb i 3 p, le-leb j 3 q) (then-read (v-range i j) 3 child child (encV v) (encV w) rest v w hv hw)
 
-definition-enc : (type : List ℕ → Got Ty) (ps : Params) (b : ℕ) (t : Ty) (rest : List ℕ) → b < 65536 → type (enc t ++ (encParams ps ++ rest)) ≡ got t (length (enc t)) → readParams type (countParams ps) 0 (encParams ps ++ rest) ≡ got ps (length (encParams ps)) → readDefinition type (countParams ps ∷ ((bytes 2 b ++ (enc t ++ encParams ps)) ++ rest)) ≡ got (v-function ps b t) (4 + length (enc t ++ encParams ps))
+definition-enc : (type : List ℕ → Got Ty) (ps : Params) (b : ℕ) (t : Ty) (rest : List ℕ) → b < 65536 → type (enc t ++ (encParams ps ++ rest)) ≡ got t (length (enc t))
+    → readParams type (countParams ps) 0 (encParams ps ++ rest) ≡ got ps (length (encParams ps))
+    → readDefinition type (countParams ps ∷ ((bytes 2 b ++ (enc t ++ encParams ps)) ++ rest)) ≡ got (v-function ps b t) (4 + length (enc t ++ encParams ps))
 unfolding readDefinition signature
 definition-enc type ps b t rest h ht hp =
     operand-read 2 (signature type (countParams ps)) b (enc t ++ encParams ps) rest h
@@ -102,13 +113,16 @@ mutual
   read-encV (v-leaf x) zero rest g h = absurd (omega arith)
   read-encV (v-leaf x) (suc l) rest g h = leaf-enc x l rest g
   read-encV (v-range i j v w) zero rest g h = absurd (omega arith)
-  read-encV (v-range i j v w) (suc l) rest g h = range-enc (readV l) i j v w rest (g .0) (g .1 .0) (read-encV v l (encV w ++ rest) (g .1 .1 .0) (omega arith)) (read-encV w l rest (g .1 .1 .1) (omega arith)) ∙ got-is (omega arith)
+  read-encV (v-range i j v w) (suc l) rest g h = range-enc (readV l) i j v w rest (g .0) (g .1 .0) (read-encV v l (encV w ++ rest) (g .1 .1 .0) (omega arith))
+      (read-encV w l rest (g .1 .1 .1) (omega arith)) ∙ got-is (omega arith)
   read-encV (v-list vs) zero rest g h = absurd (omega arith)
   read-encV (v-list vs) (suc l) rest g h = counted-read v-list (λ c r. readVals (readV l) c r) (countVals vs) (encVals vs) rest vs (g .0) (vals-enc vs l rest (g .1) (omega arith))
   read-encV (v-context es) zero rest g h = absurd (omega arith)
-  read-encV (v-context es) (suc l) rest g h = counted-read v-context (λ c r. readEntries (readV l) c 0 r) (countEntries es) (encEntries es) rest es (g .0) (entries-enc es l 0 rest (g .1) (omega arith))
+  read-encV (v-context es) (suc l) rest g h = counted-read v-context (λ c r. readEntries (readV l) c 0 r) (countEntries es) (encEntries es) rest es (g .0)
+      (entries-enc es l 0 rest (g .1) (omega arith))
   read-encV (v-function ps b t) zero rest g h = absurd (omega arith)
-  read-encV (v-function ps b t) (suc l) rest g h = definition-enc (readT l) ps b t rest (g .1 .0) (read-enc t l (encParams ps ++ rest) (g .1 .1 .0) (omega arith)) (params-enc ps l 0 rest (g .1 .1 .1) (omega arith) refl) ∙ got-is (let k = length-front 2 b (enc t ++ encParams ps) in omega arith)
+  read-encV (v-function ps b t) (suc l) rest g h = definition-enc (readT l) ps b t rest (g .1 .0) (read-enc t l (encParams ps ++ rest) (g .1 .1 .0) (omega arith))
+      (params-enc ps l 0 rest (g .1 .1 .1) (omega arith) refl) ∙ got-is (let k = length-front 2 b (enc t ++ encParams ps) in omega arith)
   read-encV (v-built-in n) zero rest g h = absurd (omega arith)
   read-encV (v-built-in n) (suc l) rest g h = flag-read 85 v-built-in n rest g
   read-encV (v-type t) zero rest g h = absurd (omega arith)
@@ -118,11 +132,14 @@ mutual
 
   vals-enc : (vs : Vals) (l : ℕ) (rest : List ℕ) → WfVals vs → levelVals vs ≤ l → readVals (readV l) (countVals vs) (encVals vs ++ rest) ≡ got vs (length (encVals vs))
   vals-enc no-items l rest g h = refl
-  vals-enc (item v vs) l rest g h = item-read no-items item (readV l) (encV v) (encVals vs) rest v vs (countVals vs) (read-encV v l (encVals vs ++ rest) (g .0) (omega arith)) (vals-enc vs l rest (g .1) (omega arith))
+  vals-enc (item v vs) l rest g h = item-read no-items item (readV l) (encV v) (encVals vs) rest v vs (countVals vs) (read-encV v l (encVals vs ++ rest) (g .0) (omega arith))
+      (vals-enc vs l rest (g .1) (omega arith))
 
-  entries-enc : (es : Entries) (l least : ℕ) (rest : List ℕ) → WfEntries es least → levelEntries es ≤ l → readEntries (readV l) (countEntries es) least (encEntries es ++ rest) ≡ got es (length (encEntries es))
+  entries-enc : (es : Entries) (l least : ℕ) (rest : List ℕ) → WfEntries es least → levelEntries es ≤ l
+      → readEntries (readV l) (countEntries es) least (encEntries es ++ rest) ≡ got es (length (encEntries es))
   entries-enc no-entries l least rest g h = refl
-  entries-enc (entry m v es) l least rest g h = named-read no-entries entry ascending (readV l) m least (encV v) (encEntries es) rest v es (countEntries es) (g .0) (g .1 .0) (read-encV v l (encEntries es ++ rest) (g .1 .1 .0) (omega arith)) (entries-enc es l (m + 1) rest (g .1 .1 .1) (omega arith))
+  entries-enc (entry m v es) l least rest g h = named-read no-entries entry ascending (readV l) m least (encV v) (encEntries es) rest v es (countEntries es) (g .0) (g .1 .0)
+      (read-encV v l (encEntries es ++ rest) (g .1 .1 .0) (omega arith)) (entries-enc es l (m + 1) rest (g .1 .1 .1) (omega arith))
 
 -- ---- WHAT IS READ IS AN ENCODING
 params-laws : NamedLaws enc Wf level encParams (λ ps k. WfParams ps) levelParams countParams no-parameters parameter anyOrder
@@ -135,9 +152,20 @@ vals-laws = record { e-nil = refl; e-cons = λ x r. refl; g-nil = tt; g-cons = �
 
 entries-laws : NamedLaws encV WfV levelV encEntries WfEntries levelEntries countEntries no-entries entry ascending
 unfolding encEntries levelEntries countEntries WfEntries
-entries-laws = record { e-nil = refl; e-cons = λ m x r. refl; g-nil = λ k. tt; g-cons = λ k m x r a b c d. (a, (b, (c, d))); l-nil = refl; l-cons = λ m x r. refl; c-nil = refl; c-cons = λ m x r. refl }
+entries-laws = record {
+  e-nil = refl;
+  e-cons = λ m x r. refl;
+  g-nil = λ k. tt;
+  g-cons = λ k m x r a b c d.
+      (a, (b, (c, d)));
+  l-nil = refl;
+  l-cons = λ m x r. refl;
+  c-nil = refl;
+  c-cons = λ m x r. refl;
+}
 
-flag-sound : (l m : ℕ) (mk : ℕ → Val) (cmd : ℕ) → ((x : ℕ) → x ≤ m → encV (mk x) ≡ cmd ∷ x ∷ []) → ((x : ℕ) → x ≤ m → WfV (mk x)) → ((x : ℕ) → levelV (mk x) ≡ 1) → (b : ℕ) → b ≡ cmd → (s : List ℕ) (v : Val) (n : ℕ) → readFlag m mk s ≡ got v n → Found encV WfV levelV (suc l) (b ∷ s) v n
+flag-sound : (l m : ℕ) (mk : ℕ → Val) (cmd : ℕ) → ((x : ℕ) → x ≤ m → encV (mk x) ≡ cmd ∷ x ∷ []) → ((x : ℕ) → x ≤ m → WfV (mk x)) → ((x : ℕ) → levelV (mk x) ≡ 1) → (b : ℕ) → b ≡ cmd
+    → (s : List ℕ) (v : Val) (n : ℕ) → readFlag m mk s ≡ got v n → Found encV WfV levelV (suc l) (b ∷ s) v n
 unfolding readFlag
 flag-sound l m mk cmd e g lv b be [] v n eq = absurd (bad-got eq)
 flag-sound l m mk cmd e g lv b be (x ∷ s) v n eq =
@@ -151,7 +179,8 @@ flag-sound l m mk cmd e g lv b be (x ∷ s) v n eq =
       low = let i = lv x in omega arith;
     })))
 
-key-sound : (l k : ℕ) (mk : ℕ → Val) (cmd : ℕ) → ((x : ℕ) → encV (mk x) ≡ cmd ∷ bytes k x) → ((x : ℕ) → x < 256 ^ k → WfV (mk x)) → ((x : ℕ) → levelV (mk x) ≡ 1) → (b : ℕ) → b ≡ cmd → (s : List ℕ) → Bytes s → (v : Val) (n : ℕ) → readKey k mk s ≡ got v n → Found encV WfV levelV (suc l) (b ∷ s) v n
+key-sound : (l k : ℕ) (mk : ℕ → Val) (cmd : ℕ) → ((x : ℕ) → encV (mk x) ≡ cmd ∷ bytes k x) → ((x : ℕ) → x < 256 ^ k → WfV (mk x)) → ((x : ℕ) → levelV (mk x) ≡ 1) → (b : ℕ) → b ≡ cmd → (s : List ℕ)
+    → Bytes s → (v : Val) (n : ℕ) → readKey k mk s ≡ got v n → Found encV WfV levelV (suc l) (b ∷ s) v n
 unfolding readKey
 key-sound l k mk cmd e g lv b be s bs v n eq =
     operand-parts k (λ x r. got (mk x) (1 + k)) s v n eq (λ h eq₁.
@@ -209,7 +238,8 @@ module _ (child : List ℕ → Got Val) (type : List ℕ → Got Ty) (l : ℕ) (
   unfolding encV levelV WfV
   irrelevant-sound b s be v n eq = got-parts v-irrelevant v 1 n eq (λ p q. found-as p q (record { rest = s; bytes = ap (λ (a : ℕ). a ∷ s) be; took = refl; well = tt; low = omega arith }))
 
-  temporal-sound : (b : ℕ) (s : List ℕ) → 4 ≤ b → b < 9 → Bytes s → (v : Val) (n : ℕ) → readKey 8 (λ x. v-leaf (l-temporal (decode-temporal (b - 4)) x)) s ≡ got v n → Found encV WfV levelV (suc l) (b ∷ s) v n
+  temporal-sound : (b : ℕ) (s : List ℕ) → 4 ≤ b → b < 9 → Bytes s → (v : Val) (n : ℕ) → readKey 8 (λ x. v-leaf (l-temporal (decode-temporal (b - 4)) x)) s ≡ got v n
+      → Found encV WfV levelV (suc l) (b ∷ s) v n
   unfolding encV encLeaf levelV WfV WfLeaf
   temporal-sound b s p q bs v n eq =
       let c : code-temporal (decode-temporal (b - 4)) ≡ b - 4 = code-decode (b - 4) (omega arith) in
@@ -224,8 +254,10 @@ module _ (child : List ℕ → Got Val) (type : List ℕ → Got Ty) (l : ℕ) (
   value-sound b s bs k (isString p) v n e = key-sound l nameWidth (λ x. v-leaf (l-string x)) 0x03 (λ x. refl) (λ x h. h) (λ x. refl) b p s bs v n e
   value-sound b s bs k (isTemporal p q) v n e = temporal-sound b s p q bs v n e
   value-sound b s bs k (isRange p) v n e = range-sound b s p bs v n e
-  value-sound b s bs k (isList p) v n e = counted-sound {goodR = WfVals} {count = countVals} l v-list (λ c r. readVals child c r) 0x0A (λ x. refl) (λ x c g. (c, g)) (λ x. refl) (λ c. run-sound vals-laws child l snd c) b p s bs v n e
-  value-sound b s bs k (isContext p) v n e = counted-sound {goodR = λ es. WfEntries es 0} {count = countEntries} l v-context (λ c r. readEntries child c 0 r) 0x0B (λ x. refl) (λ x c g. (c, g)) (λ x. refl) (λ c. named-sound entries-laws child l snd c 0) b p s bs v n e
+  value-sound b s bs k (isList p) v n e = counted-sound {goodR = WfVals} {count = countVals} l v-list (λ c r. readVals child c r) 0x0A (λ x. refl) (λ x c g. (c, g)) (λ x. refl)
+      (λ c. run-sound vals-laws child l snd c) b p s bs v n e
+  value-sound b s bs k (isContext p) v n e = counted-sound {goodR = λ es. WfEntries es 0} {count = countEntries} l v-context (λ c r. readEntries child c 0 r) 0x0B (λ x. refl) (λ x c g. (c, g))
+      (λ x. refl) (λ c. named-sound entries-laws child l snd c 0) b p s bs v n e
   value-sound b s bs k (isDefinition p) v n e = definition-sound b s p bs v n e
   value-sound b s bs k (isBuiltIn p) v n e = flag-sound l 85 v-built-in 0x0D (λ x h. refl) (λ x h. h) (λ x. refl) b p s v n e
   value-sound b s bs k (isFeelType p) v n e = type-sound b s p bs v n e

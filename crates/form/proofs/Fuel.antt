@@ -1,28 +1,30 @@
 -- The limit on levels only ever adds refusals for the level: where no level is refused, any two limits read the same.
 -- Assumes nothing.
-use Prim.Native.Nat.{ℕ, zero, suc, _+_, _*_, _-_, _<_, _≤_}
-use mathlib.Core.Path.{_≡_, refl, sym, ap, _∙_}
+use Prim.Native.Nat.{ℕ, zero, suc, _+_, _-_, _<_, _≤_}
+use mathlib.Core.Path.{_≡_, refl, sym, ap}
 use mathlib.Core.Bool.{Bool, true, false}
 use mathlib.Core.List.{List, [], _∷_}
 use native.Mathlib.Omega.{arith}
 use lib.ListN.{length, take, drop}
-use lib.Dec.{leb, eqb, ltb}
+use lib.Dec.{leb}
 use borrow.Author.Tests.{lt-ltb, le-leb, leb-true, leb-false}
 use Rattle.form.specs.Trees.{Ty, built, list, range, context, function, field, no-fields, no-params, param}
 use Rattle.form.specs.Layout.{TypeKind, tSimple, tList, tRange, tContext, tFunction, Kind, ofValue, ofType, noCommand, kindOf}
 use Rattle.form.specs.Limits.{nameWidth, mostBytes, typeLevels}
 use Rattle.form.specs.Outcome.{_>>_}
 use Rattle.form.specs.Form.{num}
-use Rattle.form.specs.Read.{Got, got, bad, front, andThen, orElse, operand, named, readRun, readNamed, readFields, readTys, ascending, counted, readFunction, stepType, stepT, readT, readWhole, readType, readAnyType}
+use Rattle.form.specs.Read.{Got, got, bad, front, andThen, orElse, operand, named, readRun, readNamed, readFields, readTys, ascending, counted, readFunction, stepType, stepT, readT, readWhole}
+use Rattle.form.specs.Read.{readType, readAnyType}
 use Rattle.form.specs.Faults.{Fault, Shape, Names}
-use Rattle.form.proofs.AnySize.{Mild, Fair, read-fair}
+use Rattle.form.proofs.AnySize.{Fair, read-fair}
 
 front-fair-of : {X Z : Type 0} (g : X → Z) (k : ℕ) (r : Got X) → Fair (front g k r) → Fair r
 unfolding front
 front-fair-of g k (got x n) h = tt
 front-fair-of g k (bad f) h = h
 
-then-stays : {X Y Z : Type 0} (g : X → Y → Z) (k : ℕ) (s : List ℕ) (more more′ : List ℕ → Got Y) (r r′ : Got X) → Fair (andThen g k s more r) → (Fair r → r′ ≡ r) → ((n : ℕ) → Fair (more (drop n s)) → more′ (drop n s) ≡ more (drop n s)) → andThen g k s more′ r′ ≡ andThen g k s more r
+then-stays : {X Y Z : Type 0} (g : X → Y → Z) (k : ℕ) (s : List ℕ) (more more′ : List ℕ → Got Y) (r r′ : Got X) → Fair (andThen g k s more r) → (Fair r → r′ ≡ r)
+    → ((n : ℕ) → Fair (more (drop n s)) → more′ (drop n s) ≡ more (drop n s)) → andThen g k s more′ r′ ≡ andThen g k s more r
 unfolding andThen
 then-stays g k s more more′ (got x n) r′ h p q = rw (p tt) (ap (front (g x) (k + n)) (q n (front-fair-of (g x) (k + n) (more (drop n s)) h)))
 then-stays g k s more more′ (bad f) r′ h p q = rw (p h)
@@ -32,7 +34,8 @@ unfolding orElse
 or-stays f true r r′ h p = p h
 or-stays f false r r′ h p = refl
 
-operand-stays : {X : Type 0} (k : ℕ) (more more′ : ℕ → List ℕ → Got X) (s : List ℕ) → Fair (operand k more s) → (Fair (more (num (take k s)) (drop k s)) → more′ (num (take k s)) (drop k s) ≡ more (num (take k s)) (drop k s)) → operand k more′ s ≡ operand k more s
+operand-stays : {X : Type 0} (k : ℕ) (more more′ : ℕ → List ℕ → Got X) (s : List ℕ) → Fair (operand k more s)
+    → (Fair (more (num (take k s)) (drop k s)) → more′ (num (take k s)) (drop k s) ≡ more (num (take k s)) (drop k s)) → operand k more′ s ≡ operand k more s
 unfolding operand
 operand-stays k more more′ s h p = or-stays Shape (leb k (length s)) (more (num (take k s)) (drop k s)) (more′ (num (take k s)) (drop k s)) h p
 
@@ -42,7 +45,8 @@ module _ {X R : Type 0} (nil : R) (child child′ : List ℕ → Got X) (ok : (s
   run-stays cons zero s h = refl
   run-stays cons (suc c) s h = then-stays cons 0 s (readRun nil cons child c) (readRun nil cons child′ c) (child s) (child′ s) h (ok s) (λ (n : ℕ). run-stays cons c (drop n s))
 
-  named-stays : (cons : ℕ → X → R → R) (next : ℕ → ℕ) (c least : ℕ) (s : List ℕ) → Fair (readNamed nil cons next child c least s) → readNamed nil cons next child′ c least s ≡ readNamed nil cons next child c least s
+  named-stays : (cons : ℕ → X → R → R) (next : ℕ → ℕ) (c least : ℕ) (s : List ℕ) → Fair (readNamed nil cons next child c least s)
+      → readNamed nil cons next child′ c least s ≡ readNamed nil cons next child c least s
   unfolding readNamed named
   named-stays cons next zero least s h = refl
   named-stays cons next (suc c) least s h =
@@ -50,7 +54,8 @@ module _ {X R : Type 0} (nil : R) (child child′ : List ℕ → Got X) (ok : (s
       (λ q. or-stays Names (leb least (num (take nameWidth s)))
       (andThen (cons (num (take nameWidth s))) nameWidth (drop nameWidth s) (readNamed nil cons next child c (next (num (take nameWidth s)))) (child (drop nameWidth s)))
       (andThen (cons (num (take nameWidth s))) nameWidth (drop nameWidth s) (readNamed nil cons next child′ c (next (num (take nameWidth s)))) (child′ (drop nameWidth s))) q
-      (λ p. then-stays (cons (num (take nameWidth s))) nameWidth (drop nameWidth s) (readNamed nil cons next child c (next (num (take nameWidth s)))) (readNamed nil cons next child′ c (next (num (take nameWidth s)))) (child (drop nameWidth s)) (child′ (drop nameWidth s)) p (ok (drop nameWidth s))
+      (λ p. then-stays (cons (num (take nameWidth s))) nameWidth (drop nameWidth s) (readNamed nil cons next child c (next (num (take nameWidth s))))
+      (readNamed nil cons next child′ c (next (num (take nameWidth s)))) (child (drop nameWidth s)) (child′ (drop nameWidth s)) p (ok (drop nameWidth s))
       (λ (n : ℕ). named-stays cons next c (next (num (take nameWidth s))) (drop n (drop nameWidth s)))))
 
 module _ (child child′ : List ℕ → Got Ty) (ok : (s : List ℕ) → Fair (child s) → child′ s ≡ child s) where
@@ -61,9 +66,11 @@ module _ (child child′ : List ℕ → Got Ty) (ok : (s : List ℕ) → Fair (c
   type-stays tRange b s h = ap (front (λ t. built (range t)) 1) (ok s (front-fair-of (λ t. built (range t)) 1 (child s) h))
   type-stays tContext b s h =
       operand-stays 2 (λ c r. front (λ fs. built (context fs)) 3 (readFields child c 0 r)) (λ c r. front (λ fs. built (context fs)) 3 (readFields child′ c 0 r)) s h
-      (λ q. ap (front (λ fs. built (context fs)) 3) (named-stays no-fields child child′ ok field ascending (num (take 2 s)) 0 (drop 2 s) (front-fair-of (λ fs. built (context fs)) 3 (readFields child (num (take 2 s)) 0 (drop 2 s)) q)))
+      (λ q. ap (front (λ fs. built (context fs)) 3) (named-stays no-fields child child′ ok field ascending (num (take 2 s)) 0 (drop 2 s)
+      (front-fair-of (λ fs. built (context fs)) 3 (readFields child (num (take 2 s)) 0 (drop 2 s)) q)))
   type-stays tFunction b [] h = refl
-  type-stays tFunction b (c ∷ s) h = then-stays (λ ts t. built (function ts t)) 2 s child child′ (readTys child c s) (readTys child′ c s) h (run-stays no-params child child′ ok param c s) (λ (n : ℕ). ok (drop n s))
+  type-stays tFunction b (c ∷ s) h = then-stays (λ ts t. built (function ts t)) 2 s child child′ (readTys child c s) (readTys child′ c s) h (run-stays no-params child child′ ok param c s)
+      (λ (n : ℕ). ok (drop n s))
 
   step-stays : (k : Kind) (b : ℕ) (s : List ℕ) → Fair (stepT child k b s) → stepT child′ k b s ≡ stepT child k b s
   unfolding stepT

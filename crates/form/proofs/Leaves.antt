@@ -95,7 +95,14 @@ judged left s v n (nNull c k x) = a-leaf refl (here _ 0 _ _ _ c (record { comman
 judged left s v n (nBoolean c k x) = a-leaf refl (here _ 1 _ _ _ c (record { command = omega arith; wide = refl; two = omega arith; room = k; operand = λ _. x }))
 judged left s v n (nNumber c k) = a-leaf refl (here _ 2 _ _ _ c (record { command = omega arith; wide = refl; two = omega arith; room = k; operand = λ x. x }))
 judged left s v n (nString c k) = a-leaf refl (here _ 3 _ _ _ c (record { command = omega arith; wide = refl; two = omega arith; room = k; operand = λ x. x }))
-judged left s v n (nTemporal c d k) = a-leaf refl (record { command = d; wide = omega (arith, key-width (getD s 0 0) c d); two = omega arith; room = k; operand = key-end (getD s 0 0) (getD s 1 0) (omega arith) })
+judged left s v n (nTemporal c d k) = a-leaf refl (record {
+  command = d;
+  wide = omega (arith, key-width (getD s 0 0) c d);
+  two = omega arith;
+  room = k;
+  operand = key-end (getD s 0 0) (getD s 1 0)
+      (omega arith);
+})
 judged left s v n (nRangeV c k x y a m p b j q) = no-leaf refl (omega arith)
 judged left s v n (nListV c k vs m p) = no-leaf refl (omega arith)
 judged left s v n (nContextV c k es m p) = no-leaf refl (omega arith)

@@ -40,7 +40,8 @@ stopped : (f : Fault) (whole : Walk) (k m r t : ℕ) → walk.Stop f ≡ whole �
 stopped f whole k m r t e p q = told-stop f (sym (ap (up k) e)) p q
 
 -- ---- one behind the other
-module _ {X R : Type 0} (lx : X → ℕ) (lr : R → ℕ) (nil : R) (cons : X → R → R) (law : (x : X) (r : R) → lr (cons x r) ≡ max (lx x) (lr r)) (flat : lr nil ≡ 0) (child : List ℕ → Got X) {whole : Walk} {s : List ℕ} {count at deep i : ℕ} (v : RunInv lr whole (readRun nil cons child) s count at deep i) where
+module _ {X R : Type 0} (lx : X → ℕ) (lr : R → ℕ) (nil : R) (cons : X → R → R) (law : (x : X) (r : R) → lr (cons x r) ≡ max (lx x) (lr r)) (flat : lr nil ≡ 0) (child : List ℕ → Got X) {whole : Walk}
+    {s : List ℕ} {count at deep i : ℕ} (v : RunInv lr whole (readRun nil cons child) s count at deep i) where
   turn : (n l d : ℕ) → i < count → walkOf lx (child (drop at s)) ≡ walk.End n l → (n ≤ length s - at) × (l ≤ n) → d ≡ max deep l → RunInv lr whole (readRun nil cons child) s count (at + n) d (i + 1)
   turn n l d q w z e = run-turn v (readRun nil cons child) at d n l q e z (omega arith) (v .inside) (item-turn lx lr nil cons law child s at deep n l w)
 
@@ -58,7 +59,8 @@ module _ {X R : Type 0} (lx : X → ℕ) (lr : R → ℕ) (nil : R) (cons : X �
   items-end k r t q o p e = told-run whole (length s) at deep k (run-done v nil flat (run-none lx lr nil cons law child) q) (v .inside) (v .shallow) o p e
 
 -- ---- each behind its name
-module _ {X R : Type 0} (lx : X → ℕ) (lr : R → ℕ) (nil : R) (cons : ℕ → X → R → R) (next : ℕ → ℕ) (law : (m : ℕ) (x : X) (r : R) → lr (cons m x r) ≡ max (lx x) (lr r)) (flat : lr nil ≡ 0) (child : List ℕ → Got X) {whole : Walk} (least : ℕ) {s : List ℕ} {count at deep i : ℕ} (v : RunInv lr whole (λ (n : ℕ). readNamed nil cons next child n least) s count at deep i) where
+module _ {X R : Type 0} (lx : X → ℕ) (lr : R → ℕ) (nil : R) (cons : ℕ → X → R → R) (next : ℕ → ℕ) (law : (m : ℕ) (x : X) (r : R) → lr (cons m x r) ≡ max (lx x) (lr r)) (flat : lr nil ≡ 0)
+    (child : List ℕ → Got X) {whole : Walk} (least : ℕ) {s : List ℕ} {count at deep i : ℕ} (v : RunInv lr whole (λ (n : ℕ). readNamed nil cons next child n least) s count at deep i) where
   pub names-end : (k r t : ℕ) → count ≤ i → 1 ≤ k → r ≡ at + k → t ≡ deep + 1 → Told (up k whole) (length s + k) r t
   names-end k r t q o p e = told-run whole (length s) at deep k (run-done v nil flat (named-none lx lr nil cons next law child least) q) (v .inside) (v .shallow) o p e
 
@@ -72,7 +74,8 @@ module _ {X R : Type 0} (lx : X → ℕ) (lr : R → ℕ) (nil : R) (cons : ℕ 
     module _ (above : least ≤ name) where
       named-on : (n l d : ℕ) → walkOf lx (child (drop (at + nameWidth) s)) ≡ walk.End n l → (n ≤ length s - (at + nameWidth)) × (l ≤ n) → d ≡ max deep l
           → RunInv lr whole (λ (j : ℕ). readNamed nil cons next child j (next name)) s count (at + nameWidth + n) d (i + 1)
-      named-on n l d w z e = let a = v .inside in run-turn v (λ (j : ℕ). readNamed nil cons next child j (next name)) (at + nameWidth) d n l q e z (omega arith) (omega arith) (named-turn lx lr nil cons next law child s at deep least name named two n l above w)
+      named-on n l d w z e = let a = v .inside in run-turn v (λ (j : ℕ). readNamed nil cons next child j (next name)) (at + nameWidth) d n l q e z (omega arith) (omega arith)
+          (named-turn lx lr nil cons next law child s at deep least name named two n l above w)
 
       pub names-short : (isLeaf : X → Bool) → ((x : X) → isLeaf x ≡ true → lx x ≡ 1) → (n d : ℕ)
           → Short isLeaf (child (drop (at + nameWidth) s)) n (length s - (at + nameWidth)) → (n ≡ 0 → ⊥) → d ≡ max deep 1
@@ -81,7 +84,8 @@ module _ {X R : Type 0} (lx : X → ℕ) (lr : R → ℕ) (nil : R) (cons : ℕ 
 
       pub names-walk : (r t d : ℕ) → ToldAt lx child s (at + nameWidth) r t → (r ≡ 0 → ⊥) → d ≡ max deep t
           → RunInv lr whole (λ (j : ℕ). readNamed nil cons next child j (next name)) s count (at + nameWidth + r) d (i + 1)
-      names-walk r t d h z e = let a = told-end (walkOf lx (child (drop (at + nameWidth) s))) (length s - (at + nameWidth)) r t (here lx child s (at + nameWidth) r t h) (omega arith) in named-on r t d (a .0) (a .1) e
+      names-walk r t d h z e = let a = told-end (walkOf lx (child (drop (at + nameWidth) s))) (length s - (at + nameWidth)) r t (here lx child s (at + nameWidth) r t h) (omega arith) in named-on r t d
+          (a .0) (a .1) e
 
       pub names-fault : (r t k m : ℕ) → ToldAt lx child s (at + nameWidth) r t → r ≡ 0 → Told (up k whole) m 0 t
       names-fault r t k m h z = faulted lx child s (at + nameWidth) r t k m whole h z (λ f e. run-fault v f q (named-fault lx lr nil cons next law child s at deep least name named two f above e))
@@ -116,7 +120,8 @@ named-empty nil cons next child least r = refl
 
 pub none-told : {X : Type 0} (lv : X → ℕ) (now : ℕ → List ℕ → Got X) (nil : X) → lv nil ≡ 0 → ((r : List ℕ) → now 0 r ≡ got nil 0) → (s : List ℕ) (count k n r t : ℕ) → 0 ≡ count
     → 1 ≤ k → r ≡ k → t ≡ 1 → Told (up k (walkBy lv 0 0 (now count s))) (n + k) r t
-none-told lv now nil flat none s count k n r t z o p q = told-run (walkBy lv 0 0 (now count s)) n 0 0 k (run-done (run-start lv now s count 0 0 (omega arith) (omega arith)) nil flat none (omega (arith, z))) (omega arith) (omega arith) o (omega (arith, p)) (omega (arith, q))
+none-told lv now nil flat none s count k n r t z o p q = told-run (walkBy lv 0 0 (now count s)) n 0 0 k
+    (run-done (run-start lv now s count 0 0 (omega arith) (omega arith)) nil flat none (omega (arith, z))) (omega arith) (omega arith) o (omega (arith, p)) (omega (arith, q))
 
 -- a level that was told is that of something
 pub level-some : {X : Type 0} (lx : X → ℕ) → ((x : X) → 1 ≤ lx x) → (child : List ℕ → Got X) (s : List ℕ) (a r t : ℕ) → ToldAt lx child s a r t → (r ≡ 0 → ⊥) → 1 ≤ t

@@ -1,33 +1,40 @@
 -- For the walks that come after the reader: what was read, node by node, in the terms of the code (an element, a part from an index).
 -- Assumes nothing.
-use Prim.Native.Nat.{ℕ, zero, suc, _+_, _*_, _-_, _<_, _≤_}
-use mathlib.Core.Path.{_≡_, refl, sym, ap, subst, _∙_}
-use mathlib.Core.Bool.{Bool, true, false}
+use Prim.Native.Nat.{ℕ, zero, suc, _+_, _-_, _<_, _≤_}
+use mathlib.Core.Path.{_≡_, sym, subst}
 use mathlib.Core.List.{List, [], _∷_}
 use native.Mathlib.Omega.{arith}
 use lib.ListN.{length, getD, take, drop}
 use lib.Dec.{leb, eqb}
 use borrow.Author.Tests.{leb-true}
-use Rattle.form.specs.Trees.{Ty, leaf, built, list, range, context, function, Fields, Tys, l-null, l-boolean, l-number, l-string, l-temporal, Params, Val, v-leaf, v-range, v-list, v-context, v-function, v-built-in, v-type, v-irrelevant, Vals, Entries, decode, decode-temporal}
+use Rattle.form.specs.Trees.{Ty, leaf, built, list, range, context, function, Fields, Tys, l-null, l-boolean, l-number, l-string, l-temporal, Params, Val, v-leaf, v-range, v-list, v-context}
+use Rattle.form.specs.Trees.{v-function, v-built-in, v-type, v-irrelevant, Vals, Entries, decode, decode-temporal}
 use Rattle.form.specs.Limits.{nameWidth}
 use Rattle.form.specs.Form.{num, numAt}
 use Rattle.form.specs.Layout.{ValueKind, TypeKind, Kind, kindOf}
-use Rattle.form.specs.Read.{Got, got, bad, front, andThen, orElse, operand, named, readRun, readNamed, readFields, readTys, readVals, readEntries, readParams, readFlag, readKey, counted, readFunction, readRange, signature, readDefinition, stepType, stepT, readT, stepValue, stepV, readV}
-use Rattle.form.specs.Faults.{Shape, Names, Level}
-use Rattle.form.proofs.Commands.{ViewV, isNull, isBoolean, isNumber, isString, isTemporal, isRange, isList, isContext, isDefinition, isBuiltIn, isFeelType, isIrrelevant, ViewT, isSimpleT, isListT, isRangeT, isContextT, isFunctionT, View, isValue, isType, isGap, isBeyond, view}
+use Rattle.form.specs.Read.{Got, got, front, andThen, orElse, named, readRun, readNamed, readFields, readTys, readVals, readEntries, readParams, readFlag, readKey, counted, readFunction}
+use Rattle.form.specs.Read.{readRange, signature, readDefinition, stepType, stepT, readT, stepValue, stepV, readV}
+use Rattle.form.specs.Faults.{Shape, Names}
+use Rattle.form.proofs.Commands.{ViewV, isNull, isBoolean, isNumber, isString, isTemporal, isRange, isList, isContext, isDefinition, isBuiltIn, isFeelType, isIrrelevant, ViewT, isSimpleT}
+use Rattle.form.proofs.Commands.{isListT, isRangeT, isContextT, isFunctionT, View, isValue, isType, isGap, isBeyond, view}
 use Rattle.form.proofs.Exact.{bad-got, orElse-parts, got-parts, operand-parts, front-parts, then-parts}
 
 -- ---- runs
-pub item-parts : {X R : Type 0} {P : Type 0} (nil : R) (cons : X → R → R) (child : List ℕ → Got X) (c : ℕ) (s : List ℕ) (r : R) (n : ℕ) → readRun nil cons child (suc c) s ≡ got r n → ((x : X) (m : ℕ) → child s ≡ got x m → (y : R) (j : ℕ) → readRun nil cons child c (drop m s) ≡ got y j → cons x y ≡ r → 0 + m + j ≡ n → P) → P
+pub item-parts : {X R : Type 0} {P : Type 0} (nil : R) (cons : X → R → R) (child : List ℕ → Got X) (c : ℕ) (s : List ℕ) (r : R) (n : ℕ) → readRun nil cons child (suc c) s ≡ got r n
+    → ((x : X) (m : ℕ) → child s ≡ got x m → (y : R) (j : ℕ) → readRun nil cons child c (drop m s) ≡ got y j → cons x y ≡ r → 0 + m + j ≡ n → P) → P
 unfolding readRun
 item-parts nil cons child c s r n e k = then-parts cons 0 s (readRun nil cons child c) (child s) r n e k
 
-pub named-parts : {X R : Type 0} {P : Type 0} (nil : R) (cons : ℕ → X → R → R) (next : ℕ → ℕ) (child : List ℕ → Got X) (c least : ℕ) (s : List ℕ) (r : R) (n : ℕ) → readNamed nil cons next child (suc c) least s ≡ got r n → (nameWidth ≤ length s → least ≤ num (take nameWidth s) → (x : X) (m : ℕ) → child (drop nameWidth s) ≡ got x m → (y : R) (j : ℕ) → readNamed nil cons next child c (next (num (take nameWidth s))) (drop m (drop nameWidth s)) ≡ got y j → cons (num (take nameWidth s)) x y ≡ r → nameWidth + m + j ≡ n → P) → P
+pub named-parts : {X R : Type 0} {P : Type 0} (nil : R) (cons : ℕ → X → R → R) (next : ℕ → ℕ) (child : List ℕ → Got X) (c least : ℕ) (s : List ℕ) (r : R) (n : ℕ)
+    → readNamed nil cons next child (suc c) least s ≡ got r n → (nameWidth ≤ length s → least ≤ num (take nameWidth s) → (x : X) (m : ℕ) → child (drop nameWidth s) ≡ got x m → (y : R) (j : ℕ)
+    → readNamed nil cons next child c (next (num (take nameWidth s))) (drop m (drop nameWidth s)) ≡ got y j → cons (num (take nameWidth s)) x y ≡ r → nameWidth + m + j ≡ n → P) → P
 unfolding readNamed named
 named-parts nil cons next child c least s r n e k =
     operand-parts nameWidth (named cons (λ j. readNamed nil cons next child c (next j)) child least) s r n e (λ h e₀.
-    orElse-parts Names (leb least (num (take nameWidth s))) (andThen (cons (num (take nameWidth s))) nameWidth (drop nameWidth s) (readNamed nil cons next child c (next (num (take nameWidth s)))) (child (drop nameWidth s))) r n e₀ (λ t e₁.
-    then-parts (cons (num (take nameWidth s))) nameWidth (drop nameWidth s) (readNamed nil cons next child c (next (num (take nameWidth s)))) (child (drop nameWidth s)) r n e₁ (k h (leb-true least (num (take nameWidth s)) t))))
+    orElse-parts Names (leb least (num (take nameWidth s))) (andThen (cons (num (take nameWidth s))) nameWidth (drop nameWidth s) (readNamed nil cons next child c (next (num (take nameWidth s))))
+    (child (drop nameWidth s))) r n e₀ (λ t e₁.
+    then-parts (cons (num (take nameWidth s))) nameWidth (drop nameWidth s) (readNamed nil cons next child c (next (num (take nameWidth s)))) (child (drop nameWidth s)) r n e₁
+    (k h (leb-true least (num (take nameWidth s)) t))))
 
 -- ---- a type
 -- `NodeT left s t n`: t was read from s, took n bytes, and its children were read with `left` levels
@@ -36,7 +43,8 @@ pub data NodeT (left : ℕ) (s : List ℕ) : Ty → ℕ → Type 0 where
   nList : getD s 0 0 ≡ 42 → (t : Ty) (n : ℕ) → readT left (drop 1 s) ≡ got t n → NodeT left s (built (list t)) (1 + n)
   nRange : getD s 0 0 ≡ 43 → (t : Ty) (n : ℕ) → readT left (drop 1 s) ≡ got t n → NodeT left s (built (range t)) (1 + n)
   nContext : getD s 0 0 ≡ 44 → 3 ≤ length s → (fs : Fields) (n : ℕ) → readFields (readT left) (numAt 2 1 s) 0 (drop 3 s) ≡ got fs n → NodeT left s (built (context fs)) (3 + n)
-  nFunction : getD s 0 0 ≡ 45 → 2 ≤ length s → (ts : Tys) (m : ℕ) → readTys (readT left) (getD s 1 0) (drop 2 s) ≡ got ts m → (t : Ty) (n : ℕ) → readT left (drop m (drop 2 s)) ≡ got t n → NodeT left s (built (function ts t)) (2 + m + n)
+  nFunction : getD s 0 0 ≡ 45 → 2 ≤ length s → (ts : Tys) (m : ℕ) → readTys (readT left) (getD s 1 0) (drop 2 s) ≡ got ts m → (t : Ty) (n : ℕ) → readT left (drop m (drop 2 s)) ≡ got t n
+      → NodeT left s (built (function ts t)) (2 + m + n)
 
 pub record TypeRead (l : ℕ) (s : List ℕ) (t : Ty) (n : ℕ) : Type 0 where
   pub some-level : 0 < l
@@ -55,7 +63,8 @@ context-node l b s be t n e =
 function-node : (l b : ℕ) (s : List ℕ) → b ≡ 45 → (t : Ty) (n : ℕ) → readFunction (readT l) s ≡ got t n → NodeT l (b ∷ s) t n
 unfolding readFunction
 function-node l b [] be t n e = absurd (bad-got e)
-function-node l b (c ∷ s) be t n e = then-parts (λ ts t. built (function ts t)) 2 s (readT l) (readTys (readT l) c s) t n e (λ ts m px u j py pz pn. as-node pz pn (nFunction be (omega arith) ts m px u j py))
+function-node l b (c ∷ s) be t n e = then-parts (λ ts t. built (function ts t)) 2 s (readT l) (readTys (readT l) c s) t n e
+    (λ ts m px u j py pz pn. as-node pz pn (nFunction be (omega arith) ts m px u j py))
 
 type-node : (l b : ℕ) (s : List ℕ) (k : TypeKind) → ViewT b k → (t : Ty) (n : ℕ) → stepType (readT l) k b s ≡ got t n → NodeT l (b ∷ s) t n
 unfolding stepType
@@ -88,10 +97,12 @@ pub data NodeV (left : ℕ) (s : List ℕ) : Val → ℕ → Type 0 where
   nNumber : getD s 0 0 ≡ 2 → 9 ≤ length s → NodeV left s (v-leaf (l-number (numAt 8 1 s))) 9
   nString : getD s 0 0 ≡ 3 → 1 + nameWidth ≤ length s → NodeV left s (v-leaf (l-string (numAt nameWidth 1 s))) (1 + nameWidth)
   nTemporal : 4 ≤ getD s 0 0 → getD s 0 0 < 9 → 9 ≤ length s → NodeV left s (v-leaf (l-temporal (decode-temporal (getD s 0 0 - 4)) (numAt 8 1 s))) 9
-  nRangeV : getD s 0 0 ≡ 9 → 3 ≤ length s → getD s 1 0 ≤ 3 → getD s 2 0 ≤ 3 → (v : Val) (m : ℕ) → readV left (drop 3 s) ≡ got v m → (w : Val) (n : ℕ) → readV left (drop m (drop 3 s)) ≡ got w n → NodeV left s (v-range (getD s 1 0) (getD s 2 0) v w) (3 + m + n)
+  nRangeV : getD s 0 0 ≡ 9 → 3 ≤ length s → getD s 1 0 ≤ 3 → getD s 2 0 ≤ 3 → (v : Val) (m : ℕ) → readV left (drop 3 s) ≡ got v m → (w : Val) (n : ℕ) → readV left (drop m (drop 3 s)) ≡ got w n
+      → NodeV left s (v-range (getD s 1 0) (getD s 2 0) v w) (3 + m + n)
   nListV : getD s 0 0 ≡ 10 → 3 ≤ length s → (vs : Vals) (n : ℕ) → readVals (readV left) (numAt 2 1 s) (drop 3 s) ≡ got vs n → NodeV left s (v-list vs) (3 + n)
   nContextV : getD s 0 0 ≡ 11 → 3 ≤ length s → (es : Entries) (n : ℕ) → readEntries (readV left) (numAt 2 1 s) 0 (drop 3 s) ≡ got es n → NodeV left s (v-context es) (3 + n)
-  nDefinition : getD s 0 0 ≡ 12 → 4 ≤ length s → (t : Ty) (m : ℕ) → readT left (drop 4 s) ≡ got t m → (ps : Params) (n : ℕ) → readParams (readT left) (getD s 1 0) 0 (drop m (drop 4 s)) ≡ got ps n → NodeV left s (v-function ps (numAt 2 2 s) t) (4 + m + n)
+  nDefinition : getD s 0 0 ≡ 12 → 4 ≤ length s → (t : Ty) (m : ℕ) → readT left (drop 4 s) ≡ got t m → (ps : Params) (n : ℕ) → readParams (readT left) (getD s 1 0) 0 (drop m (drop 4 s)) ≡ got ps n
+      → NodeV left s (v-function ps (numAt 2 2 s) t) (4 + m + n)
   nBuiltIn : getD s 0 0 ≡ 13 → 2 ≤ length s → getD s 1 0 ≤ 85 → NodeV left s (v-built-in (getD s 1 0)) 2
   nType : getD s 0 0 ≡ 14 → (t : Ty) (n : ℕ) → readT left (drop 1 s) ≡ got t n → NodeV left s (v-type t) (1 + n)
   nIrrelevant : getD s 0 0 ≡ 15 → NodeV left s v-irrelevant 1
@@ -104,7 +115,8 @@ pub record ValueRead (l : ℕ) (s : List ℕ) (v : Val) (n : ℕ) : Type 0 where
 as-nodeV : {left : ℕ} {s : List ℕ} {v w : Val} {n m : ℕ} → v ≡ w → n ≡ m → NodeV left s v n → NodeV left s w m
 as-nodeV p q f = rw (← p, ← q) f
 
-flag-node : (l b m : ℕ) (mk : ℕ → Val) (s : List ℕ) (v : Val) (n : ℕ) → readFlag m mk s ≡ got v n → (2 ≤ length (b ∷ s) → getD (b ∷ s) 1 0 ≤ m → NodeV l (b ∷ s) (mk (getD (b ∷ s) 1 0)) 2) → NodeV l (b ∷ s) v n
+flag-node : (l b m : ℕ) (mk : ℕ → Val) (s : List ℕ) (v : Val) (n : ℕ) → readFlag m mk s ≡ got v n → (2 ≤ length (b ∷ s) → getD (b ∷ s) 1 0 ≤ m → NodeV l (b ∷ s) (mk (getD (b ∷ s) 1 0)) 2)
+    → NodeV l (b ∷ s) v n
 unfolding readFlag
 flag-node l b m mk [] v n e k = absurd (bad-got e)
 flag-node l b m mk (x ∷ s) v n e k = orElse-parts Shape (leb x m) (got (mk x) 2) v n e (λ t e₁. got-parts (mk x) v 2 n e₁ (λ p q. as-nodeV p q (k (omega arith) (leb-true x m t))))
@@ -139,7 +151,8 @@ unfolding readDefinition signature
 definition-node l b [] be v n e = absurd (bad-got e)
 definition-node l b (c ∷ s) be v n e =
     operand-parts 2 (signature (readT l) c) s v n e (λ h e₀.
-    then-parts (λ t ps. v-function ps (num (take 2 s)) t) 4 (drop 2 s) (readParams (readT l) c 0) (readT l (drop 2 s)) v n e₀ (λ t m px ps k py pz pn. as-nodeV pz pn (nDefinition be (omega arith) t m px ps k py)))
+    then-parts (λ t ps. v-function ps (num (take 2 s)) t) 4 (drop 2 s) (readParams (readT l) c 0) (readT l (drop 2 s)) v n e₀
+    (λ t m px ps k py pz pn. as-nodeV pz pn (nDefinition be (omega arith) t m px ps k py)))
 
 value-node : (l b : ℕ) (s : List ℕ) (k : ValueKind) → ViewV b k → (v : Val) (n : ℕ) → stepValue (readV l) (readT l) k b s ≡ got v n → NodeV l (b ∷ s) v n
 unfolding stepValue

@@ -1,9 +1,8 @@
 -- The reader's equations in the terms of the code. One law for each combinator and each kind of run, whatever is read.
 -- Assumes nothing.
-use Prim.Native.Nat.{ℕ, zero, suc, _+_, _*_, _-_, _<_, _≤_, max}
-use mathlib.Core.Path.{_≡_, refl, sym, ap, ap₂, subst, _∙_}
-use mathlib.Core.Bool.{Bool, true, false}
-use mathlib.Core.List.{List, [], _∷_}
+use Prim.Native.Nat.{ℕ, zero, suc, _+_, _-_, _<_, _≤_, max}
+use mathlib.Core.Path.{_≡_, refl, sym, ap, ap₂, _∙_}
+use mathlib.Core.List.{List, []}
 use native.Mathlib.Omega.{arith}
 use native.Mathlib.Nat.{add-zero}
 use lib.ListN.{length, getD, take, drop, length-drop}
@@ -11,16 +10,18 @@ use lib.Seq.{take-all, drop-drop, getD-drop}
 use lib.Dec.{leb}
 use borrow.Author.Tests.{le-leb, lt-leb}
 use Rattle.form.specs.Limits.{nameWidth}
-use Rattle.form.specs.Outcome.{pick}
 use Rattle.form.specs.Form.{num, numAt}
 use Rattle.form.specs.Read.{Got, got, bad, front, andThen, orElse, operand, named, readRun, readNamed, counted}
 use Rattle.form.specs.Walks.{walkOf, walkBy, pairWalk, up, Walk}
-use Rattle.form.specs.Faults.{Fault, Shape, Names, Level}
+use Rattle.form.specs.Faults.{Fault, Shape, Names}
 use Rattle.form.specs.Walks as walk
 
 -- a part that runs to the end is what is left after its start
-pub rest : (s : List ℕ) (a : ℕ) → take (length s - a) (drop a s) ≡ drop a s
+pub rest {ℓ} : {A : Type ℓ} (s : List A) (a : ℕ) → take (length s - a) (drop a s) ≡ drop a s
 rest s a = take-all (length s - a) (drop a s) (simp length-drop (omega arith))
+
+pub length-rest : (s : List ℕ) (a : ℕ) → length (take (length s - a) (drop a s)) ≡ length s - a
+length-rest s a = ap length (rest s a) ∙ length-drop a s
 
 pub end-is : {n m l k : ℕ} → n ≡ m → l ≡ k → walk.End n l ≡ walk.End m k
 end-is p q = ap₂ walk.End p q
@@ -86,7 +87,8 @@ pub record RunInv {X : Type 0} (lv : X → ℕ) (whole : Walk) (now : ℕ → Li
 more : (i n : ℕ) → i < n → n - i ≡ suc (n - (i + 1))
 more i n h = omega arith
 
-pub run-start : {X : Type 0} (lv : X → ℕ) (now : ℕ → List ℕ → Got X) (s : List ℕ) (count at deep : ℕ) → at ≤ length s → deep ≤ at → RunInv lv (walkBy lv at deep (now count (drop at s))) now s count at deep 0
+pub run-start : {X : Type 0} (lv : X → ℕ) (now : ℕ → List ℕ → Got X) (s : List ℕ) (count at deep : ℕ) → at ≤ length s → deep ≤ at
+    → RunInv lv (walkBy lv at deep (now count (drop at s))) now s count at deep 0
 run-start lv now s count at deep h k = let e : count - 0 ≡ count = omega arith in record { below = omega arith; inside = h; shallow = k; goes = rw e }
 
 module _ {X : Type 0} {lv : X → ℕ} {whole : Walk} {now : ℕ → List ℕ → Got X} {s : List ℕ} {count at deep i : ℕ} (v : RunInv lv whole now s count at deep i) where
@@ -99,7 +101,8 @@ module _ {X : Type 0} {lv : X → ℕ} {whole : Walk} {now : ℕ → List ℕ �
   pub run-fault : (f : Fault) → i < count → ((n : ℕ) → walkBy lv at deep (now (suc n) (drop at s)) ≡ walk.Stop f) → walk.Stop f ≡ whole
   run-fault f q h = sym (v .goes ∙ rw (more i count q) (h (count - (i + 1))))
 
-  pub run-turn : (next : ℕ → List ℕ → Got X) (to d size l : ℕ) → i < count → d ≡ max deep l → (size ≤ length s - to) × (l ≤ size) → at ≤ to → to ≤ length s → ((n : ℕ) → walkBy lv at deep (now (suc n) (drop at s)) ≡ walkBy lv (to + size) (max deep l) (next n (drop (to + size) s))) → RunInv lv whole next s count (to + size) d (i + 1)
+  pub run-turn : (next : ℕ → List ℕ → Got X) (to d size l : ℕ) → i < count → d ≡ max deep l → (size ≤ length s - to) × (l ≤ size) → at ≤ to → to ≤ length s
+      → ((n : ℕ) → walkBy lv at deep (now (suc n) (drop at s)) ≡ walkBy lv (to + size) (max deep l) (next n (drop (to + size) s))) → RunInv lv whole next s count (to + size) d (i + 1)
   run-turn next to d size l q de z p p′ h = record {
     below = omega arith;
     inside = omega arith;
@@ -118,7 +121,8 @@ module _ {X R : Type 0} (lx : X → ℕ) (lr : R → ℕ) (nil : R) (cons : X �
     unfolding readRun
     item-fault f w n = then-fault lx lr lr cons 0 (drop at s) (readRun nil cons child n) at deep f (child (drop at s)) w
 
-    pub item-turn : (size lv : ℕ) → walkOf lx (child (drop at s)) ≡ walk.End size lv → (n : ℕ) → walkBy lr at deep (readRun nil cons child (suc n) (drop at s)) ≡ walkBy lr (at + size) (max deep lv) (readRun nil cons child n (drop (at + size) s))
+    pub item-turn : (size lv : ℕ) → walkOf lx (child (drop at s)) ≡ walk.End size lv → (n : ℕ)
+        → walkBy lr at deep (readRun nil cons child (suc n) (drop at s)) ≡ walkBy lr (at + size) (max deep lv) (readRun nil cons child n (drop (at + size) s))
     unfolding readRun
     item-turn size lv w n = rw (← drop-drop size at s) (rw add-zero at (then-end lx lr lr cons 0 (drop at s) (readRun nil cons child n) law at deep size lv (child (drop at s)) w))
 
@@ -155,8 +159,10 @@ module _ {X R : Type 0} (lx : X → ℕ) (lr : R → ℕ) (nil : R) (cons : X �
     run-snoc zero s = snoc-first s (child s)
     run-snoc (suc n) s = go (child s) (λ (k : ℕ). run-snoc n (drop k s))
       where
-        go : (y : Got X) → ((k : ℕ) → walkBy lr 0 0 (readRun nil cons child (suc n) (drop k s)) ≡ pairWalk lr lx (drop k s) child (readRun nil cons child n (drop k s))) → walkBy lr 0 0 (andThen cons 0 s (readRun nil cons child (suc n)) y) ≡ pairWalk lr lx s child (andThen cons 0 s (readRun nil cons child n) y)
-        go (got x k) ih = on-front x k (readRun nil cons child (suc n) (drop k s)) ∙ snoc-rest s x k (walkBy lr 0 0 (readRun nil cons child (suc n) (drop k s))) (readRun nil cons child n (drop k s)) (ih k)
+        go : (y : Got X) → ((k : ℕ) → walkBy lr 0 0 (readRun nil cons child (suc n) (drop k s)) ≡ pairWalk lr lx (drop k s) child (readRun nil cons child n (drop k s)))
+            → walkBy lr 0 0 (andThen cons 0 s (readRun nil cons child (suc n)) y) ≡ pairWalk lr lx s child (andThen cons 0 s (readRun nil cons child n) y)
+        go (got x k) ih = on-front x k (readRun nil cons child (suc n) (drop k s)) ∙ snoc-rest s x k (walkBy lr 0 0 (readRun nil cons child (suc n) (drop k s))) (readRun nil cons child n (drop k s))
+            (ih k)
         go (bad f) ih = by-bad lr f
 
 -- ---- an operand
@@ -184,7 +190,8 @@ module _ {X R : Type 0} (lx : X → ℕ) (lr : R → ℕ) (nil : R) (cons : ℕ 
     named-ends h n = rw (operand-short nameWidth (named cons (λ m. readNamed nil cons next child n (next m)) child least) (drop at s) (simp length-drop h))
 
     module _ (m : ℕ) (e : m ≡ numAt nameWidth at s) (h : nameWidth ≤ length s - at) where
-      opened : (n : ℕ) → readNamed nil cons next child (suc n) least (drop at s) ≡ orElse Names (leb least m) (andThen (cons m) nameWidth (drop (at + nameWidth) s) (readNamed nil cons next child n (next m)) (child (drop (at + nameWidth) s)))
+      opened : (n : ℕ) → readNamed nil cons next child (suc n) least (drop at s) ≡ orElse Names (leb least m)
+          (andThen (cons m) nameWidth (drop (at + nameWidth) s) (readNamed nil cons next child n (next m)) (child (drop (at + nameWidth) s)))
       unfolding readNamed named
       opened n = operand-at nameWidth (named cons (λ j. readNamed nil cons next child n (next j)) child least) s at m e h
 
@@ -192,16 +199,22 @@ module _ {X R : Type 0} (lx : X → ℕ) (lr : R → ℕ) (nil : R) (cons : ℕ 
       unfolding walkBy orElse
       named-names k n = rw (opened n, lt-leb least m k)
 
-      pub named-fault : (f : Fault) → least ≤ m → walkOf lx (child (drop (at + nameWidth) s)) ≡ walk.Stop f → (n : ℕ) → walkBy lr at deep (readNamed nil cons next child (suc n) least (drop at s)) ≡ walk.Stop f
+      pub named-fault : (f : Fault) → least ≤ m → walkOf lx (child (drop (at + nameWidth) s)) ≡ walk.Stop f → (n : ℕ)
+          → walkBy lr at deep (readNamed nil cons next child (suc n) least (drop at s)) ≡ walk.Stop f
       unfolding orElse
-      named-fault f k w n = rw (opened n, le-leb least m k) (then-fault lx lr lr (cons m) nameWidth (drop (at + nameWidth) s) (readNamed nil cons next child n (next m)) at deep f (child (drop (at + nameWidth) s)) w)
+      named-fault f k w n = rw (opened n, le-leb least m k) (then-fault lx lr lr (cons m) nameWidth (drop (at + nameWidth) s) (readNamed nil cons next child n (next m)) at deep f
+          (child (drop (at + nameWidth) s)) w)
 
-      pub named-turn : (size lv : ℕ) → least ≤ m → walkOf lx (child (drop (at + nameWidth) s)) ≡ walk.End size lv → (n : ℕ) → walkBy lr at deep (readNamed nil cons next child (suc n) least (drop at s)) ≡ walkBy lr (at + nameWidth + size) (max deep lv) (readNamed nil cons next child n (next m) (drop (at + nameWidth + size) s))
+      pub named-turn : (size lv : ℕ) → least ≤ m → walkOf lx (child (drop (at + nameWidth) s)) ≡ walk.End size lv → (n : ℕ)
+          → walkBy lr at deep (readNamed nil cons next child (suc n) least (drop at s)) ≡ walkBy lr (at + nameWidth + size) (max deep lv)
+          (readNamed nil cons next child n (next m) (drop (at + nameWidth + size) s))
       unfolding orElse
-      named-turn size lv k w n = rw (opened n, le-leb least m k, ← drop-drop size (at + nameWidth) s) (then-end lx lr lr (cons m) nameWidth (drop (at + nameWidth) s) (readNamed nil cons next child n (next m)) (law m) at deep size lv (child (drop (at + nameWidth) s)) w)
+      named-turn size lv k w n = rw (opened n, le-leb least m k, ← drop-drop size (at + nameWidth) s)
+          (then-end lx lr lr (cons m) nameWidth (drop (at + nameWidth) s) (readNamed nil cons next child n (next m)) (law m) at deep size lv (child (drop (at + nameWidth) s)) w)
 
 -- ---- a counted run, behind its command
-pub counted-is : {R Z : Type 0} (lr : R → ℕ) (lz : Z → ℕ) (g : R → Z) (law : (x : R) → lz (g x) ≡ suc (lr x)) (run : ℕ → List ℕ → Got R) (s : List ℕ) (m : ℕ) → m ≡ numAt 2 1 s → 2 ≤ length s - 1 → walkOf lz (counted g run (drop 1 s)) ≡ up 3 (walkBy lr 0 0 (run m (drop 3 s)))
+pub counted-is : {R Z : Type 0} (lr : R → ℕ) (lz : Z → ℕ) (g : R → Z) (law : (x : R) → lz (g x) ≡ suc (lr x)) (run : ℕ → List ℕ → Got R) (s : List ℕ) (m : ℕ) → m ≡ numAt 2 1 s → 2 ≤ length s - 1
+    → walkOf lz (counted g run (drop 1 s)) ≡ up 3 (walkBy lr 0 0 (run m (drop 3 s)))
 unfolding counted
 counted-is lr lz g law run s m e h = rw (operand-at 2 (λ c r. front g 3 (run c r)) s 1 m e h) (front-run lr lz g 3 law (run m (drop 3 s)))
 

@@ -13,7 +13,7 @@ use Rattle.form.specs.Read.{Got, got, bad}
 use Rattle.form.specs.Walks.{Walk, walkOf, Told, Inside, up, leafIn, Short}
 use Rattle.form.specs.Walks as walk
 use Rattle.form.proofs.Commands.{width-is}
-use Rattle.form.proofs.Runs.{rest, end-is}
+use Rattle.form.proofs.Runs.{rest, length-rest, end-is}
 
 -- ---- a callee's answer
 -- a walk that took bytes ended so
@@ -24,9 +24,6 @@ told-end (walk.End size lv) n r t a q =
 told-end (walk.Stop f) n r t a q = absurd (omega (arith, a .size))
 
 -- the same with room for one over the part from a of s
-long : (s : List ℕ) (a : ℕ) → length (take (length s - a) (drop a s)) ≡ length s - a
-long s a = rw (rest s a) (length-drop a s)
-
 pub told-part : (f : List ℕ → Walk) (s : List ℕ) (a r t : ℕ) → Told (f (take (length s - a) (drop a s))) (length (take (length s - a) (drop a s))) r t → Told (f (drop a s)) (length s - a) r t
 told-part f s a r t h = rw (rest s a, length-drop a s) at h
 
@@ -96,7 +93,7 @@ scant s c n k e f h z i = let w = width-is (getD s 0 0) k (ap kindOf e ∙ f) in
 
 -- behind k bytes there is room for them again
 pub part-room : (s : List ℕ) (k : ℕ) → k ≤ length s → length s < 18446744073709551616 → length (take (length s - k) (drop k s)) + k < 18446744073709551616
-part-room s k h i = let n = long s k in omega arith
+part-room s k h i = let n = length-rest s k in omega arith
 
 -- a parent whose operands are there was ruled out
 pub no-parent : (s : List ℕ) (c : ℕ) (k : Kind) → kindOf c ≡ k → slot (operands k) ≡ 2 → 9 ≤ c → c ≤ 11 → 0 < length s → widthOf (getD s 0 0) ≤ length s - 1

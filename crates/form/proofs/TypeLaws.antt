@@ -1,21 +1,21 @@
 -- The reader of types in the terms of the code.
 -- Assumes nothing.
-use Prim.Native.Nat.{ℕ, zero, suc, _+_, _*_, _-_, _<_, _≤_, max}
-use mathlib.Core.Path.{_≡_, refl, sym, ap, ap₂, subst, _∙_}
+use Prim.Native.Nat.{ℕ, zero, suc, _-_, _<_, _≤_, max}
+use mathlib.Core.Path.{_≡_, refl, sym, ap, _∙_}
 use mathlib.Core.Bool.{true}
 use mathlib.Core.List.{List, [], _∷_}
 use native.Mathlib.Omega.{arith}
-use lib.ListN.{length, getD, take, drop, length-drop}
+use lib.ListN.{length, getD, drop, length-drop}
 use lib.Seq.{getD-drop, drop-drop}
 use Rattle.form.specs.Trees.{Ty, leaf, built, list, range, context, function, Fields, no-fields, field, Tys, no-params, param, simple}
-use Rattle.form.specs.Form.{numAt, level, levelBuilt, levelFields, levelTys}
+use Rattle.form.specs.Form.{numAt, level, levelFields, levelTys}
 use Rattle.form.specs.Layout.{TypeKind, tSimple, tList, tRange, tContext, tFunction, Kind, ofValue, ofType, noCommand, kindOf, operands, operandsT, slot, widthOf}
-use Rattle.form.specs.Read.{Got, got, bad, front, andThen, readRun, readFields, readTys, counted, readFunction, stepType, stepT, readT}
-use Rattle.form.specs.Walks.{walkOf, walkBy, pairWalk, up}
-use Rattle.form.specs.Faults.{Shape, Names, Level}
+use Rattle.form.specs.Read.{Got, got, bad, front, andThen, readRun, readFields, readTys, readFunction, stepType, stepT, readT}
+use Rattle.form.specs.Walks.{walkOf, walkBy, up}
+use Rattle.form.specs.Faults.{Shape, Level}
 use Rattle.form.specs.Walks as walk
 use Rattle.form.proofs.Commands.{ViewT, isSimpleT, isListT, isRangeT, isContextT, isFunctionT, View, isValue, isType, isGap, isBeyond, view, there, value-below}
-use Rattle.form.proofs.Runs.{end-is, front-up, front-run, then-up, counted-is, counted-short, run-snoc}
+use Rattle.form.proofs.Runs.{end-is, front-up, then-up, counted-is, counted-short, run-snoc}
 
 pub fields-law : (m : ℕ) (t : Ty) (fs : Fields) → levelFields (field m t fs) ≡ max (level t) (levelFields fs)
 unfolding levelFields
@@ -82,7 +82,8 @@ type-other b k (isRangeT e) h₁ h₂ h₃ h₄ = h₂ (omega arith) (omega arit
 type-other b k (isContextT e) h₁ h₂ h₃ h₄ = h₃ e
 type-other b k (isFunctionT e) h₁ h₂ h₃ h₄ = h₄ e
 
-step-other : (child : List ℕ → Got Ty) (b : ℕ) (s : List ℕ) (k : Kind) → View b k → (0x20 ≤ b → b < 0x2A → ⊥) → (0x2A ≤ b → b < 0x2C → ⊥) → (b ≡ 0x2C → ⊥) → (b ≡ 0x2D → ⊥) → stepT child k b s ≡ bad Shape
+step-other : (child : List ℕ → Got Ty) (b : ℕ) (s : List ℕ) (k : Kind) → View b k → (0x20 ≤ b → b < 0x2A → ⊥) → (0x2A ≤ b → b < 0x2C → ⊥) → (b ≡ 0x2C → ⊥) → (b ≡ 0x2D → ⊥)
+    → stepT child k b s ≡ bad Shape
 unfolding stepT
 step-other child b s k (isValue j v) h₁ h₂ h₃ h₄ = refl
 step-other child b s k (isType j v) h₁ h₂ h₃ h₄ = absurd (type-other b j v h₁ h₂ h₃ h₄)
@@ -130,7 +131,8 @@ module _ (l : ℕ) (s : List ℕ) (h : 0 < length s) (p : 0 < l) where
   unfolding walkOf widthOf
   t-short n = rw (t-step l s h p, step-short (readT (l - 1)) (kindOf (getD s 0 0)) (getD s 0 0) (drop 1 s) (simp length-drop n))
 
-  pub t-other : (0x20 ≤ getD s 0 0 → getD s 0 0 < 0x2A → ⊥) → (0x2A ≤ getD s 0 0 → getD s 0 0 < 0x2C → ⊥) → (getD s 0 0 ≡ 0x2C → ⊥) → (getD s 0 0 ≡ 0x2D → ⊥) → walkOf level (readT l s) ≡ walk.Stop Shape
+  pub t-other : (0x20 ≤ getD s 0 0 → getD s 0 0 < 0x2A → ⊥) → (0x2A ≤ getD s 0 0 → getD s 0 0 < 0x2C → ⊥) → (getD s 0 0 ≡ 0x2C → ⊥) → (getD s 0 0 ≡ 0x2D → ⊥)
+      → walkOf level (readT l s) ≡ walk.Stop Shape
   unfolding walkOf
   t-other h₁ h₂ h₃ h₄ = rw (t-step l s h p, step-other (readT (l - 1)) (getD s 0 0) (drop 1 s) (kindOf (getD s 0 0)) (view (getD s 0 0)) h₁ h₂ h₃ h₄)
 

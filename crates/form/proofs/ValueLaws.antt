@@ -1,24 +1,28 @@
 -- The reader of values in the terms of the code.
 -- Assumes nothing.
-use Prim.Native.Nat.{ℕ, zero, suc, _+_, _*_, _-_, _<_, _≤_, max}
-use mathlib.Core.Path.{_≡_, refl, sym, ap, ap₂, subst, _∙_}
+use Prim.Native.Nat.{ℕ, zero, suc, _+_, _-_, _<_, _≤_, max}
+use mathlib.Core.Path.{_≡_, refl, sym, ap, _∙_}
 use mathlib.Core.Bool.{Bool, true, false}
 use mathlib.Core.List.{List, [], _∷_}
 use native.Mathlib.Omega.{arith}
-use lib.ListN.{length, getD, take, drop, length-drop}
+use lib.ListN.{length, getD, drop, length-drop}
 use lib.Seq.{getD-drop, drop-drop}
 use lib.Dec.{leb, eqb}
 use borrow.Author.Tests.{le-leb, lt-leb}
-use Rattle.form.specs.Trees.{Ty, Params, no-parameters, parameter, Leaf, l-null, l-boolean, l-number, l-string, l-temporal, Val, v-leaf, v-range, v-list, v-context, v-function, v-built-in, v-type, v-irrelevant, Vals, no-items, item, Entries, no-entries, entry, isDataLeaf, decode-temporal}
+use Rattle.form.specs.Trees.{Ty, Params, no-parameters, parameter, l-null, l-boolean, l-number, l-string, l-temporal, Val, v-leaf, v-range, v-list, v-context, v-function, v-built-in, v-type}
+use Rattle.form.specs.Trees.{v-irrelevant, Vals, no-items, item, Entries, no-entries, entry, isDataLeaf, decode-temporal}
 use Rattle.form.specs.Form.{numAt, level, levelParams, levelTys, levelV, levelVals, levelEntries}
-use Rattle.form.specs.Layout.{ValueKind, kNull, kBoolean, kNumber, kString, kTemporal, kRange, kList, kContext, kDefinition, kBuiltIn, kType, kIrrelevant, Kind, ofValue, ofType, noCommand, kindOf, operands, operandsV, slot, widthOf}
+use Rattle.form.specs.Layout.{ValueKind, kNull, kBoolean, kNumber, kString, kTemporal, kRange, kList, kContext, kDefinition, kBuiltIn, kType, kIrrelevant, Kind, ofValue, ofType, noCommand}
+use Rattle.form.specs.Layout.{kindOf, operands, operandsV, slot, widthOf}
 use Rattle.form.specs.Limits.{nameWidth}
 use Rattle.form.specs.Outcome.{pick}
-use Rattle.form.specs.Read.{Got, got, bad, front, andThen, orElse, operand, readRun, readVals, readEntries, readParams, readTys, readFlag, readKey, counted, readRange, signature, readDefinition, readT, stepValue, stepV, readV}
+use Rattle.form.specs.Read.{Got, got, bad, front, andThen, orElse, operand, readRun, readVals, readEntries, readParams, readTys, readFlag, readKey, readRange, signature, readDefinition, readT}
+use Rattle.form.specs.Read.{stepValue, stepV, readV}
 use Rattle.form.specs.Walks.{walkOf, walkBy, pairWalk, up, operandEnd, flagWalk}
-use Rattle.form.specs.Faults.{Shape, Names, Level}
+use Rattle.form.specs.Faults.{Shape, Level}
 use Rattle.form.specs.Walks as walk
-use Rattle.form.proofs.Commands.{ViewV, isNull, isBoolean, isNumber, isString, isTemporal, isRange, isList, isContext, isDefinition, isBuiltIn, isFeelType, isIrrelevant, View, isValue, isType, isGap, isBeyond, view, type-within, there, width-is}
+use Rattle.form.proofs.Commands.{ViewV, isNull, isBoolean, isNumber, isString, isTemporal, isRange, isList, isContext, isDefinition, isBuiltIn, isFeelType, isIrrelevant, View, isValue, isType}
+use Rattle.form.proofs.Commands.{isGap, isBeyond, view, type-within, there, width-is}
 use Rattle.form.proofs.TypeLaws.{one-is}
 use Rattle.form.proofs.Runs.{end-is, front-up, then-up, operand-short, operand-at, counted-is, counted-short}
 
@@ -117,7 +121,8 @@ range-law : (a b : ℕ) (v w : Val) → levelV (v-range a b v w) ≡ suc (max (l
 unfolding levelV
 range-law a b v w = refl
 
-range-is : (child : List ℕ → Got Val) (s : List ℕ) → 2 ≤ length s → getD s 0 0 ≤ 3 → getD s 1 0 ≤ 3 → walkOf levelV (readRange child s) ≡ up 3 (pairWalk levelV levelV (drop 2 s) child (child (drop 2 s)))
+range-is : (child : List ℕ → Got Val) (s : List ℕ) → 2 ≤ length s → getD s 0 0 ≤ 3 → getD s 1 0 ≤ 3
+    → walkOf levelV (readRange child s) ≡ up 3 (pairWalk levelV levelV (drop 2 s) child (child (drop 2 s)))
 unfolding readRange orElse
 range-is child [] h p q = absurd (omega arith)
 range-is child (a ∷ []) h p q = absurd (omega arith)
@@ -139,11 +144,14 @@ definition-law : (b : ℕ) (t : Ty) (ps : Params) → levelV (v-function ps b t)
 unfolding levelV
 definition-law b t ps = refl
 
-definition-at : (type : List ℕ → Got Ty) (s : List ℕ) (c : ℕ) → 3 ≤ length s - 1 → walkOf levelV (operand 2 (signature type c) (drop 2 s)) ≡ up 4 (pairWalk level levelParams (drop 4 s) (readParams type c 0) (type (drop 4 s)))
+definition-at : (type : List ℕ → Got Ty) (s : List ℕ) (c : ℕ) → 3 ≤ length s - 1 → walkOf levelV (operand 2 (signature type c) (drop 2 s)) ≡ up 4
+    (pairWalk level levelParams (drop 4 s) (readParams type c 0) (type (drop 4 s)))
 unfolding signature
-definition-at type s c h = rw (operand-at 2 (signature type c) s 2 (numAt 2 2 s) refl (omega arith)) (then-up level levelParams levelV (λ t ps. v-function ps (numAt 2 2 s) t) 4 (drop 4 s) (readParams type c 0) (definition-law (numAt 2 2 s)) (type (drop 4 s)))
+definition-at type s c h = rw (operand-at 2 (signature type c) s 2 (numAt 2 2 s) refl (omega arith))
+    (then-up level levelParams levelV (λ t ps. v-function ps (numAt 2 2 s) t) 4 (drop 4 s) (readParams type c 0) (definition-law (numAt 2 2 s)) (type (drop 4 s)))
 
-definition-is : (type : List ℕ → Got Ty) (s : List ℕ) → 3 ≤ length s - 1 → walkOf levelV (readDefinition type (drop 1 s)) ≡ up 4 (pairWalk level levelParams (drop 4 s) (readParams type (getD s 1 0) 0) (type (drop 4 s)))
+definition-is : (type : List ℕ → Got Ty) (s : List ℕ) → 3 ≤ length s - 1 → walkOf levelV (readDefinition type (drop 1 s)) ≡ up 4
+    (pairWalk level levelParams (drop 4 s) (readParams type (getD s 1 0) 0) (type (drop 4 s)))
 unfolding readDefinition
 definition-is type [] h = absurd (omega arith)
 definition-is type (a ∷ []) h = absurd (omega arith)
@@ -201,7 +209,8 @@ value-other b k (isBuiltIn e) h h9 h10 h11 h12 h13 h14 h15 = h13 e
 value-other b k (isFeelType e) h h9 h10 h11 h12 h13 h14 h15 = h14 e
 value-other b k (isIrrelevant e) h h9 h10 h11 h12 h13 h14 h15 = h15 e
 
-step-other : (child : List ℕ → Got Val) (type : List ℕ → Got Ty) (b : ℕ) (s : List ℕ) (k : Kind) → View b k → 9 ≤ b → (b ≡ 9 → ⊥) → (b ≡ 10 → ⊥) → (b ≡ 11 → ⊥) → (b ≡ 12 → ⊥) → (b ≡ 13 → ⊥) → (b ≡ 14 → ⊥) → (b ≡ 15 → ⊥) → stepV child type k b s ≡ bad Shape
+step-other : (child : List ℕ → Got Val) (type : List ℕ → Got Ty) (b : ℕ) (s : List ℕ) (k : Kind) → View b k → 9 ≤ b → (b ≡ 9 → ⊥) → (b ≡ 10 → ⊥) → (b ≡ 11 → ⊥) → (b ≡ 12 → ⊥) → (b ≡ 13 → ⊥)
+    → (b ≡ 14 → ⊥) → (b ≡ 15 → ⊥) → stepV child type k b s ≡ bad Shape
 unfolding stepV
 step-other child type b s k (isValue j v) h h9 h10 h11 h12 h13 h14 h15 = absurd (value-other b j v h h9 h10 h11 h12 h13 h14 h15)
 step-other child type b s k (isType j v) h h9 h10 h11 h12 h13 h14 h15 = refl
@@ -217,7 +226,8 @@ module _ (l : ℕ) (s : List ℕ) (h : 0 < length s) (p : 0 < l) where
   unfolding walkOf widthOf
   v-short n = rw (v-step l s h p, step-short (readV (l - 1)) (readT (l - 1)) (kindOf (getD s 0 0)) (getD s 0 0) (drop 1 s) (simp length-drop n))
 
-  pub v-other : 9 ≤ getD s 0 0 → (getD s 0 0 ≡ 9 → ⊥) → (getD s 0 0 ≡ 10 → ⊥) → (getD s 0 0 ≡ 11 → ⊥) → (getD s 0 0 ≡ 12 → ⊥) → (getD s 0 0 ≡ 13 → ⊥) → (getD s 0 0 ≡ 14 → ⊥) → (getD s 0 0 ≡ 15 → ⊥) → walkOf levelV (readV l s) ≡ walk.Stop Shape
+  pub v-other : 9 ≤ getD s 0 0 → (getD s 0 0 ≡ 9 → ⊥) → (getD s 0 0 ≡ 10 → ⊥) → (getD s 0 0 ≡ 11 → ⊥) → (getD s 0 0 ≡ 12 → ⊥) → (getD s 0 0 ≡ 13 → ⊥) → (getD s 0 0 ≡ 14 → ⊥) → (getD s 0 0 ≡ 15 → ⊥)
+      → walkOf levelV (readV l s) ≡ walk.Stop Shape
   unfolding walkOf
   v-other o h9 h10 h11 h12 h13 h14 h15 = rw (v-step l s h p, step-other (readV (l - 1)) (readT (l - 1)) (getD s 0 0) (drop 1 s) (kindOf (getD s 0 0)) (view (getD s 0 0)) o h9 h10 h11 h12 h13 h14 h15)
 
@@ -266,7 +276,8 @@ module _ (l : ℕ) (s : List ℕ) (h : 0 < length s) (p : 0 < l) where
     v-temporal w we e = v-kind kTemporal e ∙ key-is 8 (λ x. v-leaf (l-temporal (decode-temporal (getD s 0 0 - 0x04)) x)) (λ x. refl) s (off kTemporal e) w (wide-as kTemporal e w we)
 
     -- a number, a text or a temporal
-    key-value : (w : ℕ) → w ≡ widthOf (getD s 0 0) → 2 ≤ getD s 0 0 → getD s 0 0 < 9 → (k : ValueKind) → ViewV (getD s 0 0) k → kindOf (getD s 0 0) ≡ ofValue k → walkOf levelV (readV l s) ≡ walk.End (w + 1) 1
+    key-value : (w : ℕ) → w ≡ widthOf (getD s 0 0) → 2 ≤ getD s 0 0 → getD s 0 0 < 9 → (k : ValueKind) → ViewV (getD s 0 0) k → kindOf (getD s 0 0) ≡ ofValue k
+        → walkOf levelV (readV l s) ≡ walk.End (w + 1) 1
     key-value w we x y k (isNull e) f = absurd (omega arith)
     key-value w we x y k (isBoolean e) f = absurd (omega arith)
     key-value w we x y k (isNumber e) f = v-number w we f
@@ -312,7 +323,8 @@ module _ (l : ℕ) (s : List ℕ) (h : 0 < length s) (p : 0 < l) where
     unfolding stepValue operandsV levelV
     v-context-is m me e = v-kind kContext e ∙ counted-is levelEntries levelV v-context (λ x. refl) (λ c r. readEntries (readV (l - 1)) c 0 r) s m me (off kContext e)
 
-    pub v-definition : (c : ℕ) → c ≡ getD s 1 0 → kindOf (getD s 0 0) ≡ ofValue kDefinition → walkOf levelV (readV l s) ≡ up 4 (pairWalk level levelParams (drop 4 s) (readParams (readT (l - 1)) c 0) (readT (l - 1) (drop 4 s)))
+    pub v-definition : (c : ℕ) → c ≡ getD s 1 0 → kindOf (getD s 0 0) ≡ ofValue kDefinition
+        → walkOf levelV (readV l s) ≡ up 4 (pairWalk level levelParams (drop 4 s) (readParams (readT (l - 1)) c 0) (readT (l - 1) (drop 4 s)))
     unfolding stepValue operandsV
     v-definition c ce e = v-kind kDefinition e ∙ rw ce (definition-is (readT (l - 1)) s (off kDefinition e))
 

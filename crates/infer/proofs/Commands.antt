@@ -1,6 +1,6 @@
 -- What the writer of a value's type asks and leaves, by the value's command.
 -- Assumes nothing.
-use Prim.Native.Nat.{ℕ, zero, suc, _+_, _-_, _/_, _%_, _<_, _≤_}
+use Prim.Native.Nat.{ℕ, _+_, _-_, _/_, _%_, _<_, _≤_}
 use mathlib.Core.Path.{_≡_, refl, sym, ap, ap₂, subst, _∙_}
 use mathlib.Core.Bool.{Bool, true, false, _&&_}
 use mathlib.Core.Option.{Option, some}
@@ -9,26 +9,30 @@ use native.Mathlib.Omega.{arith}
 use lib.ListN.{length, getD, take, drop, set, length-append, length-set}
 use lib.Seq.{getD-drop}
 use borrow.Rule.Slice.PartMut.{putMid, same-len-mid, set-mid-at}
-use Rattle.form.specs.Trees.{Ty, built, code, Leaf, l-null, l-boolean, l-number, l-string, l-temporal, decode-temporal, Params, Val, v-leaf, v-range, v-list, v-context, v-function, v-type, no-items, item, Entries}
+use Rattle.form.specs.Trees.{Ty, code, Leaf, l-null, l-boolean, l-number, l-string, l-temporal, decode-temporal, Params, Val, v-leaf, v-range, v-list, v-context, v-function, v-type, no-items, item}
+use Rattle.form.specs.Trees.{Entries}
 use Rattle.form.specs.Form.{bytes, numAt, Bytes, enc, encV, WfV, WfVals, WfEntries}
 use Rattle.form.specs.Layout.{ofValue, kTemporal, kindOf, operandsV, operands, widthOf}
 use Rattle.form.specs.Answers.{onto}
 use Rattle.form.proofs.Exact.{bytes-drop}
 use Rattle.form.proofs.Commands.{kind-temporal, width-is}
+use Rattle.form.proofs.ExactValues.{code-decode}
+use Rattle.form.proofs.Runs.{rest, length-rest}
 use Rattle.order.specs.Order.{fixed}
 use Rattle.order.specs.Size.{size, size-val, size-vals, size-entries}
-use Rattle.order.specs.Values.{leaf-type, temporal-type, is-data, are-data, hold-data}
+use Rattle.order.specs.Values.{leaf-type, is-data, are-data, hold-data}
 use Rattle.order.specs.Inferred.{isData}
+use Rattle.order.proofs.Simple.{temporal-code}
 use Rattle.order.proofs.Bools.{and-true}
 use Rattle.order.proofs.Size.{length-enc, size-positive}
 use Rattle.order.proofs.LeastSize.{count-types-of}
 use Rattle.types.specs.At.{typeAt, sizeAt}
-use Rattle.types.proofs.Reading.{rest}
 use Rattle.types.proofs.Entries.{size-got}
 use Rattle.types.proofs.Instances.{front-bytes}
 use Rattle.values.specs.At.{valueAt, itemsAt, entriesAt, Definition, definition, size-definition, definitionAt}
-use Rattle.values.proofs.Reading.{some-byte, some-level, v-inside, IsVal, is-null, is-boolean, is-number, is-string, is-temporal, is-range, is-list, is-context, is-definition, is-built-in, is-type, is-irrelevant, is-val}
-use Rattle.bounds.proofs.Laws.{length-rest, onto-first, onto-two, onto-three, length-onto}
+use Rattle.values.proofs.Reading.{some-byte, some-level, v-inside, IsVal, is-null, is-boolean, is-number, is-string, is-temporal, is-range, is-list, is-context, is-definition, is-built-in, is-type}
+use Rattle.values.proofs.Reading.{is-irrelevant, is-val}
+use Rattle.bounds.proofs.Laws.{onto-first, onto-two, onto-three, length-onto}
 use Rattle.infer.specs.Typing.{typeBy, Fits, FitVal, FitDefinition, Fitting, Plain, Starts, Wrote, Typed, typeText, fieldsText, innerText, signatureText}
 use Rattle.infer.proofs.Trees.{fine, list-is, range-is, context-is, leaf-is, built-in-is, irrelevant-is, function-is, type-is, count-is}
 use Rattle.infer.proofs.Writing.{starts-onto, starts-inside, lent-starts, encoded, Opened, open-fit, fit, typed, typed-is, behind}
@@ -85,11 +89,13 @@ module _ {m : Bool} {l : ℕ} {s old : List ℕ} {X : Type 0} {sz : X → ℕ} {
         })
 
 -- the same with what a call on the part asks
-pub record Part (m : Bool) (l : ℕ) (s old : List ℕ) (spare : ℕ) {X : Type 0} (wf : X → Type 0) (test : X → Bool) (want sz : X → ℕ) (text : X → List ℕ) (r : Option X) (j k : ℕ) (xs : List ℕ) : Type 0 where
+pub record Part (m : Bool) (l : ℕ) (s old : List ℕ) (spare : ℕ) {X : Type 0} (wf : X → Type 0) (test : X → Bool) (want sz : X → ℕ) (text : X → List ℕ) (r : Option X) (j k : ℕ)
+    (xs : List ℕ) : Type 0 where
   pub under : Under m l s old sz text r j k xs
   pub fits : Fits wf test want m (under .x) (length old - k) spare
 
-pub part-fits : {m : Bool} {l : ℕ} {s old : List ℕ} {spare : ℕ} {X : Type 0} {wf : X → Type 0} {test : X → Bool} {want sz : X → ℕ} {text : X → List ℕ} {r : Option X} {j k : ℕ} {xs : List ℕ} → Part m l s old spare wf test want sz text r j k xs → Fitting wf test want m r (length (behind k xs)) spare
+pub part-fits : {m : Bool} {l : ℕ} {s old : List ℕ} {spare : ℕ} {X : Type 0} {wf : X → Type 0} {test : X → Bool} {want sz : X → ℕ} {text : X → List ℕ} {r : Option X} {j k : ℕ} {xs : List ℕ}
+    → Part m l s old spare wf test want sz text r j k xs → Fitting wf test want m r (length (behind k xs)) spare
 part-fits {m = m} {old = old} {spare = spare} {wf = wf} {test = test} {want = want} {r = r} {k = k} {xs = xs} P =
     let e : length old - k ≡ length (behind k xs) = omega (arith, length-rest xs k, P .under .same) in
     fit r (P .under .x) (length (behind k xs)) spare (P .under .part) (subst (λ (z : ℕ). Fits wf test want m (P .under .x) z spare) e (P .fits))
@@ -99,7 +105,8 @@ pub still : (n : ℕ) (xs : List ℕ) (k b : ℕ) → n ≤ length xs → n ≤ 
 still n xs k b h = omega (arith, length-set xs k b)
 
 -- ---- one byte for the whole type
-simple-wrote : (m : Bool) (l : ℕ) (s : List ℕ) (v : Val) → valueAt l s ≡ some v → (b : ℕ) → typeText m v ≡ b ∷ [] → (n : ℕ) → n ≡ size-val v → (old : List ℕ) → 1 ≤ length old → Typed size-val (typeText m) (valueAt l s) old (set old 0 b) n 1
+simple-wrote : (m : Bool) (l : ℕ) (s : List ℕ) (v : Val) → valueAt l s ≡ some v → (b : ℕ) → typeText m v ≡ b ∷ [] → (n : ℕ) → n ≡ size-val v → (old : List ℕ) → 1 ≤ length old
+    → Typed size-val (typeText m) (valueAt l s) old (set old 0 b) n 1
 simple-wrote m l s v read b t n e old h =
     typed (valueAt l s) v old (set old 0 b) n 1 read
     (record {
@@ -108,14 +115,6 @@ simple-wrote m l s v read b t n e old h =
       out = subst (λ (z : List ℕ). Starts z (set old 0 b)) (sym t) (starts-onto (b ∷ []) old (set old 0 b) (onto-first old b h));
       kept = length-set old 0 b;
     })
-
-temporal-code : (n : ℕ) → n < 5 → code (temporal-type (decode-temporal n)) ≡ n + 4
-temporal-code zero h = refl
-temporal-code (suc zero) h = refl
-temporal-code (suc (suc zero)) h = refl
-temporal-code (suc (suc (suc zero))) h = refl
-temporal-code (suc (suc (suc (suc zero)))) h = refl
-temporal-code (suc (suc (suc (suc (suc n))))) h = absurd (omega arith)
 
 -- the whole type is the byte b, and the value has n + 1 bytes
 abbrev Simply : Bool → Val → ℕ → ℕ → Type 0
@@ -147,7 +146,9 @@ module _ (m : Bool) (l : ℕ) (s : List ℕ) where
   leaf-of v (is-boolean x c) g h = leaf-simply m (l-boolean x) 1 (getD s 0 0) c refl refl
   leaf-of v (is-number x c) g h = leaf-simply m (l-number x) 2 (getD s 0 0) c refl refl
   leaf-of v (is-string x c) g h = leaf-simply m (l-string x) 3 (getD s 0 0) c refl refl
-  leaf-of v (is-temporal x c k) g h = leaf-simply m (l-temporal (decode-temporal (getD s 0 0 - 4)) x) (getD s 0 0) (getD s 0 0) refl (omega (arith, temporal-code (getD s 0 0 - 4) (omega arith))) (ap (λ (z : ℕ). z + 1) (width-is (getD s 0 0) (ofValue kTemporal) (kind-temporal (getD s 0 0) c k)))
+  leaf-of v (is-temporal x c k) g h = leaf-simply m (l-temporal (decode-temporal (getD s 0 0 - 4)) x) (getD s 0 0) (getD s 0 0) refl
+      (omega (arith, temporal-code (decode-temporal (getD s 0 0 - 4)), code-decode (getD s 0 0 - 4) (omega arith)))
+      (ap (λ (z : ℕ). z + 1) (width-is (getD s 0 0) (ofValue kTemporal) (kind-temporal (getD s 0 0) c k)))
   leaf-of v (is-range i j a b c k e) g h = absurd (omega arith)
   leaf-of v (is-list vs c k e) g h = absurd (omega arith)
   leaf-of v (is-context es c k e) g h = absurd (omega arith)
@@ -327,7 +328,8 @@ module _ (m : Bool) (l : ℕ) (s old : List ℕ) (spare : ℕ) (bs : Bytes s) wh
   abbrev Defines : ℕ → Type 0
   Defines n = Under m l s old size-definition signatureText (definitionAt (l - 1) n (behind 4 s)) 4 2 two
 
-  function-text : (ps : Params) (b : ℕ) (r : Ty) → valueAt l s ≡ some (v-function ps b r) → (m ≡ true → isData (v-function ps b r) ≡ true) → typeText m (v-function ps b r) ≡ 45 ∷ getD s 1 0 ∷ signatureText (definition r ps)
+  function-text : (ps : Params) (b : ℕ) (r : Ty) → valueAt l s ≡ some (v-function ps b r) → (m ≡ true → isData (v-function ps b r) ≡ true)
+      → typeText m (v-function ps b r) ≡ 45 ∷ getD s 1 0 ∷ signatureText (definition r ps)
   unfolding enc encV bytes
   function-text ps b r read d =
       let F = encoded l s (v-function ps b r) bs read in
@@ -446,7 +448,8 @@ module _ (m : Bool) (l : ℕ) (s old spare : List ℕ) (p : FitVal m (valueAt l 
 
   plain-done : (n : ℕ) → Plain (getD s 0 0) n → Typed size-val (typeText m) (valueAt l s) old (set old 0 (getD s 0 0 + 32)) n 1
   plain-done n P =
-      subst (λ (z : ℕ). Typed size-val (typeText m) (valueAt l s) old (set old 0 (getD s 0 0 + 32)) z 1) (sym (P .size)) (simply-done _ _ (leaf-of m l s (O .x) kind (λ e. omega (arith, P .some)) (P .low)) (widthOf (getD s 0 0)) refl)
+      subst (λ (z : ℕ). Typed size-val (typeText m) (valueAt l s) old (set old 0 (getD s 0 0 + 32)) z 1) (sym (P .size))
+      (simply-done _ _ (leaf-of m l s (O .x) kind (λ e. omega (arith, P .some)) (P .low)) (widthOf (getD s 0 0)) refl)
 
   module _ (other : Other m l s) where
     pub leaf-ends : getD s 0 0 < 9 → widthOf (getD s 0 0) + 1 ≤ length s

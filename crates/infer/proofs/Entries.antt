@@ -14,17 +14,17 @@ use Rattle.form.specs.Trees.{Val, Entries, no-entries, entry}
 use Rattle.form.specs.Form.{bytes, numAt, Bytes, encFields, WfV}
 use Rattle.form.proofs.Exact.{bytes-drop}
 use Rattle.form.proofs.Numbers.{length-bytes}
+use Rattle.form.proofs.Runs.{rest, length-rest}
 use Rattle.order.specs.Order.{fixed}
 use Rattle.order.specs.Size.{size-val, size-entries}
 use Rattle.order.specs.Values.{hold-data}
 use Rattle.order.specs.Inferred.{isData}
 use Rattle.order.proofs.Size.{length-enc}
-use Rattle.types.proofs.Reading.{rest}
 use Rattle.types.proofs.Entries.{step}
 use Rattle.values.specs.At.{valueAt, entriesAt}
 use Rattle.values.proofs.Reading.{some-byte, v-inside, Entry, next-entry, no-entry}
 use Rattle.bounds.specs.Writing.{over}
-use Rattle.bounds.proofs.Laws.{length-rest, length-over}
+use Rattle.bounds.proofs.Laws.{length-over}
 use Rattle.bounds.proofs.Trees.{enc-field, enc-none}
 use Rattle.infer.specs.Typing.{typeBy, fieldsBy, FitVal, FitEntries, Plain, Starts, Wrote, Typed, typeText, fieldsText}
 use Rattle.infer.proofs.Trees.{fine, fields-none, fields-entry, data-entry}
@@ -153,7 +153,8 @@ module _ {m : Bool} {l : ℕ} {s : List ℕ} {n : ℕ} {old spare₀ out spare :
     name-len xs named = ap length named ∙ length-over to (bytes nameWidth (numAt nameWidth at s)) out (omega (arith, length-bytes nameWidth (numAt nameWidth at s), entry-room))
 
     -- the name was copied, and the type written behind it
-    module _ (xs ys : List ℕ) (e w : ℕ) (named : xs ≡ over to (bytes nameWidth (numAt nameWidth at s)) out) (T : Typed size-val (typeText m) (valueAt l (behind (at + nameWidth) s)) (behind (to + nameWidth) xs) ys e w) where
+    module _ (xs ys : List ℕ) (e w : ℕ) (named : xs ≡ over to (bytes nameWidth (numAt nameWidth at s)) out)
+        (T : Typed size-val (typeText m) (valueAt l (behind (at + nameWidth) s)) (behind (to + nameWidth) xs) ys e w) where
       abbrev W : Wrote size-val (typeText m) (H .v) (behind (to + nameWidth) xs) ys e w
       W = typed-is (valueAt l (behind (at + nameWidth) s)) (H .v) (behind (to + nameWidth) xs) ys e w (H .first) T
 
@@ -166,7 +167,8 @@ module _ {m : Bool} {l : ℕ} {s : List ℕ} {n : ℕ} {old spare₀ out spare :
       pub entry-wrote : to + nameWidth + w ≤ length s
       entry-wrote = omega (arith, short, Q .low, entry-read)
 
-      pub entry-next : (sp : List ℕ) → length sp ≡ length spare → EntriesInv m l s n old spare₀ (putMid (to + nameWidth) (length xs - (to + nameWidth)) xs ys) sp (at + nameWidth + e) (to + nameWidth + w) (i + 1)
+      pub entry-next : (sp : List ℕ) → length sp ≡ length spare → EntriesInv m l s n old spare₀ (putMid (to + nameWidth) (length xs - (to + nameWidth)) xs ys) sp (at + nameWidth + e)
+          (to + nameWidth + w) (i + 1)
       entry-next sp k =
           let name = bytes nameWidth (H .name) in
           let p = Q .done ++ name in
@@ -184,7 +186,8 @@ module _ {m : Bool} {l : ℕ} {s : List ℕ} {n : ℕ} {old spare₀ out spare :
             in-v = entry-read;
             read = ap (λ (z : ℕ). entriesAt l (n - (i + 1)) (suc (H .name)) (drop (at + nameWidth + z) s)) (W .all) ∙ H .second;
             sized = omega (arith, Q .sized, H .sized, W .all);
-            text = append-assoc p (typeText m (H .v)) (fieldsText m (H .more)) ∙ append-assoc (Q .done) name (typeText m (H .v) ++ fieldsText m (H .more)) ∙ ap (λ (z : List ℕ). Q .done ++ z) (sym (H .text)) ∙ Q .text;
+            text = append-assoc p (typeText m (H .v)) (fieldsText m (H .more)) ∙ append-assoc (Q .done) name (typeText m (H .v) ++ fieldsText m (H .more))
+                ∙ ap (λ (z : List ℕ). Q .done ++ z) (sym (H .text)) ∙ Q .text;
             long = omega (arith, length-append p (typeText m (H .v)), W .long);
             low = omega (arith, short, Q .low);
             apt = H .apt (Q .apt) .1;

@@ -13,6 +13,7 @@ use Rattle.form.specs.Limits.{mostBytes, valueLevels, typeLevels}
 use Rattle.form.specs.Trees.{null, Ty, leaf, Val, Vals, no-items, item}
 use Rattle.form.specs.Form.{Bytes, enc, level, levelV, Wf, WfV, WfVals}
 use Rattle.form.proofs.Exact.{bytes-drop}
+use Rattle.form.proofs.Runs.{rest, length-rest}
 use Rattle.order.specs.Order.{fixed}
 use Rattle.order.specs.Types.{reduce}
 use Rattle.order.specs.Size.{size, size-val, size-vals}
@@ -20,11 +21,10 @@ use Rattle.order.specs.Values.{are-data}
 use Rattle.order.specs.Inferred.{isData}
 use Rattle.order.proofs.Size.{length-enc}
 use Rattle.types.specs.At.{typeAt}
-use Rattle.types.proofs.Reading.{rest}
 use Rattle.types.proofs.Entries.{step}
 use Rattle.values.specs.At.{valueAt, itemsAt}
 use Rattle.values.proofs.Reading.{some-byte, v-inside, Item, next-item, no-item}
-use Rattle.bounds.proofs.Laws.{length-rest, onto-first}
+use Rattle.bounds.proofs.Laws.{onto-first}
 use Rattle.infer.specs.Typing.{typeBy, joined, taken, inner, FitVal, FitItems, Plain, Starts, Wrote, Typed, typeText, innerText, Sides, Reduced, Joined}
 use Rattle.infer.proofs.Trees.{Fine, fine, Sound, sound, type-reduced, joined-reduced, data-item}
 use Rattle.infer.proofs.Writing.{starts-onto, starts-read, lent-front, lent-back, encoded, Opened, open-fit, fit, typed, typed-is, sides, reduced, joined-is, behind}
@@ -252,7 +252,8 @@ module _ {m equal : Bool} {l : ℕ} {s : List ℕ} {n : ℕ} {old spare₀ out s
       pub item-reduced : Reduced m (typeAt typeLevels xs)
       item-reduced = reduced m (typeAt typeLevels xs) (Q .t) read-t (Q .reduced)
 
-      pub item-next : (zs sp₂ : List ℕ) (r : ℕ) → Joined m equal (typeAt typeLevels xs) (typeAt typeLevels (drop to xs)) xs zs r → length sp₂ ≡ length sp → ItemsInv m equal l s n old spare₀ zs sp₂ (at + e) r (i + 1)
+      pub item-next : (zs sp₂ : List ℕ) (r : ℕ) → Joined m equal (typeAt typeLevels xs) (typeAt typeLevels (drop to xs)) xs zs r → length sp₂ ≡ length sp
+          → ItemsInv m equal l s n old spare₀ zs sp₂ (at + e) r (i + 1)
       item-next zs sp₂ r J k₂ =
           let S = joined-is m equal (typeAt typeLevels xs) (typeAt typeLevels (drop to xs)) (Q .t) u xs zs r read-t read-u J in
           let j = joined m equal (Q .t) u in
@@ -315,7 +316,8 @@ module _ {m equal : Bool} {l : ℕ} {s : List ℕ} {n : ℕ} {old spare₀ out s
       pub leaf-reduced : Reduced m (typeAt typeLevels (set out to b))
       leaf-reduced = subst (λ (z : List ℕ). Reduced m (typeAt typeLevels z)) put (item-reduced levels ys spare k 1 told refl)
 
-      pub leaf-next : (zs sp : List ℕ) (r : ℕ) → Joined m equal (typeAt typeLevels (set out to b)) (typeAt typeLevels (drop to (set out to b))) (set out to b) zs r → length sp ≡ length spare → ItemsInv m equal l s n old spare₀ zs sp (at + k) r (i + 1)
+      pub leaf-next : (zs sp : List ℕ) (r : ℕ) → Joined m equal (typeAt typeLevels (set out to b)) (typeAt typeLevels (drop to (set out to b))) (set out to b) zs r → length sp ≡ length spare
+          → ItemsInv m equal l s n old spare₀ zs sp (at + k) r (i + 1)
       leaf-next zs sp r J e =
           item-next levels ys spare k 1 told refl zs sp r (subst (λ (z : List ℕ). Joined m equal (typeAt typeLevels z) (typeAt typeLevels (drop to z)) z zs r) (sym put) J) e
 

@@ -1,7 +1,7 @@
 -- Two types that stand one behind the other, joined at the front.
 -- Assumes nothing.
 use Prim.Native.Nat.{ℕ, _+_, _-_, _<_, _≤_}
-use mathlib.Core.Path.{_≡_, refl, sym, ap, ap₂, subst, _∙_}
+use mathlib.Core.Path.{_≡_, refl, sym, ap, subst, _∙_}
 use mathlib.Core.Bool.{Bool, true, false, cond}
 use mathlib.Core.Option.{Option, none, some}
 use mathlib.Core.List.{List, [], _∷_, _++_}
@@ -13,6 +13,7 @@ use Rattle.form.specs.Trees.{any, Ty, leaf}
 use Rattle.form.specs.Form.{Bytes, enc, Wf}
 use Rattle.form.specs.Answers.{onto}
 use Rattle.form.proofs.Types.{enc-same}
+use Rattle.form.proofs.Runs.{rest}
 use Rattle.order.specs.Order.{up, fixed}
 use Rattle.order.specs.Types.{reduce}
 use Rattle.order.specs.Size.{size}
@@ -24,7 +25,6 @@ use Rattle.order.proofs.Size.{length-enc, size-positive, size-sup}
 use Rattle.order.proofs.WellFormed.{asc-of}
 use Rattle.types.specs.At.{typeAt}
 use Rattle.types.specs.Conform.{conformOf, Met}
-use Rattle.types.proofs.Reading.{rest}
 use Rattle.types.proofs.Instances.{front-bytes}
 use Rattle.types.proofs.Pairs.{told-no, told-yes}
 use Rattle.bounds.specs.Writing.{ofTypes, Ready, Combined, Wrote}
@@ -104,7 +104,8 @@ module _ (s : List ℕ) (n m spare : ℕ) (h : Sides (typeAt typeLevels s) (type
   second-bytes : Bytes (drop n s) → take m (drop n s) ≡ enc (T .u)
   second-bytes bs = ap (λ k. take k (drop n s)) (T .side .second) ∙ front-bytes typeLevels (drop n s) (T .u) bs (T .read-u) .1
 
-  pub kept-equal : Bytes s → Bytes (drop n s) → (q r : Bool) → q ≡ true → (r ≡ true → take n s ≡ take (n + m - n) (drop n s)) × (take n s ≡ take (n + m - n) (drop n s) → r ≡ true) → Kept q (typeAt typeLevels s) (typeAt typeLevels (drop n s)) r
+  pub kept-equal : Bytes s → Bytes (drop n s) → (q r : Bool) → q ≡ true → (r ≡ true → take n s ≡ take (n + m - n) (drop n s)) × (take n s ≡ take (n + m - n) (drop n s) → r ≡ true)
+      → Kept q (typeAt typeLevels s) (typeAt typeLevels (drop n s)) r
   kept-equal bs cs q r e g =
       let z : n + m - n ≡ m = omega arith in
       let d : take (n + m - n) (drop n s) ≡ enc (T .u) = ap (λ k. take k (drop n s)) z ∙ second-bytes cs in
@@ -164,7 +165,12 @@ module _ (s : List ℕ) (n m spare : ℕ) (h : Sides (typeAt typeLevels s) (type
         let new-is : new ≡ onto (enc (supertype (T .t) (T .u))) s = o ∙ ap (λ z. onto z s) part in
         is-joined (typeAt typeLevels s) (typeAt typeLevels (drop n s)) (T .t) (T .u) a b s new w (T .read-t) (T .read-u)
         (subst (λ x. Stands (joined x b (T .t) (T .u)) s new w) (sym e)
-        (record { long = long; out = subst (Starts (enc (supertype (T .t) (T .u)))) (sym new-is) (onto-again (enc (supertype (T .t) (T .u))) s); kept = ap length new-is ∙ length-onto (enc (supertype (T .t) (T .u))) s (omega (arith, long, sup-inside)) }))
+        (record {
+          long = long;
+          out = subst (Starts (enc (supertype (T .t) (T .u)))) (sym new-is) (onto-again (enc (supertype (T .t) (T .u))) s);
+          kept = ap length new-is
+              ∙ length-onto (enc (supertype (T .t) (T .u))) s (omega (arith, long, sup-inside));
+        }))
 
   joined-by : (a b r : Bool) → a ≡ false → Kept b (typeAt typeLevels s) (typeAt typeLevels (drop n s)) r → joined a b (T .t) (T .u) ≡ cond r (T .t) (leaf any)
   joined-by a b r e k =
@@ -177,16 +183,19 @@ module _ (s : List ℕ) (n m spare : ℕ) (h : Sides (typeAt typeLevels s) (type
       is-joined (typeAt typeLevels s) (typeAt typeLevels (drop n s)) (T .t) (T .u) a b s s n (T .read-t) (T .read-u)
       (subst (λ x. Stands x s s n) (sym e) (record { long = z; out = starts-taken (enc (T .t)) s n z (first-bytes bs); kept = refl }))
 
-  pub joined-first : Bytes s → (a b r : Bool) → a ≡ false → Kept b (typeAt typeLevels s) (typeAt typeLevels (drop n s)) r → r ≡ true → Joined a b (typeAt typeLevels s) (typeAt typeLevels (drop n s)) s s n
+  pub joined-first : Bytes s → (a b r : Bool) → a ≡ false → Kept b (typeAt typeLevels s) (typeAt typeLevels (drop n s)) r → r ≡ true
+      → Joined a b (typeAt typeLevels s) (typeAt typeLevels (drop n s)) s s n
   joined-first bs a b r e k y = stays bs a b (joined-by a b r e k ∙ ap (λ x. cond x (T .t) (leaf any)) y)
 
   -- equal types stay as they are
-  pub joined-same : Bytes s → (a b r : Bool) → Reduced a (typeAt typeLevels s) → Kept true (typeAt typeLevels s) (typeAt typeLevels (drop n s)) r → r ≡ true → Joined a b (typeAt typeLevels s) (typeAt typeLevels (drop n s)) s s n
+  pub joined-same : Bytes s → (a b r : Bool) → Reduced a (typeAt typeLevels s) → Kept true (typeAt typeLevels s) (typeAt typeLevels (drop n s)) r → r ≡ true
+      → Joined a b (typeAt typeLevels s) (typeAt typeLevels (drop n s)) s s n
   joined-same bs a b r h k y =
       let same : T .t ≡ T .u = eq-ty-same (T .t) (T .u) (sym (kept-is (typeAt typeLevels s) (typeAt typeLevels (drop n s)) (T .t) (T .u) true r (T .read-t) (T .read-u) k) ∙ y) in
       stays bs a b (ap (joined a b (T .t)) (sym same) ∙ joined-twice a b (T .t) (T .side .wf-first) (reduced-is (typeAt typeLevels s) (T .t) a (T .read-t) h))
 
-  pub joined-any : (a b r : Bool) → a ≡ false → Kept b (typeAt typeLevels s) (typeAt typeLevels (drop n s)) r → r ≡ false → Joined a b (typeAt typeLevels s) (typeAt typeLevels (drop n s)) s (set s 0 32) 1
+  pub joined-any : (a b r : Bool) → a ≡ false → Kept b (typeAt typeLevels s) (typeAt typeLevels (drop n s)) r → r ≡ false
+      → Joined a b (typeAt typeLevels s) (typeAt typeLevels (drop n s)) s (set s 0 32) 1
   unfolding enc
   joined-any a b r e k y =
       is-joined (typeAt typeLevels s) (typeAt typeLevels (drop n s)) (T .t) (T .u) a b s (set s 0 32) 1 (T .read-t) (T .read-u)

@@ -1,28 +1,30 @@
 -- Whether a value is data, item by item and entry by entry.
 -- Assumes nothing.
-use Prim.Native.Nat.{ℕ, zero, suc, _+_, _-_, _<_, _≤_}
+use Prim.Native.Nat.{ℕ, suc, _+_, _-_, _<_, _≤_}
 use mathlib.Core.Path.{_≡_, refl, sym, ap, subst, _∙_}
 use mathlib.Core.Bool.{Bool, true, false, cond, _&&_}
-use mathlib.Core.Option.{Option, none, some}
+use mathlib.Core.Option.{Option, some}
 use mathlib.Core.List.{List}
 use native.Mathlib.Omega.{arith}
 use lib.ListN.{length, getD, take, drop, length-drop}
 use lib.Seq.{drop-drop}
-use Rattle.form.specs.Trees.{Val, v-leaf, v-range, v-list, v-context, v-function, v-built-in, v-type, v-irrelevant, Leaf, l-null, l-boolean, l-number, l-string, l-temporal, Vals, no-items, item, Entries, no-entries, entry}
+use Rattle.form.specs.Trees.{Val, Vals, no-items, item, Entries}
 use Rattle.form.specs.Limits.{nameWidth}
 use Rattle.form.specs.Form.{numAt}
 use Rattle.form.specs.Layout.{ValueKind, kNull, kBoolean, kNumber, kString, kTemporal, ofValue, kindOf, operandsV, operands, widthOf}
 use Rattle.form.proofs.Commands.{kind-temporal, width-is}
+use Rattle.form.proofs.Runs.{rest}
 use Rattle.order.specs.Order.{fixed}
 use Rattle.order.specs.Size.{size-val, size-vals, size-entries}
 use Rattle.order.specs.Values.{is-data, are-data, hold-data}
 use Rattle.order.specs.Inferred.{isData}
 use Rattle.types.specs.At.{Ok}
-use Rattle.types.proofs.Reading.{rest, is-ok, ok-got}
+use Rattle.types.proofs.Reading.{is-ok, ok-got}
 use Rattle.types.proofs.Entries.{step}
 use Rattle.values.specs.At.{valueAt, itemsAt, entriesAt}
 use Rattle.values.proofs.Reading as reading
-use Rattle.values.proofs.Reading.{IsVal, is-null, is-boolean, is-number, is-string, is-temporal, is-range, is-list, is-context, is-definition, is-built-in, is-type, is-irrelevant, is-val, some-byte, some-level, v-inside, items-inside, entries-inside, Item, next-item, no-item, Entry, next-entry, no-entry}
+use Rattle.values.proofs.Reading.{IsVal, is-null, is-boolean, is-number, is-string, is-temporal, is-range, is-list, is-context, is-definition, is-built-in, is-type, is-irrelevant, is-val, some-byte}
+use Rattle.values.proofs.Reading.{some-level, v-inside, items-inside, entries-inside, Item, next-item, no-item, Entry, next-entry, no-entry}
 use Rattle.infer.specs.Typing.{dataBy, grown, Plain}
 use Rattle.infer.specs.declared.Data.{Data}
 use Rattle.infer.specs.declared.Data.the-variants.{Yes, No}
@@ -74,7 +76,14 @@ pub items-start : (l : ℕ) (v : List ℕ) (n : ℕ) → Ok (itemsAt l n v) → 
 items-start l v n h =
     let g = ok-got (itemsAt l n v) h in
     let z : n - 0 ≡ n = omega arith in
-    record { more = g .0; read = ap (λ k. itemsAt l k v) z ∙ g .1; here = omega arith; inside = omega (arith, items-inside l n v (g .0) (g .1)); whole = by-got (are-data fixed) size-vals (itemsAt l n v) (g .0) (g .1) ∙ ap (told (are-data fixed (g .0))) (omega arith) }
+    record {
+      more = g .0;
+      read = ap (λ k. itemsAt l k v) z ∙ g .1;
+      here = omega arith;
+      inside = omega (arith, items-inside l n v (g .0) (g .1));
+      whole = by-got (are-data fixed) size-vals
+          (itemsAt l n v) (g .0) (g .1) ∙ ap (told (are-data fixed (g .0))) (omega arith);
+    }
 
 module _ {l : ℕ} {v : List ℕ} {n at i : ℕ} (I : ItemsInv l v n at i) where
   pub items-end : at ≤ length v
@@ -99,7 +108,8 @@ module _ {l : ℕ} {v : List ℕ} {n at i : ℕ} (I : ItemsInv l v n at i) where
     item-told : (r : Data) → r ≡ dataBy isData size-val (valueAt l (take (length v - at) (drop at v))) → r ≡ told (isData (next .v)) (size-val (next .v))
     item-told r e = e ∙ ap (λ s. dataBy isData size-val (valueAt l s)) (rest v at) ∙ by-got isData size-val (valueAt l (drop at v)) (next .v) (next .first)
 
-    item-whole : (dataBy (are-data fixed) size-vals (itemsAt l n v) ≡ told (isData (next .v) && are-data fixed (next .more)) (at + (size-val (next .v) + size-vals (next .more)))) × (at + (size-val (next .v) + size-vals (next .more)) ≤ length v)
+    item-whole : (dataBy (are-data fixed) size-vals (itemsAt l n v) ≡ told (isData (next .v) && are-data fixed (next .more)) (at + (size-val (next .v) + size-vals (next .more)))) ×
+        (at + (size-val (next .v) + size-vals (next .more)) ≤ length v)
     unfolding are-data size-val
     item-whole = (I .whole ∙ ap (λ vs. told (are-data fixed vs) (at + size-vals vs)) (next .is), subst (λ vs. at + size-vals vs ≤ length v) (next .is) (I .inside))
 
@@ -127,7 +137,15 @@ pub entries-start : (l : ℕ) (v : List ℕ) (n : ℕ) → Ok (entriesAt l n 0 v
 entries-start l v n h =
     let g = ok-got (entriesAt l n 0 v) h in
     let z : n - 0 ≡ n = omega arith in
-    record { k = 0; more = g .0; read = ap (λ k. entriesAt l k 0 v) z ∙ g .1; here = omega arith; inside = omega (arith, entries-inside l n 0 v (g .0) (g .1)); whole = by-got (hold-data fixed) size-entries (entriesAt l n 0 v) (g .0) (g .1) ∙ ap (told (hold-data fixed (g .0))) (omega arith) }
+    record {
+      k = 0;
+      more = g .0;
+      read = ap (λ k. entriesAt l k 0 v) z ∙ g .1;
+      here = omega arith;
+      inside = omega (arith, entries-inside l n 0 v (g .0) (g .1));
+      whole = by-got
+          (hold-data fixed) size-entries (entriesAt l n 0 v) (g .0) (g .1) ∙ ap (told (hold-data fixed (g .0))) (omega arith);
+    }
 
 module _ {l : ℕ} {v : List ℕ} {n at i : ℕ} (I : EntriesInv l v n at i) where
   pub entries-done : n ≤ i → Yes at ≡ dataBy (hold-data fixed) size-entries (entriesAt l n 0 v)
@@ -155,29 +173,35 @@ module _ {l : ℕ} {v : List ℕ} {n at i : ℕ} (I : EntriesInv l v n at i) whe
     entry-told : (r : Data) → r ≡ dataBy isData size-val (valueAt l (take (length v - (at + nameWidth)) (drop (at + nameWidth) v))) → r ≡ told (isData (next-one .v)) (size-val (next-one .v))
     entry-told r e = e ∙ ap (λ s. dataBy isData size-val (valueAt l s)) behind ∙ by-got isData size-val (valueAt l (drop nameWidth (drop at v))) (next-one .v) (next-one .first)
 
-    entry-whole : (dataBy (hold-data fixed) size-entries (entriesAt l n 0 v) ≡ told (isData (next-one .v) && hold-data fixed (next-one .more)) (at + (nameWidth + size-val (next-one .v) + size-entries (next-one .more)))) × (at + (nameWidth + size-val (next-one .v) + size-entries (next-one .more)) ≤ length v)
+    entry-whole : (dataBy (hold-data fixed) size-entries (entriesAt l n 0 v) ≡ told (isData (next-one .v) && hold-data fixed (next-one .more))
+        (at + (nameWidth + size-val (next-one .v) + size-entries (next-one .more)))) × (at + (nameWidth + size-val (next-one .v) + size-entries (next-one .more)) ≤ length v)
     unfolding are-data size-val
     entry-whole = (I .whole ∙ ap (λ es. told (hold-data fixed es) (at + size-entries es)) (next-one .is), subst (λ es. at + size-entries es ≤ length v) (next-one .is) (I .inside))
 
-    pub entries-no : (r : Data) → r ≡ No → r ≡ dataBy isData size-val (valueAt l (take (length v - (at + nameWidth)) (drop (at + nameWidth) v))) → No ≡ dataBy (hold-data fixed) size-entries (entriesAt l n 0 v)
-    entries-no r p e = sym (entry-whole .0 ∙ and-no (isData (next-one .v)) (hold-data fixed (next-one .more)) (size-val (next-one .v)) (at + (nameWidth + size-val (next-one .v) + size-entries (next-one .more))) (sym (entry-told r e) ∙ p))
+    pub entries-no : (r : Data) → r ≡ No → r ≡ dataBy isData size-val (valueAt l (take (length v - (at + nameWidth)) (drop (at + nameWidth) v)))
+        → No ≡ dataBy (hold-data fixed) size-entries (entriesAt l n 0 v)
+    entries-no r p e = sym (entry-whole .0 ∙ and-no (isData (next-one .v)) (hold-data fixed (next-one .more)) (size-val (next-one .v))
+        (at + (nameWidth + size-val (next-one .v) + size-entries (next-one .more))) (sym (entry-told r e) ∙ p))
 
     pub entries-fit : (r : Data) (x : ℕ) → r ≡ Yes x → r ≡ dataBy isData size-val (valueAt l (take (length v - (at + nameWidth)) (drop (at + nameWidth) v))) → at + nameWidth + x ≤ length v
     entries-fit r x p e = omega (arith, told-yes (isData (next-one .v)) (size-val (next-one .v)) x (sym (entry-told r e) ∙ p) .1, entry-whole .1)
 
-    pub entries-again : (r : Data) (x : ℕ) → r ≡ Yes x → r ≡ dataBy isData size-val (valueAt l (take (length v - (at + nameWidth)) (drop (at + nameWidth) v))) → EntriesInv l v n (at + nameWidth + x) (i + 1)
+    pub entries-again : (r : Data) (x : ℕ) → r ≡ Yes x → r ≡ dataBy isData size-val (valueAt l (take (length v - (at + nameWidth)) (drop (at + nameWidth) v)))
+        → EntriesInv l v n (at + nameWidth + x) (i + 1)
     entries-again r x p e =
         let d = told-yes (isData (next-one .v)) (size-val (next-one .v)) x (sym (entry-told r e) ∙ p) in
         let w = entry-whole in
         let z : at + nameWidth + size-val (next-one .v) ≡ at + nameWidth + x = omega (arith, d .1) in
-        let y : drop (size-val (next-one .v)) (drop nameWidth (drop at v)) ≡ drop (at + nameWidth + x) v = ap (drop (size-val (next-one .v))) (drop-drop nameWidth at v) ∙ drop-drop (size-val (next-one .v)) (at + nameWidth) v ∙ ap (λ k. drop k v) z in
+        let y : drop (size-val (next-one .v)) (drop nameWidth (drop at v)) ≡ drop (at + nameWidth + x) v = ap (drop (size-val (next-one .v))) (drop-drop nameWidth at v)
+        ∙ drop-drop (size-val (next-one .v)) (at + nameWidth) v ∙ ap (λ k. drop k v) z in
         record {
           k = suc (next-one .name);
           more = next-one .more;
           read = ap (entriesAt l (n - (i + 1)) (suc (next-one .name))) (sym y) ∙ next-one .second;
           here = omega arith;
           inside = omega (arith, d .1, w .1);
-          whole = w .0 ∙ ap (told (isData (next-one .v) && hold-data fixed (next-one .more))) (omega arith) ∙ and-data (isData (next-one .v)) (hold-data fixed (next-one .more)) (size-val (next-one .v)) x (at + nameWidth) (size-entries (next-one .more)) (sym (entry-told r e) ∙ p);
+          whole = w .0 ∙ ap (told (isData (next-one .v) && hold-data fixed (next-one .more))) (omega arith)
+              ∙ and-data (isData (next-one .v)) (hold-data fixed (next-one .more)) (size-val (next-one .v)) x (at + nameWidth) (size-entries (next-one .more)) (sym (entry-told r e) ∙ p);
         }
 
 -- ---- a value by its command
@@ -262,7 +286,14 @@ module _ (l : ℕ) (s : List ℕ) where
   run-range v (is-string x c) i w h = absurd (omega arith)
   run-range v (is-temporal x c d) i w h = absurd (omega arith)
   run-range v (is-range a b p q c k r) i w h =
-      record { x = item p (item q no-items); three = k; read = r; fits = omega arith; whole = w ∙ ap (λ b. told b (3 + size-val p + size-val q)) (sym (and-true (isData p) (isData q))) ∙ ap (told (isData p && (isData q && true))) (omega arith) }
+      record {
+        x = item p (item q no-items);
+        three = k;
+        read = r;
+        fits = omega arith;
+        whole = w ∙ ap (λ b. told b (3 + size-val p + size-val q)) (sym (and-true (isData p) (isData q)))
+            ∙ ap (told (isData p && (isData q && true))) (omega arith);
+      }
   run-range v (is-list vs c k p) i w h = absurd (omega arith)
   run-range v (is-context es c k p) i w h = absurd (omega arith)
   run-range v (is-definition r ps b c k p) i w h = absurd (omega arith)
@@ -278,14 +309,22 @@ module _ (l : ℕ) (s : List ℕ) where
   run-list v (is-string x c) i w n e h = absurd (omega arith)
   run-list v (is-temporal x c d) i w n e h = absurd (omega arith)
   run-list v (is-range a b p q c k r) i w n e h = absurd (omega arith)
-  run-list v (is-list vs c k p) i w n e h = record { x = vs; three = k; read = ap (λ m. itemsAt (l - 1) m (drop 3 s)) e ∙ p; fits = omega arith; whole = w ∙ ap (told (are-data fixed vs)) (omega arith) }
+  run-list v (is-list vs c k p) i w n e h = record {
+    x = vs;
+    three = k;
+    read = ap (λ m. itemsAt (l - 1) m (drop 3 s)) e ∙ p;
+    fits = omega arith;
+    whole = w
+        ∙ ap (told (are-data fixed vs)) (omega arith);
+  }
   run-list v (is-context es c k p) i w n e h = absurd (omega arith)
   run-list v (is-definition r ps b c k p) i w n e h = absurd (omega arith)
   run-list v (is-built-in x c) i w n e h = absurd (omega arith)
   run-list v (is-type t c p) i w n e h = absurd (omega arith)
   run-list v (is-irrelevant c) i w n e h = absurd (omega arith)
 
-  run-context : (v : Val) → IsVal l s v → size-val v ≤ length s → W ≡ told (isData v) (size-val v) → (n : ℕ) → n ≡ numAt 2 1 s → getD s 0 0 ≡ 11 → Run (hold-data fixed) size-entries (entriesAt (l - 1) n 0) s W
+  run-context : (v : Val) → IsVal l s v → size-val v ≤ length s → W ≡ told (isData v) (size-val v) → (n : ℕ) → n ≡ numAt 2 1 s → getD s 0 0 ≡ 11
+      → Run (hold-data fixed) size-entries (entriesAt (l - 1) n 0) s W
   unfolding is-data size-val
   run-context v (is-null x c) i w n e h = absurd (omega arith)
   run-context v (is-boolean x c) i w n e h = absurd (omega arith)
@@ -294,7 +333,14 @@ module _ (l : ℕ) (s : List ℕ) where
   run-context v (is-temporal x c d) i w n e h = absurd (omega arith)
   run-context v (is-range a b p q c k r) i w n e h = absurd (omega arith)
   run-context v (is-list vs c k p) i w n e h = absurd (omega arith)
-  run-context v (is-context es c k p) i w n e h = record { x = es; three = k; read = ap (λ m. entriesAt (l - 1) m 0 (drop 3 s)) e ∙ p; fits = omega arith; whole = w ∙ ap (told (hold-data fixed es)) (omega arith) }
+  run-context v (is-context es c k p) i w n e h = record {
+    x = es;
+    three = k;
+    read = ap (λ m. entriesAt (l - 1) m 0 (drop 3 s)) e ∙ p;
+    fits = omega arith;
+    whole = w
+        ∙ ap (told (hold-data fixed es)) (omega arith);
+  }
   run-context v (is-definition r ps b c k p) i w n e h = absurd (omega arith)
   run-context v (is-built-in x c) i w n e h = absurd (omega arith)
   run-context v (is-type t c p) i w n e h = absurd (omega arith)

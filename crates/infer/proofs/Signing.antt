@@ -1,29 +1,30 @@
 -- The function type of a definition, parameter by parameter.
 -- Assumes nothing.
-use Prim.Native.Nat.{ℕ, suc, _+_, _-_, _<_, _≤_}
+use Prim.Native.Nat.{ℕ, _+_, _-_, _<_, _≤_}
 use mathlib.Core.Path.{_≡_, refl, sym, ap, subst, _∙_}
 use mathlib.Core.Option.{Option, none, some}
-use mathlib.Core.List.{List, [], _∷_, _++_, append-assoc, append-nil}
+use mathlib.Core.List.{List, [], _++_, append-assoc}
 use native.Mathlib.Omega.{arith}
 use lib.ListN.{length, take, drop, length-drop, length-append}
 use lib.Seq.{drop-drop}
 use borrow.Rule.Slice.PartMut.{putMid}
 use Rattle.form.specs.Limits.{nameWidth}
-use Rattle.form.specs.Trees.{Ty, Tys, no-params, param, Params, no-parameters, parameter}
+use Rattle.form.specs.Trees.{Ty, Params, no-parameters}
 use Rattle.form.specs.Form.{Bytes, enc, encTys}
 use Rattle.form.specs.Answers.{onto}
 use Rattle.form.proofs.Exact.{bytes-drop}
 use Rattle.form.proofs.Numbers.{take-length}
+use Rattle.form.proofs.Runs.{rest, length-rest}
 use Rattle.order.specs.Size.{size, size-params}
 use Rattle.order.specs.Values.{types-of}
 use Rattle.order.proofs.Size.{length-enc}
 use Rattle.types.specs.At.{typeAt, sizeAt}
-use Rattle.types.proofs.Reading.{rest, t-good}
+use Rattle.types.proofs.Reading.{t-good}
 use Rattle.types.proofs.Entries.{step, size-got}
 use Rattle.types.proofs.Instances.{front-bytes}
 use Rattle.values.specs.At.{Definition, definition, size-definition, definitionAt}
-use Rattle.values.proofs.Reading.{paramsAt, Parts, definition-parts, Parameter, next-parameter, no-parameter, definition-inside}
-use Rattle.bounds.proofs.Laws.{length-onto, back, length-rest, onto-nil}
+use Rattle.values.proofs.Reading.{paramsAt, definition-parts, Parameter, next-parameter, no-parameter, definition-inside}
+use Rattle.bounds.proofs.Laws.{length-onto, back, onto-nil}
 use Rattle.infer.specs.Typing.{Starts, Wrote, Typed, signatureText, FitDefinition}
 use Rattle.infer.proofs.Joining.{onto-again}
 
@@ -122,19 +123,23 @@ module _ {l : ℕ} {v : List ℕ} {count k : ℕ} {old out : List ℕ} {at to i 
       sig-part =
           let z : at + nameWidth + x - (at + nameWidth) ≡ x = omega arith in
           let y : x ≤ length (drop (at + nameWidth) v) = simp length-drop (omega (arith, sig-type)) in
-          let w : length (take (at + nameWidth + x - (at + nameWidth)) (drop (at + nameWidth) v)) ≡ x = ap (λ n. length (take n (drop (at + nameWidth) v))) z ∙ take-length x (drop (at + nameWidth) v) y in
+          let w : length (take (at + nameWidth + x - (at + nameWidth)) (drop (at + nameWidth) v)) ≡ x = ap (λ n. length (take n (drop (at + nameWidth) v))) z
+          ∙ take-length x (drop (at + nameWidth) v) y in
           omega (arith, w, length-rest out to, sig-out, I .room, sizes-more, x-is)
 
       pub sig-wide : to + x ≤ length old
       sig-wide = omega (arith, I .room, sizes-more, x-is)
 
-      pub sig-again : Bytes v → (ys : List ℕ) → ys ≡ onto (take (at + nameWidth + x - (at + nameWidth)) (drop (at + nameWidth) v)) (take (length out - to) (drop to out)) → SigInv l v count k old (putMid to (length out - to) out ys) (at + nameWidth + x) (to + x) (i + 1)
+      pub sig-again : Bytes v → (ys : List ℕ) → ys ≡ onto (take (at + nameWidth + x - (at + nameWidth)) (drop (at + nameWidth) v)) (take (length out - to) (drop to out))
+          → SigInv l v count k old (putMid to (length out - to) out ys) (at + nameWidth + x) (to + x) (i + 1)
       unfolding types-of enc
       sig-again bs ys q =
           let z : at + nameWidth + x - (at + nameWidth) ≡ size (P .t) = omega (arith, x-is) in
-          let w : take (at + nameWidth + x - (at + nameWidth)) (drop (at + nameWidth) v) ≡ enc (P .t) = ap (λ n. take n (drop (at + nameWidth) v)) z ∙ front-bytes l (drop (at + nameWidth) v) (P .t) (bytes-drop (at + nameWidth) v bs) first-is .1 in
+          let w : take (at + nameWidth + x - (at + nameWidth)) (drop (at + nameWidth) v) ≡ enc (P .t) = ap (λ n. take n (drop (at + nameWidth) v)) z
+          ∙ front-bytes l (drop (at + nameWidth) v) (P .t) (bytes-drop (at + nameWidth) v bs) first-is .1 in
           let u : at + nameWidth + size (P .t) ≡ at + nameWidth + x = omega (arith, x-is) in
-          let y : drop (size (P .t)) (drop nameWidth (drop at v)) ≡ drop (at + nameWidth + x) v = ap (drop (size (P .t))) (drop-drop nameWidth at v) ∙ drop-drop (size (P .t)) (at + nameWidth) v ∙ ap (λ n. drop n v) u in
+          let y : drop (size (P .t)) (drop nameWidth (drop at v)) ≡ drop (at + nameWidth + x) v = ap (drop (size (P .t))) (drop-drop nameWidth at v) ∙ drop-drop (size (P .t)) (at + nameWidth) v
+          ∙ ap (λ n. drop n v) u in
           record {
             d = I .d;
             r = I .r;
@@ -150,7 +155,8 @@ module _ {l : ℕ} {v : List ℕ} {count k : ℕ} {old out : List ℕ} {at to i 
             sizes = omega (arith, x-is, I .sizes, sizes-more);
             long = length-append (I .text) (enc (P .t)) ∙ omega (arith, I .long, length-enc (P .t), x-is);
             wrote = back (I .text) (enc (P .t)) old out ys to (I .wrote) (I .long) (omega (arith, I .room)) (q ∙ ap (λ n. onto n (take (length out - to) (drop to out))) w);
-            texts = I .texts ∙ ap (λ ps. I .text ++ (encTys (types-of ps) ++ enc (I .r))) (P .is) ∙ ap (λ n. I .text ++ n) (append-assoc (enc (P .t)) (encTys (types-of (P .more))) (enc (I .r))) ∙ sym (append-assoc (I .text) (enc (P .t)) (encTys (types-of (P .more)) ++ enc (I .r)));
+            texts = I .texts ∙ ap (λ ps. I .text ++ (encTys (types-of ps) ++ enc (I .r))) (P .is) ∙ ap (λ n. I .text ++ n) (append-assoc (enc (P .t)) (encTys (types-of (P .more))) (enc (I .r)))
+                ∙ sym (append-assoc (I .text) (enc (P .t)) (encTys (types-of (P .more)) ++ enc (I .r)));
           }
 
   pub sig-last : length (take k v) ≤ length (take (length out - to) (drop to out))
@@ -175,7 +181,8 @@ module _ {l : ℕ} {v : List ℕ} {count k : ℕ} {old out : List ℕ} {at to i 
 
     text-long : length (signatureText (I .d)) ≡ to + k
     unfolding types-of enc
-    text-long = ap length (I .texts ∙ ap (λ ps. I .text ++ (encTys (types-of ps) ++ enc (I .r))) none-left) ∙ length-append (I .text) (enc (I .r)) ∙ omega (arith, I .long, I .sized-r, length-enc (I .r))
+    text-long = ap length (I .texts ∙ ap (λ ps. I .text ++ (encTys (types-of ps) ++ enc (I .r))) none-left) ∙ length-append (I .text) (enc (I .r))
+        ∙ omega (arith, I .long, I .sized-r, length-enc (I .r))
 
     pub sig-same : length (putMid to (length out - to) out ys) ≡ length old
     sig-same = ap length new-is ∙ length-onto (signatureText (I .d)) old (omega (arith, text-long, I .room))

@@ -10,9 +10,10 @@ use borrow.Rule.Slice.PartMut.{putMid}
 use Rattle.form.specs.Limits.{mostBytes, nameWidth}
 use Rattle.form.specs.Form.{numAt}
 use Rattle.form.specs.Trees.{Fields}
+use Rattle.form.proofs.Runs.{rest}
 use Rattle.order.specs.Size.{size, size-fields}
 use Rattle.types.specs.At.{typeAt, fieldsAt, Ok}
-use Rattle.types.proofs.Reading.{rest, ok-got}
+use Rattle.types.proofs.Reading.{ok-got}
 use Rattle.types.proofs.Entries.{Here, here, gone, size-entry, entry-ok}
 use Rattle.bounds.proofs.Trees.{size-none}
 use Rattle.retrieval.specs.Filling.{fill, puts}

@@ -9,9 +9,10 @@ use lib.ListN.{length, getD, drop}
 use Rattle.form.specs.Limits.{mostBytes}
 use Rattle.form.specs.Form.{numAt}
 use Rattle.form.specs.Trees.{Simple, Ty, leaf, built, list, range, context, function, decode}
+use Rattle.form.proofs.Runs.{rest}
 use Rattle.order.specs.Size.{size}
 use Rattle.types.specs.At.{typeAt, fieldsAt, sigAt, funOf, Ok}
-use Rattle.types.proofs.Reading.{rest, is-ok, ok-got, cmd, cmd-is, some-byte, some-level, is-leaf, is-list, is-range, is-ctx, is-fun, t-good, size-fun}
+use Rattle.types.proofs.Reading.{is-ok, ok-got, cmd, cmd-is, some-byte, some-level, is-leaf, is-list, is-range, is-ctx, is-fun, t-good, size-fun}
 use Rattle.bounds.proofs.Building.{last-cmd, size-list, size-range, size-ctx}
 use Rattle.retrieval.specs.Retrieve.{mapped}
 use Rattle.retrieval.specs.Filling.{fill, Filled}
@@ -92,13 +93,15 @@ module _ (l : ℕ) (t table : List ℕ) (short : length t ≤ mostBytes) (p : Ok
     pub list-done : getD t 0 0 ≡ 42 → Shows (ofInner listOpen) (typeAt (l - 1) (behind 1 t)) (readTable table) old new r → Shows ofTypes (typeAt l t) (readTable table) old new r
     list-done c h =
         let I = is-list l t (K .0) (K .1) c in
-        as-whole (ofInner listOpen) ofTypes (typeAt (l - 1) (behind 1 t)) (typeAt l t) (I .0) (built (list (I .0))) (readTable table) (R .0) old new r (ap (typeAt (l - 1)) (rest t 1) ∙ I .1) (K .1 ∙ ap some (I .2)) (R .1)
+        as-whole (ofInner listOpen) ofTypes (typeAt (l - 1) (behind 1 t)) (typeAt l t) (I .0) (built (list (I .0))) (readTable table) (R .0) old new r (ap (typeAt (l - 1)) (rest t 1) ∙ I .1)
+        (K .1 ∙ ap some (I .2)) (R .1)
         (omega (arith, size-list (I .0) .0)) (sym (text-list (R .0) (I .0))) h
 
     pub range-done : getD t 0 0 ≡ 43 → Shows (ofInner rangeOpen) (typeAt (l - 1) (behind 1 t)) (readTable table) old new r → Shows ofTypes (typeAt l t) (readTable table) old new r
     range-done c h =
         let I = is-range l t (K .0) (K .1) c in
-        as-whole (ofInner rangeOpen) ofTypes (typeAt (l - 1) (behind 1 t)) (typeAt l t) (I .0) (built (range (I .0))) (readTable table) (R .0) old new r (ap (typeAt (l - 1)) (rest t 1) ∙ I .1) (K .1 ∙ ap some (I .2)) (R .1)
+        as-whole (ofInner rangeOpen) ofTypes (typeAt (l - 1) (behind 1 t)) (typeAt l t) (I .0) (built (range (I .0))) (readTable table) (R .0) old new r (ap (typeAt (l - 1)) (rest t 1) ∙ I .1)
+        (K .1 ∙ ap some (I .2)) (R .1)
         (omega (arith, size-range (I .0) .0)) (sym (text-range (R .0) (I .0))) h
 
   -- ---- the last command that is left

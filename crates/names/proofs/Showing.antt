@@ -8,8 +8,9 @@ use native.Mathlib.Omega.{arith}
 use lib.ListN.{length, length-append, length-drop}
 use borrow.Rule.Slice.PartMut.{putMid}
 use Rattle.form.specs.Limits.{mostBytes}
+use Rattle.form.proofs.Runs.{rest}
 use Rattle.types.specs.At.{Ok}
-use Rattle.types.proofs.Reading.{rest, is-ok}
+use Rattle.types.proofs.Reading.{is-ok}
 use Rattle.retrieval.specs.Retrieve.{mapped}
 use Rattle.retrieval.specs.Filling.{fill, puts, Filled}
 use Rattle.retrieval.proofs.Pieces.{length-fill, fill-then, put-then, then-length}
@@ -24,11 +25,13 @@ pub behind-short : (n m : ℕ) (s : List ℕ) → length s ≤ m → length (beh
 behind-short n m s h = rw (rest s n) (simp length-drop (omega arith))
 
 -- ---- in and out
-pub shows : {X : Type 0} (S : Showing X) (x : Option X) (o : Option (List (List ℕ))) (t : X) (ts : List (List ℕ)) (old new : List ℕ) (r : Shown) → x ≡ some t → o ≡ some ts → Gave S ts t old new r → Shows S x o old new r
+pub shows : {X : Type 0} (S : Showing X) (x : Option X) (o : Option (List (List ℕ))) (t : X) (ts : List (List ℕ)) (old new : List ℕ) (r : Shown) → x ≡ some t → o ≡ some ts → Gave S ts t old new r
+    → Shows S x o old new r
 unfolding Shows
 shows S x o t ts old new r e f h = rw (e, f) h
 
-pub shows-is : {X : Type 0} (S : Showing X) (x : Option X) (o : Option (List (List ℕ))) (t : X) (ts : List (List ℕ)) (old new : List ℕ) (r : Shown) → x ≡ some t → o ≡ some ts → Shows S x o old new r → Gave S ts t old new r
+pub shows-is : {X : Type 0} (S : Showing X) (x : Option X) (o : Option (List (List ℕ))) (t : X) (ts : List (List ℕ)) (old new : List ℕ) (r : Shown) → x ≡ some t → o ≡ some ts → Shows S x o old new r
+    → Gave S ts t old new r
 unfolding Shows
 shows-is S x o t ts old new r e f h = rw (e, f) at h
 

@@ -10,7 +10,7 @@ use lib.ListN.{length, take, drop, getD, drop-of-length-le}
 use lib.Seq.{take-all, take-suc, drop-cons, length-take-le}
 use lib.Dec.{eqb}
 use borrow.Author.Tests.{le-leb, lt-leb, ne-eqb, lt-ltb, eqb-true, eqb-false, not-true, not-false}
-use Rattle.types.proofs.Reading.{rest}
+use Rattle.form.proofs.Runs.{rest}
 use Rattle.names.specs.Names.{blank, trimStart, keep, trimEnd, trim, isMark, isEmpty, parted}
 
 -- ---- blanks
@@ -110,7 +110,8 @@ module _ {s : List ℕ} {i : ℕ} (Q : Ending s i) where
       ending-done b = (Q .inside, last-byte ∙ sym (end-kept (take (i - 1) s) (getD s (i - 1) 0) (sym eq ∙ not-true q b)) ∙ ap trimEnd (sym last-byte) ∙ Q .same)
 
 -- ---- both
-module _ (s : List ℕ) (from to : ℕ) (f : (from ≤ length s) × (drop from s ≡ trimStart s)) (t : (to ≤ length (take (length s - from) (drop from s))) × (take to (take (length s - from) (drop from s)) ≡ trimEnd (take (length s - from) (drop from s)))) where
+module _ (s : List ℕ) (from to : ℕ) (f : (from ≤ length s) × (drop from s ≡ trimStart s)) (t : (to ≤ length (take (length s - from) (drop from s))) ×
+    (take to (take (length s - from) (drop from s)) ≡ trimEnd (take (length s - from) (drop from s)))) where
   pub trimmed-length : to ≡ length (take to (take (length s - from) (drop from s)))
   trimmed-length = sym (length-take-le to (take (length s - from) (drop from s)) (t .0))
 

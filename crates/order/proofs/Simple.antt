@@ -1,14 +1,16 @@
 -- The laws of an order among the ten simple types, from tests that are computed over them.
 -- Assumes nothing.
-use Prim.Native.Nat.{ℕ, _<_}
+use Prim.Native.Nat.{ℕ, _+_, _<_}
 use mathlib.Core.Path.{_≡_, refl, sym, _∙_, ap, ap₂}
 use mathlib.Core.Bool.{Bool, true, false, not, _&&_, _||_, Bool·beq, false≢true, true≢false}
 use mathlib.Core.List.{List, [], _∷_}
 use lib.Dec.{eqb}
 use borrow.Author.Tests.{eqb-true}
-use Rattle.form.specs.Trees.{Simple, any, boolean, number, string, date, time, dateTime, daysAndTime, yearsAndMonths, null, code, decode}
+use Rattle.form.specs.Trees.{Simple, any, boolean, number, string, date, time, dateTime, daysAndTime, yearsAndMonths, null, code, decode, Temporal, on-date, at-time, at-dateTime, for-daysAndTime}
+use Rattle.form.specs.Trees.{for-yearsAndMonths, code-temporal}
 use Rattle.form.proofs.ExactTypes.{decode-code, code-decode}
-use Rattle.order.specs.Order.{same, Dir, up, down, flip, Order, top, bottom, scmp, sbound, Laws, flat, flat-order, fixed}
+use Rattle.order.specs.Order.{same, Dir, up, down, Order, top, bottom, scmp, sbound, Laws, flat, flat-order, fixed}
+use Rattle.order.specs.Values.{temporal-type}
 
 pub same-eq : (s t : Simple) → same s t ≡ true → s ≡ t
 same-eq s t e = sym (decode-code s) ∙ ap decode (eqb-true (code s) (code t) e) ∙ decode-code t
@@ -163,3 +165,11 @@ module _ (O : Order) (L : Laws O) where
   pub top-bottom : (d : Dir) → scmp O d (top d) (bottom d) ≡ false
   top-bottom up = any-null (O .sle any null) refl
   top-bottom down = any-null (O .sle any null) refl
+
+-- the type of a date and time value by its number
+pub temporal-code : (k : Temporal) → code (temporal-type k) ≡ 4 + code-temporal k
+temporal-code on-date = refl
+temporal-code at-time = refl
+temporal-code at-dateTime = refl
+temporal-code for-daysAndTime = refl
+temporal-code for-yearsAndMonths = refl

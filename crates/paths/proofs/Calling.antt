@@ -27,7 +27,8 @@ use Rattle.retrieval.specs.Retrieve.{mapped}
 use Rattle.retrieval.proofs.Answering.{behind}
 use Rattle.retrieval.proofs.Contexts.{This, this, size-none}
 use Rattle.paths.specs.Paths.{value-of, entries-of, is-some, isContext, isEmpty, getFirst, given, search, containsDeep, entry-place, place}
-use Rattle.paths.specs.Places.{wholeAt, contextAt, frontAt, Fills, Spot, spot, Piece, piece, extent, found, extentOf, spotIn, Searches, Clear, isFound, lentBytes, lentCode, Lent, Within, pieceBytes, Lends}
+use Rattle.paths.specs.Places.{wholeAt, contextAt, frontAt, Fills, Spot, spot, Piece, piece, extent, found, extentOf, spotIn, Searches, Clear, isFound, lentBytes, lentCode, Lent, Within}
+use Rattle.paths.specs.Places.{pieceBytes, Lends}
 use Rattle.paths.specs.Calls.{mostNames, contextOf, searchDeepCall, getEntryCall, getFirstCall, containsDeepCall, containsEntryCall, isContextCall, isEmptyCall, lenCall}
 use Rattle.paths.specs.declared.Found.{Found}
 use Rattle.paths.specs.declared.Found.the-variants as found-is
@@ -251,7 +252,8 @@ pub lent : (c : List ℕ) (o : Outcome (Option Spot)) (x : Outcome (Option Piece
 lent c o x part code h e L = record { bytes = L .bytes ∙ ap (λ z. pieceBytes z c) e ∙ stand-bytes c o h; status = L .status ∙ ap lentCode e ∙ stand-code o }
 
 -- ---- whether a part is found
-found-some : (o : Outcome Entries) (q : Entries → ℕ) (g : Entries → Option Val) (b : Entries → Bool) → ((es : Entries) → b es ≡ is-some (g es)) → isFound (extentOf (do es ← o; done (mapped (spot (q es)) (g es)))) ≡ (do es ← o; done (b es))
+found-some : (o : Outcome Entries) (q : Entries → ℕ) (g : Entries → Option Val) (b : Entries → Bool) → ((es : Entries) → b es ≡ is-some (g es))
+    → isFound (extentOf (do es ← o; done (mapped (spot (q es)) (g es)))) ≡ (do es ← o; done (b es))
 unfolding extentOf _>>=_
 found-some (refused n) q g b h = refl
 found-some (done es) q g b h = go (g es) (h es)
@@ -304,7 +306,8 @@ module _ (c : List ℕ) (n : ℕ) (r : Found) (e : found r ≡ extentOf (getEntr
   unfolding extentOf _>>=_
   entered p k h = go (contextOf c 0) refl (sym (ap found h) ∙ e)
     where
-      there : (es : Entries) → contextOf c 0 ≡ done es → (o : Option Val) → value-of n es ≡ o → done (some (piece p k)) ≡ done (mapped extent (mapped (spot (entry-place n es + nameWidth)) o)) → Entered c n p
+      there : (es : Entries) → contextOf c 0 ≡ done es → (o : Option Val) → value-of n es ≡ o → done (some (piece p k)) ≡ done (mapped extent (mapped (spot (entry-place n es + nameWidth)) o))
+          → Entered c n p
       there es i none v q = absurd (let z : _≡_ {A = ℕ} 0 1 = cc in omega arith)
       there es i (some x) v q =
           let z : p ≡ entry-place n es + nameWidth = cc in
@@ -318,7 +321,8 @@ module _ (c : List ℕ) (n : ℕ) (r : Found) (e : found r ≡ extentOf (getEntr
   unfolding extentOf _>>=_
   entered-none h = go (contextOf c 0) refl (sym (ap found h) ∙ e)
     where
-      there : (es : Entries) → contextOf c 0 ≡ done es → (o : Option Val) → value-of n es ≡ o → done none ≡ done (mapped extent (mapped (spot (entry-place n es + nameWidth)) o)) → done false ≡ isContextCall c n
+      there : (es : Entries) → contextOf c 0 ≡ done es → (o : Option Val) → value-of n es ≡ o → done none ≡ done (mapped extent (mapped (spot (entry-place n es + nameWidth)) o))
+          → done false ≡ isContextCall c n
       there es i none v q = question (contextOf c 0) es (isContext n) false i (ap (λ o. is-some (given o entries-of)) v)
       there es i (some x) v q = absurd (let z : _≡_ {A = ℕ} 0 1 = cc in omega arith)
 

@@ -19,10 +19,11 @@ use Rattle.form.specs.Read.{readV}
 use Rattle.form.proofs.Exact.{bytes-drop}
 use Rattle.form.proofs.Numbers.{bytes-take}
 use Rattle.form.proofs.Values.{encV-some}
+use Rattle.form.proofs.Runs.{rest}
 use Rattle.order.specs.Size.{size-val, size-entries}
 use Rattle.order.proofs.LeastSize.{length-encV}
 use Rattle.types.specs.At.{Ok}
-use Rattle.types.proofs.Reading.{rest, is-ok, got-seen}
+use Rattle.types.proofs.Reading.{is-ok, got-seen}
 use Rattle.values.specs.At.{valueAt, entriesAt, sizeAtV}
 use Rattle.values.proofs.Reading.{is-val, size-got, some-byte, next-entry, no-entry}
 use Rattle.retrieval.specs.Retrieve.{mapped}
@@ -108,7 +109,8 @@ unfolding value-of below
 entry-inside n no-entries x e = absurd (none-some e)
 entry-inside n (entry m v es) x e = go (entry-inside n es x) (eqb n m) (ltb m n) refl refl e
   where
-    go : (value-of n es ≡ some x → size-entries (below n es) + nameWidth + size-val x ≤ size-entries es) → (a b : Bool) → eqb n m ≡ a → ltb m n ≡ b → cond a (some v) (value-of n es) ≡ some x → size-entries (cond b (entry m v (below n es)) no-entries) + nameWidth + size-val x ≤ size-entries (entry m v es)
+    go : (value-of n es ≡ some x → size-entries (below n es) + nameWidth + size-val x ≤ size-entries es) → (a b : Bool) → eqb n m ≡ a → ltb m n ≡ b → cond a (some v) (value-of n es) ≡ some x
+        → size-entries (cond b (entry m v (below n es)) no-entries) + nameWidth + size-val x ≤ size-entries (entry m v es)
     go ih true true p q h = absurd (omega (arith, eqb-true n m p, ltb-true m n q))
     go ih true false p q h = omega (arith, size-next m v es, size-none, ap size-val (some-same h))
     go ih false true p q h = omega (arith, ih h, size-next m v es, size-next m v (below n es))
@@ -120,7 +122,8 @@ place-inside [] es x e = absurd (none-some e)
 place-inside (n ∷ []) es x e = omega (arith, entry-inside n es x e)
 place-inside (n ∷ m ∷ ns) es x e = go (place-inside (m ∷ ns)) (given-is (context-at n es) (λ fs. search (m ∷ ns) fs) x e)
   where
-    go : ((fs : Entries) (x : Val) → search (m ∷ ns) fs ≡ some x → place (m ∷ ns) fs + size-val x ≤ 3 + size-entries fs) → (fs : Entries) × (context-at n es ≡ some fs) × (search (m ∷ ns) fs ≡ some x) → entry-place n es + nameWidth + place (m ∷ ns) (or-empty (context-at n es)) + size-val x ≤ 3 + size-entries es
+    go : ((fs : Entries) (x : Val) → search (m ∷ ns) fs ≡ some x → place (m ∷ ns) fs + size-val x ≤ 3 + size-entries fs) → (fs : Entries) × (context-at n es ≡ some fs) × (search (m ∷ ns) fs ≡ some x)
+        → entry-place n es + nameWidth + place (m ∷ ns) (or-empty (context-at n es)) + size-val x ≤ 3 + size-entries es
     go ih (fs, p, q) = under (given-is (value-of n es) entries-of fs p)
       where
         under : (y : Val) × (value-of n es ≡ some y) × (entries-of y ≡ some fs) → entry-place n es + nameWidth + place (m ∷ ns) (or-empty (context-at n es)) + size-val x ≤ 3 + size-entries es
@@ -155,7 +158,8 @@ stands-at [] l s es x bs C e = absurd (none-some e)
 stands-at (n ∷ []) l s es x bs C e = stands-one l n s es x bs C e
 stands-at (n ∷ m ∷ ns) l s es x bs C e = go (λ part fs. stands-at (m ∷ ns) (l - 1) part fs x) (given-is (context-at n es) (λ fs. search (m ∷ ns) fs) x e)
   where
-    go : ((part : List ℕ) (fs : Entries) → Bytes part → Ctx (l - 1) part fs → search (m ∷ ns) fs ≡ some x → Stands part (place (m ∷ ns) fs) x) → (fs : Entries) × (context-at n es ≡ some fs) × (search (m ∷ ns) fs ≡ some x) → Stands s (entry-place n es + nameWidth + place (m ∷ ns) (or-empty (context-at n es))) x
+    go : ((part : List ℕ) (fs : Entries) → Bytes part → Ctx (l - 1) part fs → search (m ∷ ns) fs ≡ some x → Stands part (place (m ∷ ns) fs) x)
+        → (fs : Entries) × (context-at n es ≡ some fs) × (search (m ∷ ns) fs ≡ some x) → Stands s (entry-place n es + nameWidth + place (m ∷ ns) (or-empty (context-at n es))) x
     go ih (fs, p, q) = under (given-is (value-of n es) entries-of fs p)
       where
         under : (y : Val) × (value-of n es ≡ some y) × (entries-of y ≡ some fs) → Stands s (entry-place n es + nameWidth + place (m ∷ ns) (or-empty (context-at n es))) x
@@ -170,7 +174,8 @@ stands-at (n ∷ m ∷ ns) l s es x bs C e = go (λ part fs. stands-at (m ∷ ns
 abbrev There : ℕ → List ℕ → ℕ → Val → Entries → Type 0
 There l s n x es = value-of n es ≡ some x → valueAt l (drop (size-entries (below n es) + nameWidth) s) ≡ some x
 
-next-there : (l : ℕ) (s : List ℕ) (n : ℕ) (x : Val) (m : ℕ) (v : Val) (es : Entries) → valueAt l (drop nameWidth s) ≡ some v → From (suc m) es → There l (drop (size-val v) (drop nameWidth s)) n x es → There l s n x (entry m v es)
+next-there : (l : ℕ) (s : List ℕ) (n : ℕ) (x : Val) (m : ℕ) (v : Val) (es : Entries) → valueAt l (drop nameWidth s) ≡ some v → From (suc m) es → There l (drop (size-val v) (drop nameWidth s)) n x es
+    → There l s n x (entry m v es)
 next-there l s n x m v es first from ih h = go (ltb m n) (eqb n m) refl refl
   where
     moved : (i : ℕ) → size-entries (below n (entry m v es)) + nameWidth ≡ i → valueAt l (drop (size-entries (below n (entry m v es)) + nameWidth) s) ≡ valueAt l (drop i s)
@@ -318,7 +323,8 @@ module _ {l : ℕ} {s : List ℕ} {n from : ℕ} {last : Bool} (H : Sight l s n 
   sight-value =
       let j = size-entries (below n (H .es)) in
       let i : from ≡ 3 + (j + nameWidth) = omega (arith, H .told .start) in
-      ap (λ (k : ℕ). valueAt (l - 1) (drop k s)) i ∙ ap (valueAt (l - 1)) (sym (drop-drop (j + nameWidth) 3 s)) ∙ value-there (l - 1) (numAt 2 1 s) 0 (drop 3 s) n x (H .es) (H .front .entries) (H .told .value)
+      ap (λ (k : ℕ). valueAt (l - 1) (drop k s)) i ∙ ap (valueAt (l - 1)) (sym (drop-drop (j + nameWidth) 3 s))
+      ∙ value-there (l - 1) (numAt 2 1 s) 0 (drop 3 s) n x (H .es) (H .front .entries) (H .told .value)
 
   pub sight-inside : from < length s
   sight-inside = omega (arith, some-byte (l - 1) (drop from s) x sight-value, length-drop from s)
@@ -349,7 +355,8 @@ module _ {l : ℕ} {s : List ℕ} {n from : ℕ} {last : Bool} (H : Sight l s n 
     sight-last e k ek =
         let z : length (drop 1 p) ≡ 0 = simp length-drop (omega arith) in
         let q : p ≡ n ∷ [] = path-is p d n m ∙ ap (λ (r : List ℕ). n ∷ r) (empty (drop 1 p) z) in
-        let a : found (found-is.Part from k) ≡ pieces (entry-place n (H .es) + nameWidth) (some x) = ap₂ (λ (i j : ℕ). done (some (piece i j))) (H .told .start) (ek ∙ size-behind (l - 1) from s x sight-value ∙ sym (length-encV x)) in
+        let a : found (found-is.Part from k) ≡ pieces (entry-place n (H .es) + nameWidth) (some x) = ap₂ (λ (i j : ℕ). done (some (piece i j))) (H .told .start)
+        (ek ∙ size-behind (l - 1) from s x sight-value ∙ sym (length-encV x)) in
         searches p (found-is.Part from k) (H .front) (a ∙ sym (ap (pieces (entry-place n (H .es) + nameWidth)) (H .told .value)) ∙ ap (λ (z : List ℕ). done (mapped extent (spotIn z (H .es)))) (sym q))
       where
         empty : (r : List ℕ) → length r ≡ 0 → r ≡ []
@@ -383,7 +390,8 @@ module _ {l : ℕ} {s : List ℕ} {n from : ℕ} {last : Bool} (H : Sight l s n 
           pub sight-clear : length s < 2 ^ 64 → Clear from (found r)
           sight-clear b =
               let q = place (drop 1 p) fs in
-              let k : (y : Val) → search (drop 1 p) fs ≡ some y → from + q < 2 ^ 64 = λ y e. omega (arith, b, sight-inside, place-inside (drop 1 p) fs y e, under .inside, ap length (rest s from), length-drop from s) in
+              let k : (y : Val) → search (drop 1 p) fs ≡ some y → from + q < 2 ^ 64 = λ y e. omega
+              (arith, b, sight-inside, place-inside (drop 1 p) fs y e, under .inside, ap length (rest s from), length-drop from s) in
               subst (Clear from) (sym answer) (clear-pieces from q (search (drop 1 p) fs) k)
 
           pub sight-down : (t : Found) → found t ≡ shifted from (found r) → Searches (frontAt l s) p t
@@ -391,5 +399,6 @@ module _ {l : ℕ} {s : List ℕ} {n from : ℕ} {last : Bool} (H : Sight l s n 
               let c = sight-context h in
               let ns = drop 1 p in
               let a : search p (H .es) ≡ search ns fs = ap (λ z. search z (H .es)) (path-is p d n m) ∙ search-more n ns (H .es) more ∙ ap (λ o. given o (search ns)) c in
-              let b : place p (H .es) ≡ from + place ns fs = ap (λ z. place z (H .es)) (path-is p d n m) ∙ place-more n ns (H .es) more ∙ ap₂ (λ (i : ℕ) (o : Option Entries). i + place ns (or-empty o)) (sym (H .told .start)) c in
+              let b : place p (H .es) ≡ from + place ns fs = ap (λ z. place z (H .es)) (path-is p d n m) ∙ place-more n ns (H .es) more
+              ∙ ap₂ (λ (i : ℕ) (o : Option Entries). i + place ns (or-empty o)) (sym (H .told .start)) c in
               searches p t (H .front) (e ∙ ap (shifted from) answer ∙ shifted-pieces from (place ns fs) (search ns fs) ∙ sym (ap₂ pieces b a))

@@ -13,11 +13,13 @@ use Rattle.form.specs.Trees.{Val, v-leaf, v-range, v-list, v-context, v-functio
 use Rattle.form.specs.Form.{numAt}
 use Rattle.form.specs.Outcome.{pick}
 use Rattle.form.specs.Read.{Got, got, bad, readV}
+use Rattle.form.proofs.Runs.{rest}
 use Rattle.order.specs.Size.{size-val, size-entries}
 use Rattle.types.specs.At.{Ok}
-use Rattle.types.proofs.Reading.{rest, is-ok, ok-got, got-seen}
+use Rattle.types.proofs.Reading.{is-ok, ok-got, got-seen}
 use Rattle.values.specs.At.{valueAt, entriesAt, sizeAtV}
-use Rattle.values.proofs.Reading.{value-told, IsVal, is-null, is-boolean, is-number, is-string, is-temporal, is-range, is-list, is-context, is-definition, is-built-in, is-type, is-irrelevant, is-val, some-level, v-inside, size-got}
+use Rattle.values.proofs.Reading.{value-told, IsVal, is-null, is-boolean, is-number, is-string, is-temporal, is-range, is-list, is-context, is-definition, is-built-in, is-type, is-irrelevant, is-val}
+use Rattle.values.proofs.Reading.{some-level, v-inside, size-got}
 use Rattle.retrieval.proofs.Answering.{behind}
 use Rattle.retrieval.proofs.Contexts.{size-context}
 use Rattle.retrieval.proofs.Theorems.{none-some, some-same}

@@ -1,6 +1,6 @@
 -- The calls: refusals in their order, and the answer.
 -- Assumes nothing.
-use Prim.Native.Nat.{ℕ, _+_, _-_, _<_, _≤_}
+use Prim.Native.Nat.{ℕ, _-_, _<_, _≤_}
 use native.Mathlib.Omega.{arith}
 use mathlib.Core.Path.{_≡_, refl, sym, ap, ap₂, _∙_}
 use mathlib.Core.Bool.{true, false, cond, _&&_}
@@ -9,7 +9,7 @@ use mathlib.Core.List.{List, [], _∷_}
 use lib.ListN.{length, getD, take, length-take}
 use borrow.Author.Tests.{le-leb, eq-eqb, ne-eqb}
 use Rattle.form.specs.Limits.{typeLevels, valueLevels, mostBytes, valueRefusals}
-use Rattle.form.specs.Trees.{null, code, Ty, leaf, built, list, range, context, function, Val}
+use Rattle.form.specs.Trees.{code, Ty, leaf, built, list, range, context, function, Val}
 use Rattle.form.specs.Form.{Bytes, encV, encLeaf, levelV, WfV}
 use Rattle.form.specs.Outcome.{done, refused, _>>=_, _>>_, fits}
 use Rattle.form.specs.Read.{readV, readType, readValue, checkType, checkValue}
@@ -51,7 +51,8 @@ module _ (t v : List ℕ) (A : Accepted t v) where
 
   value-there : valueAt typeLevels v ≡ some (A .value)
   unfolding valueAt
-  value-there = got-seen (readV typeLevels v) (A .value) (length v) (read-upV valueLevels typeLevels v (A .bytes-v) (A .value) (length v) (omega arith) (whole-got valueRefusals (readV valueLevels) v (A .value) (A .read-v)))
+  value-there = got-seen (readV typeLevels v) (A .value) (length v) (read-upV valueLevels typeLevels v (A .bytes-v) (A .value) (length v) (omega arith)
+      (whole-got valueRefusals (readV valueLevels) v (A .value) (A .read-v)))
 
   pub type-ok : Ok (typeAt typeLevels t)
   type-ok = is-ok (typeAt typeLevels t) (A .type) type-there
@@ -176,7 +177,8 @@ module _ (t v : List ℕ) (A : Accepted t v) where
   nothing-is room n = refl
 
   pub null-target : getD t 0 0 ≡ 0x29 → (room : ℕ) → fits room (0 ∷ 0 ∷ []) ≡ getConformantValueCall t v room
-  null-target e room = sym (conformant-is room ∙ ap (λ q. result room (cond q (nothing 0) (cond (valueConformsTo (A .value) (A .type)) (or-nothing (retrieve (A .value) (A .type))) (nothing 2)))) (null-type e) ∙ nothing-is room 0)
+  null-target e room = sym (conformant-is room ∙ ap (λ q. result room (cond q (nothing 0) (cond (valueConformsTo (A .value) (A .type)) (or-nothing (retrieve (A .value) (A .type))) (nothing 2))))
+      (null-type e) ∙ nothing-is room 0)
 
   pub not-held : false ≡ isYes (isConformant v t) → valueConformsTo (A .value) (A .type) ≡ false
   unfolding isConformant

@@ -9,12 +9,14 @@ use native.Mathlib.Omega.{arith}
 use lib.ListN.{length, getD, take}
 use lib.Dec.{eqb}
 use borrow.Author.Tests.{ne-eqb, le-leb, lt-leb}
-use Rattle.form.specs.Trees.{Simple, any, boolean, number, string, date, time, dateTime, daysAndTime, yearsAndMonths, null, code, Ty, leaf, built, Built, list, range, context, function, Fields, Temporal, on-date, at-time, at-dateTime, for-daysAndTime, for-yearsAndMonths, code-temporal, decode-temporal, Leaf, l-null, l-boolean, l-number, l-string, l-temporal, Val, v-leaf, v-range, v-list, v-context, v-function, v-built-in, v-type, v-irrelevant}
+use Rattle.form.specs.Trees.{Simple, any, boolean, number, string, date, time, dateTime, daysAndTime, yearsAndMonths, null, code, Ty, leaf, built, Built, list, range, context, function, Fields}
+use Rattle.form.specs.Trees.{decode-temporal, Leaf, l-null, l-boolean, l-number, l-string, l-temporal, Val, v-leaf, v-range, v-list, v-context, v-function, v-built-in, v-type, v-irrelevant}
 use Rattle.form.specs.Form.{Bytes, encV, encLeaf}
 use Rattle.form.proofs.ExactValues.{code-decode}
 use Rattle.order.specs.Order.{same}
-use Rattle.order.specs.Values.{leaf-type, temporal-type}
+use Rattle.order.specs.Values.{leaf-type}
 use Rattle.order.specs.Size.{size-val}
+use Rattle.order.proofs.Simple.{temporal-code}
 use Rattle.order.proofs.LeastSize.{length-encV}
 use Rattle.types.specs.At.{typeAt, sizeAt, Ok}
 use Rattle.types.proofs.Reading as types
@@ -76,13 +78,6 @@ other-kind dateTime c h = sym (or-none (eqb 6 c) ∙ ne-eqb 6 c (λ e. omega ari
 other-kind daysAndTime c h = sym (or-none (eqb 7 c) ∙ ne-eqb 7 c (λ e. omega arith))
 other-kind yearsAndMonths c h = sym (or-none (eqb 8 c) ∙ ne-eqb 8 c (λ e. omega arith))
 other-kind null c h = refl
-
-temporal-code : (k : Temporal) → code (temporal-type k) ≡ 4 + code-temporal k
-temporal-code on-date = refl
-temporal-code at-time = refl
-temporal-code at-dateTime = refl
-temporal-code for-daysAndTime = refl
-temporal-code for-yearsAndMonths = refl
 
 -- neither a list type nor a context type
 abbrev Neither : Ty → Type 0
@@ -153,7 +148,8 @@ by-kind l s v t (is-boolean x c) z n = leaf-by (l-boolean x) t 1 (omega arith) (
 by-kind l s v t (is-number x c) z n = leaf-by (l-number x) t 2 (omega arith) (omega arith) refl n ∙ at-command (v-leaf (l-number x)) (cmd t) 2 (getD s 0 0) c
 by-kind l s v t (is-string x c) z n = leaf-by (l-string x) t 3 (omega arith) (omega arith) refl n ∙ at-command (v-leaf (l-string x)) (cmd t) 3 (getD s 0 0) c
 by-kind l s v t (is-temporal x c d) z n =
-    leaf-by (l-temporal (decode-temporal (getD s 0 0 - 4)) x) t (getD s 0 0) (omega arith) d (omega (arith, temporal-code (decode-temporal (getD s 0 0 - 4)), code-decode (getD s 0 0 - 4) (omega arith))) n
+    leaf-by (l-temporal (decode-temporal (getD s 0 0 - 4)) x) t (getD s 0 0) (omega arith) d
+    (omega (arith, temporal-code (decode-temporal (getD s 0 0 - 4)), code-decode (getD s 0 0 - 4) (omega arith))) n
 by-kind l s v t (is-range i j a b c k p) z n = ap (λ q. copied q (v-range i j a b)) (range-by t n) ∙ at-command (v-range i j a b) (cmd t) 9 (getD s 0 0) c
 by-kind l s v t (is-list vs c k p) z n = list-by t (v-list vs) _ n ∙ at-command (v-list vs) (cmd t) 10 (getD s 0 0) c
 by-kind l s v t (is-context es c k p) z n = context-by t (v-context es) _ n ∙ at-command (v-context es) (cmd t) 11 (getD s 0 0) c
@@ -267,5 +263,6 @@ module _ (l : ℕ) (t v : List ℕ) (p : Ok (typeAt l t)) (q : Ok (valueAt l v))
       kind-copied e k ek old new f =
           let text : take n v ≡ encV (Y .0) = ap (λ (d : ℕ). take d v) is-size ∙ front-text l v (Y .0) bs (Y .1) in
           retrieves (typeAt l t) (valueAt l v) (X .0) (Y .0) old new (Yes k n n) (X .1) (Y .1)
-          (gave-some (X .0) (Y .0) old new (encV (Y .0)) k n n (ap (mapped encV) (copies ∙ ap (λ d. copied d (Y .0)) e)) (ek ∙ size-got (typeAt l t) (X .0) (X .1)) is-size (is-size ∙ sym (length-encV (Y .0)))
+          (gave-some (X .0) (Y .0) old new (encV (Y .0)) k n n (ap (mapped encV) (copies ∙ ap (λ d. copied d (Y .0)) e)) (ek ∙ size-got (typeAt l t) (X .0) (X .1)) is-size
+          (is-size ∙ sym (length-encV (Y .0)))
           (f ∙ ap (λ (d : List ℕ). fill d old) text))

@@ -15,15 +15,17 @@ use Rattle.form.specs.Limits.{nameWidth, nameEnd}
 use Rattle.form.specs.Trees.{Ty, built, context, Fields, no-fields, field, Val, v-context, Entries, no-entries, entry}
 use Rattle.form.specs.Form.{bytes, numAt, Bytes, countEntries, encV, encEntries}
 use Rattle.form.proofs.Numbers.{length-bytes}
+use Rattle.form.proofs.Runs.{rest}
 use Rattle.order.specs.Ascending.{AscFields}
 use Rattle.order.specs.Size.{size, size-fields, size-val, size-entries}
 use Rattle.types.specs.At.{typeAt, fieldsAt, sizeAt, Ok}
 use Rattle.types.proofs.Reading as types
-use Rattle.types.proofs.Reading.{rest, is-ok, ok-got}
+use Rattle.types.proofs.Reading.{is-ok, ok-got}
 use Rattle.types.proofs.Entries.{step, size-got, Here, here, gone, ahead, next-is, size-entry, entry-ok}
 use Rattle.values.specs.At.{valueAt, entriesAt, sizeAtV}
 use Rattle.values.proofs.Reading as values
-use Rattle.values.proofs.Reading.{v-inside, IsVal, is-null, is-boolean, is-number, is-string, is-temporal, is-range, is-list, is-context, is-definition, is-built-in, is-type, is-irrelevant, is-val, some-level, Entry, next-entry, no-entry}
+use Rattle.values.proofs.Reading.{v-inside, IsVal, is-null, is-boolean, is-number, is-string, is-temporal, is-range, is-list, is-context, is-definition, is-built-in, is-type, is-irrelevant, is-val}
+use Rattle.values.proofs.Reading.{some-level, Entry, next-entry, no-entry}
 use Rattle.bounds.proofs.Laws.{name-bytes}
 use Rattle.bounds.proofs.Merging.{at-end}
 use Rattle.retrieval.specs.declared.Retrieved.{Retrieved}
@@ -171,7 +173,8 @@ pub none-left : (l i n at least : ℕ) (s : List ℕ) (es : Entries) → n ≤ i
 none-left l i n at least s es h e = let z : n - i ≡ 0 = omega arith in no-entry l least (drop at s) es (ap (λ (k : ℕ). entriesAt l k least (drop at s)) (sym z) ∙ e)
 
 -- all names of the value are above y, since the next one is, or there is none
-pub above : (l i n at least : ℕ) (s : List ℕ) (es : Entries) → at ≤ length s → entriesAt l (n - i) least (drop at s) ≡ some es → (x y : ℕ) → x ≡ cond (ltb i n) (numAt nameWidth at s) nameEnd → y < x → From (suc y) es
+pub above : (l i n at least : ℕ) (s : List ℕ) (es : Entries) → at ≤ length s → entriesAt l (n - i) least (drop at s) ≡ some es → (x y : ℕ) → x ≡ cond (ltb i n) (numAt nameWidth at s) nameEnd → y < x
+    → From (suc y) es
 above l i n at least s es k e x y p h = go (ltb i n) refl
   where
     go : (q : Bool) → ltb i n ≡ q → From (suc y) es
@@ -207,7 +210,8 @@ pub record ContextInv (l : ℕ) (t : List ℕ) (m : ℕ) (v : List ℕ) (n : ℕ
   pub small : n < 65536
   pub state : out ≡ fill (take 3 v ++ done) mid
 
-pub context-begins : {l : ℕ} {t v : List ℕ} (C : Contexts l t v) (m n : ℕ) (old mid : List ℕ) → m ≡ numAt 2 1 t → n ≡ numAt 2 1 v → n < 65536 → mid ≡ fill (take 3 v) old → ContextInv l t m v n mid mid 3 0 3 0 3 0
+pub context-begins : {l : ℕ} {t v : List ℕ} (C : Contexts l t v) (m n : ℕ) (old mid : List ℕ) → m ≡ numAt 2 1 t → n ≡ numAt 2 1 v → n < 65536 → mid ≡ fill (take 3 v) old
+    → ContextInv l t m v n mid mid 3 0 3 0 3 0
 context-begins {l} {t} {v} C m n old mid em en small e =
     let zm : m - 0 ≡ numAt 2 1 t = omega arith in
     let zn : n - 0 ≡ numAt 2 1 v = omega arith in
@@ -413,7 +417,8 @@ module _ {l : ℕ} {t : List ℕ} {m : ℕ} {v : List ℕ} {n : ℕ} {mid out : 
 
         module _ (u : ℕ) (ys : List ℕ) (r : Retrieved) (T : Retrieves (typeAt (l - 1) (behind (bt + nameWidth) t)) (valueAt (l - 1) (behind (at + nameWidth) v)) (behind u mine) ys r) where
           gave : Gave (B2 .t) (A2 .v) (behind u mine) ys r
-          gave = retrieves-is (typeAt (l - 1) (behind (bt + nameWidth) t)) (valueAt (l - 1) (behind (at + nameWidth) v)) (B2 .t) (A2 .v) (behind u mine) ys r (ap (typeAt (l - 1)) (rest t (bt + nameWidth)) ∙ B2 .first) (ap (valueAt (l - 1)) (rest v (at + nameWidth)) ∙ A2 .first) T
+          gave = retrieves-is (typeAt (l - 1) (behind (bt + nameWidth) t)) (valueAt (l - 1) (behind (at + nameWidth) v)) (B2 .t) (A2 .v) (behind u mine) ys r
+              (ap (typeAt (l - 1)) (rest t (bt + nameWidth)) ∙ B2 .first) (ap (valueAt (l - 1)) (rest v (at + nameWidth)) ∙ A2 .first) T
 
           pub back-kept : length (putMid u (length mine - u) mine ys) ≡ length mid
           back-kept = then-length u mine ys (gave-length (B2 .t) (A2 .v) (behind u mine) ys r gave) ∙ mine-kept ∙ context-kept
@@ -442,14 +447,16 @@ module _ {l : ℕ} {t : List ℕ} {m : ℕ} {v : List ℕ} {n : ℕ} {mid out : 
             pub both-wrote : to + nameWidth + c ≤ length v
             both-wrote = omega (arith, A2 .fits, G .size-v, G .short, Q .low)
 
-            pub common-next : u ≡ min (to + nameWidth) (length mine) → ContextInv l t m v n mid (putMid u (length mine - u) mine ys) (bt + nameWidth + b) (j + 1) (at + nameWidth + a) (i + 1) (to + nameWidth + c) (k + 1)
+            pub common-next : u ≡ min (to + nameWidth) (length mine) → ContextInv l t m v n mid (putMid u (length mine - u) mine ys) (bt + nameWidth + b) (j + 1) (at + nameWidth + a) (i + 1)
+                (to + nameWidth + c) (k + 1)
             common-next eu =
                 let hv = both-v in
                 let ht = both-t in
                 let f : Q .fs ≡ field (A2 .name) (B2 .t) (B2 .more) = B2 .is ∙ ap (λ (q : ℕ). field q (B2 .t) (B2 .more)) (sym same-name) in
                 let nl : length (bytes nameWidth (A2 .name)) ≡ nameWidth = length-bytes nameWidth (A2 .name) in
                 let D = Q .done ++ bytes nameWidth (A2 .name) in
-                let front : length ((take 3 v ++ Q .done) ++ bytes nameWidth (A2 .name)) ≡ to + nameWidth = omega (arith, length-append (take 3 v ++ Q .done) (bytes nameWidth (A2 .name)), front-long) in
+                let front : length ((take 3 v ++ Q .done) ++ bytes nameWidth (A2 .name)) ≡ to + nameWidth = omega
+                (arith, length-append (take 3 v ++ Q .done) (bytes nameWidth (A2 .name)), front-long) in
                 let shape : ((take 3 v ++ Q .done) ++ bytes nameWidth (A2 .name)) ++ encV (G .w) ≡ take 3 v ++ (D ++ encV (G .w)) =
                 append-assoc (take 3 v ++ Q .done) (bytes nameWidth (A2 .name)) (encV (G .w))
                 ∙ append-assoc (take 3 v) (Q .done) (bytes nameWidth (A2 .name) ++ encV (G .w))
@@ -469,17 +476,20 @@ module _ {l : ℕ} {t : List ℕ} {m : ℕ} {v : List ℕ} {n : ℕ} {mid out : 
                   read-v = ap (λ (q : ℕ). entriesAt (l - 1) (n - (i + 1)) (suc (A2 .name)) (drop (at + nameWidth + q) v)) (G .size-v) ∙ A2 .second;
                   size-t = omega (arith, Q .size-t, size-entry B2, G .size-t);
                   size-v = omega (arith, Q .size-v, A2 .sized, G .size-v);
-                  goes = sym (ap₂ (λ q z. mapped (contextText k (Q .done)) (retrieve-entries q z)) (A2 .is) f ∙ entry-some k (A2 .name) (Q .done) (A2 .v) (A2 .more) (B2 .t) (B2 .more) (G .w) (A2 .from) (G .is)) ∙ Q .goes;
+                  goes = sym (ap₂ (λ q z. mapped (contextText k (Q .done)) (retrieve-entries q z)) (A2 .is) f
+                      ∙ entry-some k (A2 .name) (Q .done) (A2 .v) (A2 .more) (B2 .t) (B2 .more) (G .w) (A2 .from) (G .is)) ∙ Q .goes;
                   long = omega (arith, length-append D (encV (G .w)), length-append (Q .done) (bytes nameWidth (A2 .name)), nl, Q .long, G .long);
                   low = omega (arith, Q .low, G .short);
                   few = omega (arith, Q .few);
                   small = Q .small;
-                  state = fill-then ((take 3 v ++ Q .done) ++ bytes nameWidth (A2 .name)) (encV (G .w)) mid mine ys (to + nameWidth) u mine-is front eu (G .out) ∙ ap (λ (q : List ℕ). fill q mid) shape;
+                  state = fill-then ((take 3 v ++ Q .done) ++ bytes nameWidth (A2 .name)) (encV (G .w)) mid mine ys (to + nameWidth) u mine-is front eu (G .out)
+                      ∙ ap (λ (q : List ℕ). fill q mid) shape;
                 }
 
     -- ---- both at their end
     module _ (nx : i < n → x < nameEnd) (ny : j < m → y < nameEnd) (lo : y ≤ x) (hi : x ≤ y) (d : x ≡ nameEnd) where
-      pub context-done : (p q : ℕ) → p ≡ k % 256 → q ≡ k / 256 → (old new : List ℕ) → mid ≡ fill (take 3 v) old → new ≡ fill (11 ∷ p ∷ q ∷ []) out → Retrieves (typeAt l t) (valueAt l v) old new (Yes bt at to)
+      pub context-done : (p q : ℕ) → p ≡ k % 256 → q ≡ k / 256 → (old new : List ℕ) → mid ≡ fill (take 3 v) old → new ≡ fill (11 ∷ p ∷ q ∷ []) out
+          → Retrieves (typeAt l t) (valueAt l v) old new (Yes bt at to)
       context-done p q ep eq old new em en =
           let zv : Q .es ≡ no-entries = none-left (l - 1) i n at (Q .least-v) v (Q .es) (at-end i n x nx d) (Q .read-v) in
           let zt : Q .fs ≡ no-fields = gone (l - 1) j m bt (Q .least-t) t (Q .fs) (at-end j m y ny (omega arith)) (Q .read-t) in
@@ -490,5 +500,6 @@ module _ {l : ℕ} {t : List ℕ} {m : ℕ} {v : List ℕ} {n : ℕ} {mid out : 
           sym (Q .goes) ∙ ap (mapped (contextText k (Q .done))) (ap₂ retrieve-entries zv zt ∙ entries-none no-fields)
           ∙ ap some (ended k p q (Q .done) count-fits ep eq) in
           retrieves (typeAt l t) (valueAt l v) X Y old new (Yes bt at to) (Q .both .read-t) (Q .both .read-v)
-          (gave-some X Y old new ((11 ∷ p ∷ q ∷ []) ++ Q .done) bt at to g (omega (arith, Q .size-t, ap size-fields zt, fields-none)) (omega (arith, Q .size-v, ap size-entries zv, size-none)) (omega (arith, Q .long))
+          (gave-some X Y old new ((11 ∷ p ∷ q ∷ []) ++ Q .done) bt at to g (omega (arith, Q .size-t, ap size-fields zt, fields-none)) (omega (arith, Q .size-v, ap size-entries zv, size-none))
+          (omega (arith, Q .long))
           (late-head (take 3 v) (11 ∷ p ∷ q ∷ []) (Q .done) old mid out new head-long em (Q .state) en))

@@ -10,13 +10,15 @@ use lib.Seq.{drop-drop, length-take-le}
 use borrow.Rule.Slice.PartMut.{putMid}
 use Rattle.form.specs.Trees.{Ty, built, list, Val, v-list, Vals, no-items, item}
 use Rattle.form.specs.Form.{bytes, numAt, Bytes, countVals, encV, encVals}
+use Rattle.form.proofs.Runs.{rest}
 use Rattle.order.specs.Size.{size, size-val, size-vals}
 use Rattle.types.specs.At.{typeAt, sizeAt, Ok}
 use Rattle.types.proofs.Reading as types
-use Rattle.types.proofs.Reading.{rest, is-ok, ok-got}
+use Rattle.types.proofs.Reading.{is-ok, ok-got}
 use Rattle.types.proofs.Entries.{step, size-got}
 use Rattle.values.specs.At.{valueAt, itemsAt}
-use Rattle.values.proofs.Reading.{v-inside, IsVal, is-null, is-boolean, is-number, is-string, is-temporal, is-range, is-list, is-context, is-definition, is-built-in, is-type, is-irrelevant, is-val, some-level, Item, next-item, no-item}
+use Rattle.values.proofs.Reading.{v-inside, IsVal, is-null, is-boolean, is-number, is-string, is-temporal, is-range, is-list, is-context, is-definition, is-built-in, is-type, is-irrelevant, is-val}
+use Rattle.values.proofs.Reading.{some-level, Item, next-item, no-item}
 use Rattle.retrieval.specs.declared.Retrieved.{Retrieved}
 use Rattle.retrieval.specs.declared.Retrieved.the-variants.{Yes, No}
 use Rattle.retrieval.specs.Retrieve.{mapped, retrieve, retrieve-items}
@@ -237,7 +239,8 @@ module _ {l : ℕ} {t v : List ℕ} {n : ℕ} {mid out : List ℕ} {at to bt i :
       let W = v-list (Q .both .vs) in
       let l3 : length (take 3 v) ≡ 3 = length-take-le 3 v (Q .both .three) in
       let g : mapped encV (retrieve W T) ≡ some (Q .done) =
-      sym (Q .goes) ∙ ap (mapped (λ ws. Q .done ++ encVals ws)) (ap (λ j. retrieve-items j (Q .both .u)) e ∙ items-none (Q .both .u)) ∙ ap some (ap (λ (j : List ℕ). Q .done ++ j) text-none ∙ append-nil (Q .done)) in
+      sym (Q .goes) ∙ ap (mapped (λ ws. Q .done ++ encVals ws)) (ap (λ j. retrieve-items j (Q .both .u)) e ∙ items-none (Q .both .u))
+      ∙ ap some (ap (λ (j : List ℕ). Q .done ++ j) text-none ∙ append-nil (Q .done)) in
       retrieves (typeAt l t) (valueAt l v) T W old out (Yes k at to) (Q .both .read-t) (Q .both .read-v)
       (gave-some T W old out (Q .done) k at to g ek (omega (arith, Q .sized, ap size-vals e, size-none)) (sym (Q .long))
       (Q .state ∙ ap (fill (Q .done)) m ∙ fill-over (take 3 v) (Q .done) old (omega (arith, Q .long, Q .head))))

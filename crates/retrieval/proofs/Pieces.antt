@@ -10,7 +10,7 @@ use borrow.Rule.Slice.PartMut.{putMid, same-len-mid}
 use Rattle.form.specs.Answers.{onto, Built}
 use Rattle.form.specs.Outcome.{Outcome, fits}
 use Rattle.form.specs.declared.Written.{Written}
-use Rattle.bounds.proofs.Laws.{rest}
+use Rattle.form.proofs.Runs.{rest}
 use Rattle.retrieval.specs.Filling.{fill, puts}
 
 -- ---- byte by byte

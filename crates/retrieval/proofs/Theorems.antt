@@ -8,7 +8,9 @@ use mathlib.Core.Bool.{Bool, true, false, cond, _&&_, _||_, false≢true}
 use mathlib.Core.Option.{Option, none, some}
 use lib.Dec.{eqb, ltb}
 use borrow.Author.Tests.{eqb-true, eqb-false, eq-eqb, ne-eqb, ltb-true, ltb-false}
-use Rattle.form.specs.Trees.{Simple, any, boolean, number, string, date, time, dateTime, daysAndTime, yearsAndMonths, null, code, Tys, Ty, leaf, built, list, range, context, function, Fields, no-fields, field, on-date, at-time, at-dateTime, for-daysAndTime, for-yearsAndMonths, Leaf, l-null, l-boolean, l-number, l-string, l-temporal, Val, v-leaf, v-range, v-list, v-context, v-function, v-built-in, v-type, v-irrelevant, Vals, no-items, item, Entries, no-entries, entry}
+use Rattle.form.specs.Trees.{Simple, any, boolean, number, string, date, time, dateTime, daysAndTime, yearsAndMonths, null, code, Tys, Ty, leaf, built, list, range, context, function, Fields}
+use Rattle.form.specs.Trees.{no-fields, field, on-date, at-time, at-dateTime, for-daysAndTime, for-yearsAndMonths, Leaf, l-null, l-boolean, l-number, l-string, l-temporal, Val, v-leaf, v-range}
+use Rattle.form.specs.Trees.{v-list, v-context, v-function, v-built-in, v-type, v-irrelevant, Vals, no-items, item, Entries, no-entries, entry}
 use Rattle.form.specs.Form.{levelV, levelVals, levelEntries, countVals, countEntries, WfLeaf, Wf, WfV, WfVals, WfEntries}
 use Rattle.order.specs.Order.{up, fixed, same, flat}
 use Rattle.order.specs.Ascending.{Asc, AscFields}
@@ -19,7 +21,8 @@ use Rattle.order.specs.Size.{size-val, size-vals, size-entries}
 use Rattle.order.specs.Types.{look, cmp, cmps, all-fields}
 use Rattle.order.specs.Values.{temporal-type, leaf-type, types-of, to-range, to-function, is-any, conforms, all-conform, has-value}
 use Rattle.order.specs.Inferred.{valueConformsTo}
-use Rattle.retrieval.specs.Retrieve.{mapped, both, copied, retrieve-leaf, by-range, by-function, by-any, by-list, by-context, kept, retrieve, retrieve-items, retrieve-entries, getValueChecked, nothing, or-nothing, getConformantValue}
+use Rattle.retrieval.specs.Retrieve.{mapped, both, copied, retrieve-leaf, by-range, by-function, by-any, by-list, by-context, kept, retrieve, retrieve-items, retrieve-entries, getValueChecked}
+use Rattle.retrieval.specs.Retrieve.{nothing, or-nothing, getConformantValue}
 
 -- ---- what was retrieved is no longer and no deeper, with as many items, and at most as many entries
 pub none-some : {X : Type 0} {x : X} → none ≡ some x → ⊥
@@ -95,14 +98,16 @@ context-less : (es fs : Entries) → LessEntries es fs → LessV (v-context es) 
 unfolding size-val levelV WfV
 context-less es fs L = record { shorter = omega (arith, L .shorter); lower = omega (arith, L .lower); well = λ h. (omega (arith, h .0, L .counted), L .well 0 (h .1)) }
 
-list-by : (t : Ty) (vs : Vals) (w : Val) → ((u : Ty) (ws : Vals) → retrieve-items vs u ≡ some ws → LessItems vs ws) → by-list t (v-list vs) (λ u. mapped v-list (retrieve-items vs u)) ≡ some w → LessV (v-list vs) w
+list-by : (t : Ty) (vs : Vals) (w : Val) → ((u : Ty) (ws : Vals) → retrieve-items vs u ≡ some ws → LessItems vs ws) → by-list t (v-list vs) (λ u. mapped v-list (retrieve-items vs u)) ≡ some w
+    → LessV (v-list vs) w
 list-by (leaf s) vs w ih e = same-less (v-list vs) w (copied-is (same s any) (v-list vs) w e)
 list-by (built (list u)) vs w ih e = let m = mapped-is v-list (retrieve-items vs u) w e in rw (m .2) (list-less vs (m .0) (ih u (m .0) (m .1)))
 list-by (built (range u)) vs w ih e = absurd (none-some e)
 list-by (built (context fs)) vs w ih e = absurd (none-some e)
 list-by (built (function ps r)) vs w ih e = absurd (none-some e)
 
-context-by : (t : Ty) (es : Entries) (w : Val) → ((fs : Fields) (ws : Entries) → retrieve-entries es fs ≡ some ws → LessEntries es ws) → by-context t (v-context es) (λ fs. mapped v-context (retrieve-entries es fs)) ≡ some w → LessV (v-context es) w
+context-by : (t : Ty) (es : Entries) (w : Val) → ((fs : Fields) (ws : Entries) → retrieve-entries es fs ≡ some ws → LessEntries es ws)
+    → by-context t (v-context es) (λ fs. mapped v-context (retrieve-entries es fs)) ≡ some w → LessV (v-context es) w
 context-by (leaf s) es w ih e = same-less (v-context es) w (copied-is (same s any) (v-context es) w e)
 context-by (built (list u)) es w ih e = absurd (none-some e)
 context-by (built (range u)) es w ih e = absurd (none-some e)
@@ -111,17 +116,36 @@ context-by (built (function ps r)) es w ih e = absurd (none-some e)
 
 item-less : (v w : Val) (vs ws : Vals) → LessV v w → LessItems vs ws → LessItems (item v vs) (item w ws)
 unfolding size-val levelV WfV countVals
-item-less v w vs ws L M = record { shorter = omega (arith, L .shorter, M .shorter); lower = omega (arith, L .lower, M .lower); counted = omega (arith, M .counted); well = λ h. (L .well (h .0), M .well (h .1)) }
+item-less v w vs ws L M = record {
+  shorter = omega (arith, L .shorter, M .shorter);
+  lower = omega (arith, L .lower, M .lower);
+  counted = omega (arith, M .counted);
+  well = λ h.
+      (L .well (h .0), M .well (h .1));
+}
 
 entry-less : (n : ℕ) (v w : Val) (es fs : Entries) → LessV v w → LessEntries es fs → LessEntries (entry n v es) (entry n w fs)
 unfolding size-val levelV WfV countEntries
-entry-less n v w es fs L M = record { shorter = omega (arith, L .shorter, M .shorter); lower = omega (arith, L .lower, M .lower); counted = omega (arith, M .counted); well = λ k h. (h .0, (h .1 .0, (L .well (h .1 .1 .0), M .well (n + 1) (h .1 .1 .1)))) }
+entry-less n v w es fs L M = record {
+  shorter = omega (arith, L .shorter, M .shorter);
+  lower = omega (arith, L .lower, M .lower);
+  counted = omega (arith, M .counted);
+  well = λ k h.
+      (h .0, (h .1 .0, (L .well (h .1 .1 .0), M .well (n + 1) (h .1 .1 .1))));
+}
 
 entry-out : (n : ℕ) (v : Val) (es fs : Entries) → LessEntries es fs → LessEntries (entry n v es) fs
 unfolding size-val levelV WfV countEntries
-entry-out n v es fs M = record { shorter = omega (arith, M .shorter); lower = omega (arith, M .lower); counted = omega (arith, M .counted); well = λ k h. wf-lower fs (n + 1) k (omega (arith, h .0)) (M .well (n + 1) (h .1 .1 .1)) }
+entry-out n v es fs M = record {
+  shorter = omega (arith, M .shorter);
+  lower = omega (arith, M .lower);
+  counted = omega (arith, M .counted);
+  well = λ k h. wf-lower fs (n + 1) k (omega (arith, h .0))
+      (M .well (n + 1) (h .1 .1 .1));
+}
 
-kept-less : (o : Option Ty) (n : ℕ) (v : Val) (es fs : Entries) (r : Option Entries) → ((t : Ty) (w : Val) → retrieve v t ≡ some w → LessV v w) → ((ws : Entries) → r ≡ some ws → LessEntries es ws) → kept o (λ t. retrieve v t) n r ≡ some fs → LessEntries (entry n v es) fs
+kept-less : (o : Option Ty) (n : ℕ) (v : Val) (es fs : Entries) (r : Option Entries) → ((t : Ty) (w : Val) → retrieve v t ≡ some w → LessV v w) → ((ws : Entries) → r ≡ some ws → LessEntries es ws)
+    → kept o (λ t. retrieve v t) n r ≡ some fs → LessEntries (entry n v es) fs
 kept-less none n v es fs r iv ir e = entry-out n v es fs (ir fs e)
 kept-less (some t) n v es fs r iv ir e = let m = both-is (entry n) (retrieve v t) r fs e in rw (m .4) (entry-less n v (m .0) es (m .1) (iv t (m .0) (m .2)) (ir (m .1) (m .3)))
 
@@ -140,7 +164,8 @@ mutual
 
   less-items : (vs : Vals) (t : Ty) (ws : Vals) → retrieve-items vs t ≡ some ws → LessItems vs ws
   less-items no-items t ws e = rw (sym (some-same e)) (record { shorter = omega arith; lower = omega arith; counted = refl; well = λ h. h })
-  less-items (item v vs) t ws e = let m = both-is item (retrieve v t) (retrieve-items vs t) ws e in rw (m .4) (item-less v (m .0) vs (m .1) (less-val v t (m .0) (m .2)) (less-items vs t (m .1) (m .3)))
+  less-items (item v vs) t ws e = let m = both-is item (retrieve v t) (retrieve-items vs t) ws e in rw (m .4)
+      (item-less v (m .0) vs (m .1) (less-val v t (m .0) (m .2)) (less-items vs t (m .1) (m .3)))
 
   less-entries : (es : Entries) (fs : Fields) (ws : Entries) → retrieve-entries es fs ≡ some ws → LessEntries es ws
   less-entries no-entries fs ws e = rw (sym (some-same e)) (record { shorter = omega arith; lower = omega arith; counted = omega arith; well = λ k h. h })
@@ -255,13 +280,17 @@ leaf-there : (l : Leaf) (t : Ty) → valueConformsTo (v-leaf l) t ≡ true → T
 unfolding retrieve conforms cmp not-null
 leaf-there (l-null x) (leaf s) h = record { w = v-leaf (l-null 0); is = refl; conforms-too = h }
 leaf-there (l-null x) (built y) h = record { w = v-leaf (l-null 0); is = refl; conforms-too = h }
-leaf-there (l-boolean x) (leaf s) h = copied-there (v-leaf (l-boolean x)) (leaf s) (same s any || same s (leaf-type (l-boolean x))) refl (own-kind s (leaf-type (l-boolean x)) (kind-null (l-boolean x) refl) h) h
+leaf-there (l-boolean x) (leaf s) h = copied-there (v-leaf (l-boolean x)) (leaf s) (same s any || same s (leaf-type (l-boolean x))) refl
+    (own-kind s (leaf-type (l-boolean x)) (kind-null (l-boolean x) refl) h) h
 leaf-there (l-boolean x) (built y) h = absurd (false≢true h)
-leaf-there (l-number x) (leaf s) h = copied-there (v-leaf (l-number x)) (leaf s) (same s any || same s (leaf-type (l-number x))) refl (own-kind s (leaf-type (l-number x)) (kind-null (l-number x) refl) h) h
+leaf-there (l-number x) (leaf s) h = copied-there (v-leaf (l-number x)) (leaf s) (same s any || same s (leaf-type (l-number x))) refl
+    (own-kind s (leaf-type (l-number x)) (kind-null (l-number x) refl) h) h
 leaf-there (l-number x) (built y) h = absurd (false≢true h)
-leaf-there (l-string x) (leaf s) h = copied-there (v-leaf (l-string x)) (leaf s) (same s any || same s (leaf-type (l-string x))) refl (own-kind s (leaf-type (l-string x)) (kind-null (l-string x) refl) h) h
+leaf-there (l-string x) (leaf s) h = copied-there (v-leaf (l-string x)) (leaf s) (same s any || same s (leaf-type (l-string x))) refl
+    (own-kind s (leaf-type (l-string x)) (kind-null (l-string x) refl) h) h
 leaf-there (l-string x) (built y) h = absurd (false≢true h)
-leaf-there (l-temporal k x) (leaf s) h = copied-there (v-leaf (l-temporal k x)) (leaf s) (same s any || same s (leaf-type (l-temporal k x))) refl (own-kind s (leaf-type (l-temporal k x)) (kind-null (l-temporal k x) refl) h) h
+leaf-there (l-temporal k x) (leaf s) h = copied-there (v-leaf (l-temporal k x)) (leaf s) (same s any || same s (leaf-type (l-temporal k x))) refl
+    (own-kind s (leaf-type (l-temporal k x)) (kind-null (l-temporal k x) refl) h) h
 leaf-there (l-temporal k x) (built y) h = absurd (false≢true (sym (flat-null (temporal-type k) (kind-null (l-temporal k x) refl)) ∙ h))
   where
     flat-null : (s : Simple) → same s null ≡ false → flat s null ≡ false

@@ -86,7 +86,8 @@ whole-by sz read base positive told = record {
 }
 
 -- ---- whether the call answers yes
-module _ {X Y : Type 0} {sx : X → ℕ} {sy : Y → ℕ} {one : List ℕ → Option X} {two : List ℕ → Option Y} {first : List ℕ → Outcome X} {second : List ℕ → Outcome Y} (P : Whole sx one first) (Q : Whole sy two second) (test : X → Y → Bool) (a b : List ℕ) where
+module _ {X Y : Type 0} {sx : X → ℕ} {sy : Y → ℕ} {one : List ℕ → Option X} {two : List ℕ → Option Y} {first : List ℕ → Outcome X} {second : List ℕ → Outcome Y} (P : Whole sx one first)
+    (Q : Whole sy two second) (test : X → Y → Bool) (a b : List ℕ) where
   pub answers-no : ((x : X) (y : Y) → first a ≡ done x → second b ≡ done y → test x y ≡ false) → false ≡ isYes (asked test (first a) (second b))
   unfolding _>>=_
   answers-no f = go (first a) (second b) refl refl
@@ -131,5 +132,6 @@ module _ {X Y : Type 0} {sx : X → ℕ} {sy : Y → ℕ} {one : List ℕ → Op
         where
           go : (q : Bool) → eqb t (length b) ≡ q → eqb t (length b) ≡ isYes (asked test (first a) (second b))
           go true e = e
-              ∙ sym (ap isYes (both-read test (second b) (P .accepts a (B .x) (B .read-a) (sym (B .size-a) ∙ p) ha) (Q .accepts b (B .y) (B .read-b) (sym (B .size-b) ∙ eqb-true t (length b) e) hb)) ∙ B .holds)
+              ∙ sym (ap isYes (both-read test (second b) (P .accepts a (B .x) (B .read-a) (sym (B .size-a) ∙ p) ha) (Q .accepts b (B .y) (B .read-b) (sym (B .size-b) ∙ eqb-true t (length b) e) hb))
+              ∙ B .holds)
           go false e = e ∙ answers-no (λ x y f g. absurd (eqb-false t (length b) e (sized-b y g)))

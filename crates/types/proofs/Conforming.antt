@@ -1,14 +1,14 @@
 -- Conformance of two types by their command bytes, and of two functions by their counts.
 -- Assumes nothing.
 use Prim.Native.Nat.{ℕ, zero, suc, _+_, _-_, _≤_}
-use mathlib.Core.Path.{_≡_, refl, sym, ap, ap₂, _∙_}
+use mathlib.Core.Path.{_≡_, refl, sym, ap, _∙_}
 use mathlib.Core.Bool.{Bool, true, false, _&&_, _||_, true≢false}
 use mathlib.Core.List.{List}
 use native.Mathlib.Omega.{arith}
-use lib.ListN.{length, getD, take, drop}
+use lib.ListN.{drop}
 use lib.Dec.{eqb}
 use borrow.Author.Tests.{eq-eqb, ne-eqb}
-use mathlib.Core.Option.{Option, some}
+use mathlib.Core.Option.{some}
 use Rattle.form.specs.Trees.{Simple, any, null, Ty, leaf, built, list, range, context, function, Tys, no-params, param, code, decode, simple}
 use Rattle.form.specs.Form.{countTys}
 use Rattle.form.proofs.ExactTypes.{decode-code, code-small}
@@ -19,7 +19,7 @@ use Rattle.order.specs.Document.{eqTy}
 use Rattle.order.proofs.Equal.{eq-ty-same}
 use Rattle.order.proofs.Simple.{fixed-laws}
 use Rattle.order.proofs.Sentences.{les, le-functions}
-use Rattle.types.specs.At.{typeAt, Sig, sig, cons, funOf, sigAt}
+use Rattle.types.specs.At.{Sig, sig, cons, funOf, sigAt}
 use Rattle.types.specs.Conform.{le-sig}
 use Rattle.types.proofs.Reading.{cmd, parameter, result}
 

@@ -3,7 +3,7 @@
 use Prim.Native.Nat.{ℕ, suc, _+_, _-_, _<_, _≤_}
 use mathlib.Core.Path.{_≡_, refl, sym, ap, _∙_}
 use mathlib.Core.Bool.{Bool, true, false, cond}
-use mathlib.Core.Option.{Option, none, some}
+use mathlib.Core.Option.{Option, some}
 use mathlib.Core.List.{List}
 use native.Mathlib.Omega.{arith}
 use lib.ListN.{length, take, drop, length-drop}
@@ -18,10 +18,11 @@ use Rattle.form.specs.Walks.{walkOf, sizeIn, Short}
 use Rattle.form.specs.Form.{level}
 use Rattle.form.proofs.Told.{short-end}
 use Rattle.form.proofs.TypeLaws.{simple-level}
+use Rattle.form.proofs.Runs.{rest}
 use Rattle.order.specs.Ascending.{Asc, AscFields}
 use Rattle.order.specs.Size.{size, size-fields}
 use Rattle.types.specs.At.{seen, typeAt, fieldsAt, Ok, sizeAt}
-use Rattle.types.proofs.Reading.{rest, is-ok, type-told, t-good, fields-good, Entry, entry, no-entry}
+use Rattle.types.proofs.Reading.{is-ok, type-told, t-good, fields-good, Entry, entry, no-entry}
 
 pub step : (i n : ℕ) → i < n → n - i ≡ suc (n - (i + 1))
 step i n h = omega arith
@@ -87,7 +88,8 @@ unfolding Asc
 asc-from {l} {n} {at} {least} {a} A k h = rw (A .is) (h, t-good l (drop (at + nameWidth) a) (A .t) (A .first) .0, A .asc)
 
 -- all names are above x, since the next one is, or there is none
-pub ahead : (l j m bt least : ℕ) (b : List ℕ) (gs : Fields) → bt ≤ length b → fieldsAt l (m - j) least (drop bt b) ≡ some gs → (x y : ℕ) → y ≡ cond (ltb j m) (numAt nameWidth bt b) nameEnd → x < y → AscFields gs (suc x)
+pub ahead : (l j m bt least : ℕ) (b : List ℕ) (gs : Fields) → bt ≤ length b → fieldsAt l (m - j) least (drop bt b) ≡ some gs → (x y : ℕ) → y ≡ cond (ltb j m) (numAt nameWidth bt b) nameEnd → x < y
+    → AscFields gs (suc x)
 unfolding Asc
 ahead l j m bt least b gs k e x y p h = go (ltb j m) refl
   where

@@ -1,11 +1,11 @@
 -- The reader forward: what stands at the front is made of what stands behind it, whether that is read or not.
 -- Assumes nothing.
 use Prim.Native.Nat.{ℕ, suc, _+_, _-_, _<_, _≤_}
-use mathlib.Core.Path.{_≡_, refl, sym, ap, _∙_}
+use mathlib.Core.Path.{_≡_, refl, ap, _∙_}
 use mathlib.Core.Option.{some}
 use mathlib.Core.List.{List, [], _∷_}
 use native.Mathlib.Omega.{arith}
-use lib.ListN.{length, getD, take, drop, length-drop}
+use lib.ListN.{length, getD, drop, length-drop}
 use lib.Seq.{getD-drop, drop-drop}
 use borrow.Author.Tests.{le-leb}
 use Rattle.form.specs.Trees.{Ty, leaf, built, list, range, context, function, Tys, no-params, param, decode}
@@ -51,7 +51,8 @@ module _ (l : ℕ) (s : List ℕ) (p : 0 < l) (h : 0 < length s) where
 
   pub node-context : getD s 0 0 ≡ 44 → 3 ≤ length s → typeAt l s ≡ mapO (λ fs. built (context fs)) (fieldsAt (l - 1) (numAt 2 1 s) 0 (drop 3 s))
   unfolding typeAt fieldsAt kindOf stepT stepType counted operand orElse
-  node-context c k = rw (t-step l s h p, c, le-leb 2 (length (drop 1 s)) (simp length-drop (omega arith)), drop-drop 2 1 s) (seen-front (λ fs. built (context fs)) 3 (readFields (readT (l - 1)) (numAt 2 1 s) 0 (drop 3 s)))
+  node-context c k = rw (t-step l s h p, c, le-leb 2 (length (drop 1 s)) (simp length-drop (omega arith)), drop-drop 2 1 s)
+      (seen-front (λ fs. built (context fs)) 3 (readFields (readT (l - 1)) (numAt 2 1 s) 0 (drop 3 s)))
 
   pub node-function : getD s 0 0 ≡ 45 → 2 ≤ length s → typeAt l s ≡ mapO funOf (sigAt (l - 1) (getD s 1 0) (drop 2 s))
   unfolding typeAt sigAt kindOf stepT stepType

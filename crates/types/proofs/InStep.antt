@@ -5,7 +5,7 @@ use mathlib.Core.Path.{_≡_, sym, ap, _∙_}
 use mathlib.Core.Bool.{Bool, _&&_, _||_}
 use mathlib.Core.List.{List}
 use native.Mathlib.Omega.{arith}
-use lib.ListN.{length, take, drop, length-drop}
+use lib.ListN.{length, drop, length-drop}
 use lib.Seq.{drop-drop}
 use mathlib.Core.Option.{some}
 use Rattle.form.specs.Trees.{Ty}
@@ -31,7 +31,15 @@ pub record Param (l n at : ℕ) (a : List ℕ) (f : Sig) : Type 0 where
 pub param-at : (l i count at : ℕ) (a : List ℕ) (f : Sig) → i < count → at ≤ length a → sigAt l (count - i) (drop at a) ≡ some f → Param l (count - (i + 1)) at a f
 param-at l i count at a f h k e =
     let g = parameter l (count - (i + 1)) (drop at a) f (ap (λ n. sigAt l n (drop at a)) (sym (step i count h)) ∙ e) in
-    record { t = g .t; more = g .y; first = g .first; fits = omega (arith, simp length-drop at (t-good l (drop at a) (g .t) (g .first) .1)); second = ap (sigAt l (count - (i + 1))) (sym (drop-drop (size (g .t)) at a)) ∙ g .second; is = g .is }
+    record {
+      t = g .t;
+      more = g .y;
+      first = g .first;
+      fits = omega (arith, simp length-drop at (t-good l (drop at a) (g .t) (g .first) .1));
+      second = ap (sigAt l (count - (i + 1)))
+          (sym (drop-drop (size (g .t)) at a)) ∙ g .second;
+      is = g .is;
+    }
 
 pub le-cons : (ig : Bool) (t u : Ty) (f g : Sig) → le-sig ig (cons t f) (cons u g) ≡ le fixed u t && le-sig ig f g
 unfolding cmp

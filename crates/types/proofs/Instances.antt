@@ -1,7 +1,7 @@
 -- `instance_of`: types that are equal have equal bytes, and contexts are held against each other name by name.
 -- Assumes nothing.
 use Prim.Native.Nat.{ℕ, suc, _-_, _<_, _≤_}
-use mathlib.Core.Path.{_≡_, refl, sym, ap, ap₂, subst, _∙_}
+use mathlib.Core.Path.{_≡_, refl, sym, ap, ap₂, _∙_}
 use mathlib.Core.Bool.{Bool, true, false, _||_, true≢false}
 use mathlib.Core.Option.{some}
 use mathlib.Core.List.{List}
@@ -23,7 +23,7 @@ use Rattle.order.specs.Size.{size, size-fields}
 use Rattle.order.specs.Document.{eqTy, eqFields, nullOrSame, instanceBuilt, isInstanceOf}
 use Rattle.order.proofs.Simple.{and-both}
 use Rattle.order.proofs.Size.{size-positive}
-use Rattle.order.proofs.Equal.{eq-ty-same, eq-ty-self, eq-fields-same}
+use Rattle.order.proofs.Equal.{eq-ty-self, eq-fields-same}
 use Rattle.types.specs.At.{typeAt, fieldsAt, sizeAt}
 use Rattle.types.specs.Conform.{conformBy, typesBy, entries, anyTwo, grown, Met}
 use Rattle.types.specs.Calls.{isYes}
@@ -202,7 +202,8 @@ module _ (a b : List ℕ) (c : getD a 0 0 ≡ 0x2A) where
   there-b u e = whole-type .stands b u e
 
   pub list-short : length b < 2 → false ≡ Answer a b
-  list-short h = no-answer (λ t u e f. differ t u (λ q. let d = sym (cmd-is typeLevels b u (there-b u f)) ∙ sym q ∙ cmd-is typeLevels a t (there-a t e) ∙ c in omega (arith, lists typeLevels a b c d t u (there-a t e) (there-b u f) .two)))
+  list-short h = no-answer (λ t u e f. differ t u (λ q. let d = sym (cmd-is typeLevels b u (there-b u f)) ∙ sym q ∙ cmd-is typeLevels a t (there-a t e)
+      ∙ c in omega (arith, lists typeLevels a b c d t u (there-a t e) (there-b u f) .two)))
 
   pub list-apart : (getD b 0 0 ≡ 0x2A → ⊥) → false ≡ Answer a b
   list-apart h = no-answer (λ t u e f. differ t u (λ q. h (sym (cmd-is typeLevels b u (there-b u f)) ∙ sym q ∙ cmd-is typeLevels a t (there-a t e) ∙ c)))
@@ -244,7 +245,8 @@ module _ (a b : List ℕ) (c : getD a 0 0 ≡ 0x2A) where
           let some-b : 0 < length b = omega arith in
           let z = decode (getD (drop 1 b) 0 0 - 32) in
           let i = getD-drop 1 b 0 0 in
-          let r : typeAt typeLevels b ≡ some (built (list (leaf z))) = node-list typeLevels b (omega arith) some-b d ∙ ap (mapO (λ w. built (list w))) (read-simple (typeLevels - 1) (drop 1 b) (omega arith) (simp length-drop (omega arith)) (omega arith) (omega arith)) in
+          let r : typeAt typeLevels b ≡ some (built (list (leaf z))) = node-list typeLevels b (omega arith) some-b d
+          ∙ ap (mapO (λ w. built (list w))) (read-simple (typeLevels - 1) (drop 1 b) (omega arith) (simp length-drop (omega arith)) (omega arith) (omega arith)) in
           let f = whole-type .accepts b (built (list (leaf z))) r (sym k) (omega arith) in
           sym (ap isYes (both-read isInstanceOf (readType b) e f) ∙ list-of-any b t (built (list (leaf z))) (both-lists t (built (list (leaf z))) e f) h))
 
@@ -269,7 +271,8 @@ module _ (a b : List ℕ) (c : getD a 0 0 ≡ 0x2C) where
 
   -- the other is a context, or of another kind
   beside : ((u : Ty) → readType b ≡ done u → getD b 0 0 ≡ 0x2C → ⊥) → false ≡ Answer a b
-  beside h = answers-no whole-type whole-type isInstanceOf a b (λ t u e f. differ t u (λ q. h u f (sym (cmd-is typeLevels b u (whole-type .stands b u f)) ∙ sym q ∙ cmd-is typeLevels a t (whole-type .stands a t e) ∙ c)))
+  beside h = answers-no whole-type whole-type isInstanceOf a b (λ t u e f. differ t u (λ q. h u f
+      (sym (cmd-is typeLevels b u (whole-type .stands b u f)) ∙ sym q ∙ cmd-is typeLevels a t (whole-type .stands a t e) ∙ c)))
 
   pub context-short : (3 ≤ length b → ⊥) → false ≡ Answer a b
   context-short h = beside (λ u f d. h (is-ctx typeLevels b u (whole-type .stands b u f) d .three))

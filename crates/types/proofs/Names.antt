@@ -23,7 +23,7 @@ use Rattle.order.proofs.Size.{size-positive}
 use Rattle.types.specs.At.{seen, typeAt, fieldsAt}
 use Rattle.types.specs.Conform.{Conform, judge, conformBy, grown, Met}
 use Rattle.types.proofs.Reading.{seen-got, type-told, t-good, fields-good, entry}
-use Rattle.types.proofs.Entries.{step, here, gone, ahead, next-is}
+use Rattle.types.proofs.Entries.{step, ahead, next-is}
 use Rattle.types.proofs.Pairs.{mapO, mapO-same, seen-front, both, no-when, mapped, met-yes, met-no, grown-on, grown-none, Readable, Sized, sized-in, Pair, MetAt, pair-no, pair-in}
 
 -- the first of some entries
@@ -59,11 +59,13 @@ pub record Tests {X N : Type 0} (nil : N) (cons : ℕ → X → N → N) (Asc : 
 -- ---- the reader forward
 pub named-on : {X N : Type 0} (sx : X → ℕ) (nil : N) (cons : ℕ → X → N → N) (child : List ℕ → Got X) → ((s : List ℕ) (x : X) (m : ℕ) → child s ≡ got x m → m ≡ sx x)
     → (n least : ℕ) (s : List ℕ) (x : X) → nameWidth ≤ length s → least ≤ num (take nameWidth s) → seen (child (drop nameWidth s)) ≡ some x
-    → seen (readNamed nil cons ascending child (suc n) least s) ≡ mapO (cons (num (take nameWidth s)) x) (seen (readNamed nil cons ascending child n (num (take nameWidth s) + 1) (drop (sx x) (drop nameWidth s))))
+    → seen (readNamed nil cons ascending child (suc n) least s) ≡ mapO (cons (num (take nameWidth s)) x)
+    (seen (readNamed nil cons ascending child n (num (take nameWidth s) + 1) (drop (sx x) (drop nameWidth s))))
 unfolding readNamed operand named orElse andThen
 named-on sx nil cons child told n least s x w h e =
     seen-got (child (drop nameWidth s)) x e (λ m r.
-    rw (le-leb nameWidth (length s) w, le-leb least (num (take nameWidth s)) h, r, ← told (drop nameWidth s) x m r) (seen-front (cons (num (take nameWidth s)) x) (nameWidth + m) (readNamed nil cons ascending child n (num (take nameWidth s) + 1) (drop m (drop nameWidth s)))))
+    rw (le-leb nameWidth (length s) w, le-leb least (num (take nameWidth s)) h, r, ← told (drop nameWidth s) x m r)
+    (seen-front (cons (num (take nameWidth s)) x) (nameWidth + m) (readNamed nil cons ascending child n (num (take nameWidth s) + 1) (drop m (drop nameWidth s)))))
 
 pub readable-type : (l : ℕ) → Readable size (typeAt l)
 readable-type l = record { positive = size-positive; inside = λ s x e. t-good l s x e .1 }
@@ -77,10 +79,22 @@ fields-run l = record {
   size-cons = λ n x fs. refl;
   none = λ least s. refl;
   on = λ n least s x w h e. named-on size no-fields field (readT l) (λ r y m f. type-told l r y m f .sized) n least s x w h e;
-  back = λ n least s fs e. let E = entry l n least s fs e in record { name = E .name; x = E .t; more = E .more; two = E .two; named = E .named; above = E .above; first = E .first; is = E .is; asc = fields-good l n (suc (E .name)) (drop (size (E .t)) (drop nameWidth s)) (E .more) (E .second) .0 };
+  back = λ n least s fs e. let E = entry l n least s fs e in record {
+    name = E .name;
+    x = E .t;
+    more = E .more;
+    two = E .two;
+    named = E .named;
+    above = E .above;
+    first = E .first;
+    is = E .is;
+    asc = fields-good l n (suc (E .name))
+        (drop (size (E .t)) (drop nameWidth s)) (E .more) (E .second) .0;
+  };
 }
 
-module _ {X N : Type 0} {sx : X → ℕ} {sn : N → ℕ} {one : List ℕ → Option X} {many : ℕ → ℕ → List ℕ → Option N} {nil : N} {cons : ℕ → X → N → N} {Asc : N → ℕ → Type 0} (R : Run sx sn one many nil cons Asc) (i n at least : ℕ) (a : List ℕ) where
+module _ {X N : Type 0} {sx : X → ℕ} {sn : N → ℕ} {one : List ℕ → Option X} {many : ℕ → ℕ → List ℕ → Option N} {nil : N} {cons : ℕ → X → N → N} {Asc : N → ℕ → Type 0}
+    (R : Run sx sn one many nil cons Asc) (i n at least : ℕ) (a : List ℕ) where
   -- an entry that stands at `at`
   entry-at : (name : ℕ) (x : X) → i < n → at + nameWidth ≤ length a → name ≡ numAt nameWidth at a → least ≤ name → one (drop (at + nameWidth) a) ≡ some x
       → many (n - i) least (drop at a) ≡ mapO (cons name x) (many (n - (i + 1)) (name + 1) (drop (at + nameWidth + sx x) a))
@@ -97,7 +111,8 @@ module _ {X N : Type 0} {sx : X → ℕ} {sn : N → ℕ} {one : List ℕ → Op
   first-at fs h e = R .back (n - (i + 1)) least (drop at a) fs (ap (λ k. many k least (drop at a)) (sym (step i n h)) ∙ e)
 
 -- ---- the verdict on the whole is that on what is left, behind what was passed
-pub record NamesGo {X N : Type 0} (sx : X → ℕ) (sn : N → ℕ) (one : List ℕ → Option X) (many : ℕ → ℕ → List ℕ → Option N) (nil : N) (cons : ℕ → X → N → N) (Asc : N → ℕ → Type 0) (test : X → Ty → Bool) (all : N → Fields → Bool) (l : ℕ) (whole : Conform) (a : List ℕ) (n : ℕ) (b : List ℕ) (m at least i bt j : ℕ) : Type 0 where
+pub record NamesGo {X N : Type 0} (sx : X → ℕ) (sn : N → ℕ) (one : List ℕ → Option X) (many : ℕ → ℕ → List ℕ → Option N) (nil : N) (cons : ℕ → X → N → N) (Asc : N → ℕ → Type 0) (test : X → Ty → Bool)
+    (all : N → Fields → Bool) (l : ℕ) (whole : Conform) (a : List ℕ) (n : ℕ) (b : List ℕ) (m at least i bt j : ℕ) : Type 0 where
   pub run : Run sx sn one many nil cons Asc
   pub tests : Tests nil cons Asc test all
   pub least-b : ℕ
@@ -108,7 +123,8 @@ pub record NamesGo {X N : Type 0} (sx : X → ℕ) (sn : N → ℕ) (one : List 
   pub in-b : bt ≤ length b
   pub goes : whole ≡ grown at bt (conformBy sn size-fields all (many (n - i) least (drop at a)) (fieldsAt l (m - j) least-b (drop bt b)))
 
-pub names-start : {X N : Type 0} {sx : X → ℕ} {sn : N → ℕ} {one : List ℕ → Option X} {many : ℕ → ℕ → List ℕ → Option N} {nil : N} {cons : ℕ → X → N → N} {Asc : N → ℕ → Type 0} {test : X → Ty → Bool} {all : N → Fields → Bool}
+pub names-start : {X N : Type 0} {sx : X → ℕ} {sn : N → ℕ} {one : List ℕ → Option X} {many : ℕ → ℕ → List ℕ → Option N} {nil : N} {cons : ℕ → X → N → N} {Asc : N → ℕ → Type 0} {test : X → Ty → Bool}
+    {all : N → Fields → Bool}
     → Run sx sn one many nil cons Asc → Tests nil cons Asc test all → (l : ℕ) (a : List ℕ) (n : ℕ) (b : List ℕ) (m : ℕ)
     → NamesGo sx sn one many nil cons Asc test all l (conformBy sn size-fields all (many n 0 a) (fieldsAt l m 0 b)) a n b m 0 0 0 0 0
 names-start {sn = sn} {many = many} {all = all} R T l a n b m =
@@ -126,7 +142,9 @@ names-start {sn = sn} {many = many} {all = all} R T l a n b m =
       goes = ap₂ (λ p q. conformBy sn size-fields all (many p 0 a) (fieldsAt l q 0 b)) x y ∙ grown-none (conformBy sn size-fields all (many (n - 0) 0 a) (fieldsAt l (m - 0) 0 b));
     }
 
-module _ {X N : Type 0} {sx : X → ℕ} {sn : N → ℕ} {one : List ℕ → Option X} {many : ℕ → ℕ → List ℕ → Option N} {nil : N} {cons : ℕ → X → N → N} {Asc : N → ℕ → Type 0} {test : X → Ty → Bool} {all : N → Fields → Bool} {l : ℕ} {whole : Conform} {a : List ℕ} {n : ℕ} {b : List ℕ} {m at least i bt j : ℕ} (v : NamesGo sx sn one many nil cons Asc test all l whole a n b m at least i bt j) (k t : ℕ) where
+module _ {X N : Type 0} {sx : X → ℕ} {sn : N → ℕ} {one : List ℕ → Option X} {many : ℕ → ℕ → List ℕ → Option N} {nil : N} {cons : ℕ → X → N → N} {Asc : N → ℕ → Type 0} {test : X → Ty → Bool}
+    {all : N → Fields → Bool} {l : ℕ} {whole : Conform} {a : List ℕ} {n : ℕ} {b : List ℕ} {m at least i bt j : ℕ} (v : NamesGo sx sn one many nil cons Asc test all l whole a n b m at least i bt j)
+    (k t : ℕ) where
   -- no, since what is left fails
   names-no : ((fs : N) (gs : Fields) → many (n - i) least (drop at a) ≡ some fs → fieldsAt l (m - j) (v .least-b) (drop bt b) ≡ some gs → all fs gs ≡ false) → Met (grown k k whole) 0 t
   names-no f = met-no 0 t (ap (grown k k) (v .goes ∙ ap (grown at bt) (no-when sn size-fields all (many (n - i) least (drop at a)) (fieldsAt l (m - j) (v .least-b) (drop bt b)) f))) refl
@@ -157,11 +175,13 @@ module _ {X N : Type 0} {sx : X → ℕ} {sn : N → ℕ} {one : List ℕ → Op
 
   pub names-done : n ≤ i → m ≤ j → (r : ℕ) → r ≡ at + k → t ≡ bt + k → Met (grown k k whole) r t
   names-done h q r p s =
-      let e = both sn size-fields all (many (n - i) least (drop at a)) (fieldsAt l (m - j) (v .least-b) (drop bt b)) nil no-fields (none-at (v .run) i n at least a h) (none-at (fields-run l) j m bt (v .least-b) b q) in
+      let e = both sn size-fields all (many (n - i) least (drop at a)) (fieldsAt l (m - j) (v .least-b) (drop bt b)) nil no-fields (none-at (v .run) i n at least a h)
+      (none-at (fields-run l) j m bt (v .least-b) b q) in
       let f = ap (λ z. judge z (sn nil) (size-fields no-fields)) (v .tests .done) in
       met-yes (ap (grown k k) (v .goes ∙ ap (grown at bt) (e ∙ f))) (omega (arith, p, v .run .size-nil)) (omega (arith, s, fields-run l .size-nil))
 
-  module _ (h : i < n) (w : at + nameWidth ≤ length a) (name next : ℕ) (ne : name ≡ numAt nameWidth at a) (above : least ≤ name) (small : name < nameEnd) (ye : next ≡ cond (ltb j m) (numAt nameWidth bt b) nameEnd) where
+  module _ (h : i < n) (w : at + nameWidth ≤ length a) (name next : ℕ) (ne : name ≡ numAt nameWidth at a) (above : least ≤ name) (small : name < nameEnd)
+      (ye : next ≡ cond (ltb j m) (numAt nameWidth bt b) nameEnd) where
     -- a name of the second that the first lacks
     pub names-missing : next < name → Met (grown k k whole) 0 t
     names-missing q = names-no (λ fs gs e f.
@@ -178,7 +198,8 @@ module _ {X N : Type 0} {sx : X → ℕ} {sn : N → ℕ} {one : List ℕ → Op
     names-skip q z S =
         let A = many (n - (i + 1)) (name + 1) (drop (at + nameWidth + z) a) in
         let B = fieldsAt l (m - j) (v .least-b) (drop bt b) in
-        let ea : many (n - i) least (drop at a) ≡ mapO (cons name (S .x)) A = entry-at (v .run) i n at least a name (S .x) h w ne above (S .read) ∙ ap (λ x. mapO (cons name (S .x)) (many (n - (i + 1)) (name + 1) (drop (at + nameWidth + x) a))) (sym (S .is)) in
+        let ea : many (n - i) least (drop at a) ≡ mapO (cons name (S .x)) A = entry-at (v .run) i n at least a name (S .x) h w ne above (S .read)
+        ∙ ap (λ x. mapO (cons name (S .x)) (many (n - (i + 1)) (name + 1) (drop (at + nameWidth + x) a))) (sym (S .is)) in
         let s = S .is in
         let o : at + (nameWidth + z) ≡ at + nameWidth + z = omega arith in
         let o′ : bt + 0 ≡ bt = omega arith in
@@ -192,7 +213,9 @@ module _ {X N : Type 0} {sx : X → ℕ} {sn : N → ℕ} {one : List ℕ → Op
           in-a = sized-in (v .run .readable) a (at + nameWidth) z w S;
           in-b = v .in-b;
           goes = v .goes ∙ ap (grown at bt) (ap₂ (conformBy sn size-fields all) ea (sym (mapO-same B))
-              ∙ mapped sn size-fields all sn size-fields all (cons name (S .x)) (λ x. x) (nameWidth + z) 0 A B (λ fs gs e f. v .tests .first name (S .x) fs gs (ahead l j m bt (v .least-b) b gs (v .in-b) f name next ye q)) (λ x e. omega (arith, v .run .size-cons name (S .x) x)) (λ x. omega arith))
+              ∙ mapped sn size-fields all sn size-fields all (cons name (S .x)) (λ x. x) (nameWidth + z) 0 A B
+              (λ fs gs e f. v .tests .first name (S .x) fs gs (ahead l j m bt (v .least-b) b gs (v .in-b) f name next ye q)) (λ x e. omega (arith, v .run .size-cons name (S .x) x))
+              (λ x. omega arith))
               ∙ grown-on at bt (nameWidth + z) 0 (conformBy sn size-fields all A B) ∙ ap₂ (λ p r. grown p r (conformBy sn size-fields all A B)) o o′;
         }
 
@@ -211,7 +234,8 @@ module _ {X N : Type 0} {sx : X → ℕ} {sn : N → ℕ} {one : List ℕ → Op
           let same : B .name ≡ A .name = omega (arith, A .named, B .named, ne, b-named) in
           ap₂ all (A .is) (B .is ∙ ap (λ x. field x (B .x) (B .more)) same)
           ∙ v .tests .common (A .name) (A .x) (B .x) (A .more) (B .more) (subst (λ (x : ℕ). AscFields (B .more) (suc x)) same (B .asc))
-          ∙ ap (λ x. x && all (A .more) (B .more)) (pair-no (v .run .readable) (readable-type l) test a (at + nameWidth) b (bt + nameWidth) r s e z (A .x) (B .x) (ap one (sym (drop-drop nameWidth at a)) ∙ A .first) (ap (typeAt l) (sym (drop-drop nameWidth bt b)) ∙ B .first)))
+          ∙ ap (λ x. x && all (A .more) (B .more)) (pair-no (v .run .readable) (readable-type l) test a (at + nameWidth) b (bt + nameWidth) r s e z (A .x) (B .x)
+          (ap one (sym (drop-drop nameWidth at a)) ∙ A .first) (ap (typeAt l) (sym (drop-drop nameWidth bt b)) ∙ B .first)))
 
       pub names-common : bt + nameWidth ≤ length b → (r s : ℕ) → Pair (v .run .readable) (readable-type l) test a (at + nameWidth) b (bt + nameWidth) r s
           → NamesGo sx sn one many nil cons Asc test all l whole a n b m (at + nameWidth + r) (name + 1) (i + 1) (bt + nameWidth + s) (j + 1)
@@ -220,8 +244,10 @@ module _ {X N : Type 0} {sx : X → ℕ} {sn : N → ℕ} {one : List ℕ → Op
           let I = pair-in (v .run .readable) (readable-type l) test a (at + nameWidth) b (bt + nameWidth) r s w u P in
           let A = many (n - (i + 1)) (name + 1) (drop (at + nameWidth + r) a) in
           let B = fieldsAt l (m - (j + 1)) (name + 1) (drop (bt + nameWidth + s) b) in
-          let ea : many (n - i) least (drop at a) ≡ mapO (cons name (P .x)) A = entry-at (v .run) i n at least a name (P .x) h w ne above (P .read-a) ∙ ap (λ x. mapO (cons name (P .x)) (many (n - (i + 1)) (name + 1) (drop (at + nameWidth + x) a))) (sym (P .size-a)) in
-          let eb : fieldsAt l (m - j) (v .least-b) (drop bt b) ≡ mapO (field name (P .y)) B = entry-at (fields-run l) j m bt (v .least-b) b name (P .y) jm u b-named (omega (arith, v .under)) (P .read-b) ∙ ap (λ x. mapO (field name (P .y)) (fieldsAt l (m - (j + 1)) (name + 1) (drop (bt + nameWidth + x) b))) (sym (P .size-b)) in
+          let ea : many (n - i) least (drop at a) ≡ mapO (cons name (P .x)) A = entry-at (v .run) i n at least a name (P .x) h w ne above (P .read-a)
+          ∙ ap (λ x. mapO (cons name (P .x)) (many (n - (i + 1)) (name + 1) (drop (at + nameWidth + x) a))) (sym (P .size-a)) in
+          let eb : fieldsAt l (m - j) (v .least-b) (drop bt b) ≡ mapO (field name (P .y)) B = entry-at (fields-run l) j m bt (v .least-b) b name (P .y) jm u b-named (omega (arith, v .under))
+          (P .read-b) ∙ ap (λ x. mapO (field name (P .y)) (fieldsAt l (m - (j + 1)) (name + 1) (drop (bt + nameWidth + x) b))) (sym (P .size-b)) in
           let sa = P .size-a in
           let sb = P .size-b in
           let o : at + (nameWidth + r) ≡ at + nameWidth + r = omega arith in
@@ -237,6 +263,7 @@ module _ {X N : Type 0} {sx : X → ℕ} {sn : N → ℕ} {one : List ℕ → Op
             in-b = I .1;
             goes = v .goes ∙ ap (grown at bt) (ap₂ (conformBy sn size-fields all) ea eb
                 ∙ mapped sn size-fields all sn size-fields all (cons name (P .x)) (field name (P .y)) (nameWidth + r) (nameWidth + s) A B
-                (λ fs gs e f. v .tests .common name (P .x) (P .y) fs gs (rw add-one at (fields-good l (m - (j + 1)) (name + 1) (drop (bt + nameWidth + s) b) gs f .0)) ∙ ap (λ x. x && all fs gs) (P .holds)) (λ x e. omega (arith, v .run .size-cons name (P .x) x)) (λ x. omega (arith, fields-run l .size-cons name (P .y) x)))
+                (λ fs gs e f. v .tests .common name (P .x) (P .y) fs gs (rw add-one at (fields-good l (m - (j + 1)) (name + 1) (drop (bt + nameWidth + s) b) gs f .0))
+                ∙ ap (λ x. x && all fs gs) (P .holds)) (λ x e. omega (arith, v .run .size-cons name (P .x) x)) (λ x. omega (arith, fields-run l .size-cons name (P .y) x)))
                 ∙ grown-on at bt (nameWidth + r) (nameWidth + s) (conformBy sn size-fields all A B) ∙ ap₂ (λ p q. grown p q (conformBy sn size-fields all A B)) o o′;
           }

@@ -9,9 +9,9 @@ use mathlib.Core.List.{List}
 use native.Mathlib.Omega.{arith}
 use lib.ListN.{length, take, drop, length-drop}
 use Rattle.form.specs.Read.{Got, got, bad, front}
+use Rattle.form.proofs.Runs.{rest}
 use Rattle.types.specs.At.{seen}
 use Rattle.types.specs.Conform.{Conform, Yes, No, judge, conformBy, grown, Met}
-use Rattle.types.proofs.Reading.{rest}
 
 -- ---- verdicts
 no-yes : {X : Type 0} {x y : ℕ} → No ≡ Yes x y → X
@@ -128,7 +128,8 @@ pub none-of : {X Y : Type 0} (sx : X → ℕ) (sy : Y → ℕ) (test : X → Y �
 none-of sx sy test positive p q r t m z = no-of (conformBy sx sy test p q) r t m z (λ i j h. let B = taken sx sy test p q i j h in omega (arith, B .size-a, positive (B .x)))
 
 -- the answer to a caller that has read both
-module _ {X Y : Type 0} (sx : X → ℕ) (sy : Y → ℕ) (test : X → Y → Bool) (positive : (x : X) → 0 < sx x) {p : Option X} {q : Option Y} (r t : ℕ) (m : Met (conformBy sx sy test p q) r t) (x : X) (y : Y) (e : p ≡ some x) (f : q ≡ some y) where
+module _ {X Y : Type 0} (sx : X → ℕ) (sy : Y → ℕ) (test : X → Y → Bool) (positive : (x : X) → 0 < sx x) {p : Option X} {q : Option Y} (r t : ℕ) (m : Met (conformBy sx sy test p q) r t) (x : X) (y : Y)
+    (e : p ≡ some x) (f : q ≡ some y) where
   pub told-no : r ≡ 0 → test x y ≡ false
   told-no z = judge-no (test x y) (sx x) (sy y) (sym (both sx sy test p q x y e f) ∙ none-of sx sy test positive p q r t m z)
 
@@ -150,7 +151,8 @@ pub sized-in : {X : Type 0} {sz : X → ℕ} {one : List ℕ → Option X} (R : 
 sized-in R s k n h S = omega (arith, S .is, simp length-drop at (R .inside (drop k s) (S .x) (S .read)))
 
 -- ---- two of them at two places, compared
-module _ {X Y : Type 0} {sx : X → ℕ} {sy : Y → ℕ} {one : List ℕ → Option X} {two : List ℕ → Option Y} (R : Readable sx one) (S : Readable sy two) (test : X → Y → Bool) (a : List ℕ) (i : ℕ) (b : List ℕ) (j r t : ℕ) where
+module _ {X Y : Type 0} {sx : X → ℕ} {sy : Y → ℕ} {one : List ℕ → Option X} {two : List ℕ → Option Y} (R : Readable sx one) (S : Readable sy two) (test : X → Y → Bool) (a : List ℕ) (i : ℕ)
+    (b : List ℕ) (j r t : ℕ) where
   abbrev pub Pair : Type 0
   Pair = Both sx sy test (one (drop i a)) (two (drop j b)) r t
 

@@ -1,8 +1,8 @@
 -- Two types read and compared at once: what each return of the walks owes. What is left of both decides, whether it is read or not.
 -- Assumes nothing.
-use Prim.Native.Nat.{ℕ, suc, _+_, _-_, _<_, _≤_}
+use Prim.Native.Nat.{ℕ, _+_, _-_, _<_, _≤_}
 use mathlib.Core.Path.{_≡_, refl, sym, ap, ap₂, _∙_}
-use mathlib.Core.Bool.{Bool, true, false, _&&_, _||_, true≢false}
+use mathlib.Core.Bool.{Bool, true, false, _&&_, _||_}
 use mathlib.Core.Logic.{_⊎_, ⊎-elim}
 use mathlib.Core.Option.{Option, none, some}
 use mathlib.Core.List.{List}
@@ -10,11 +10,11 @@ use native.Mathlib.Omega.{arith}
 use lib.ListN.{length, getD, take, drop, length-drop}
 use lib.Dec.{eqb}
 use borrow.Author.Tests.{eq-eqb, ne-eqb}
-use Rattle.form.specs.Trees.{Simple, Ty, leaf, built, list, range, context, function, Fields, no-params, decode, simple}
+use Rattle.form.specs.Trees.{Ty, leaf, built, list, range, context, function, Fields, no-params, decode, simple}
 use Rattle.form.specs.Form.{numAt}
 use Rattle.form.specs.Read.{readT}
 use Rattle.form.specs.Walks.{Short}
-use Rattle.form.proofs.Runs.{first-at}
+use Rattle.form.proofs.Runs.{rest, first-at}
 use Rattle.form.proofs.ExactTypes.{code-small}
 use Rattle.order.specs.Order.{fixed}
 use Rattle.order.specs.Types.{le, cmp}
@@ -22,16 +22,18 @@ use Rattle.order.specs.Ascending.{AscFields}
 use Rattle.order.specs.Size.{size, size-fields}
 use Rattle.order.specs.Document.{eqTy}
 use Rattle.order.proofs.Sentences.{le-contexts}
+use Rattle.order.proofs.Simple.{and-left, and-right}
 use Rattle.order.proofs.Bools.{and-false}
 use Rattle.order.proofs.Equal.{eq-ty-same, eq-ty-self}
 use Rattle.order.proofs.Size.{size-positive}
 use Rattle.types.specs.At.{typeAt, fieldsAt, sig, cons, funOf, size-sig, sigAt, sizeAt}
-use Rattle.types.specs.Conform.{Conform, Yes, judge, conformBy, typesBy, conformOf, entries, le-sig, anyTwo, sameSimple, grown, Met}
-use Rattle.types.proofs.Reading.{rest, type-told, cmd, cmd-is, some-byte, some-level, is-ctx, is-fun, fields-good, size-cons, size-fun}
+use Rattle.types.specs.Conform.{Conform, judge, conformBy, typesBy, conformOf, entries, le-sig, anyTwo, sameSimple, grown, Met}
+use Rattle.types.proofs.Reading.{type-told, cmd, cmd-is, some-byte, some-level, is-ctx, is-fun, fields-good, size-cons, size-fun}
 use Rattle.types.proofs.Entries.{size-got}
 use Rattle.types.proofs.Conforming.{same-simple, simple-leaf, simple-small, eq-false, le-null, le-any, le-leaves, le-other, sig-count, le-funs, le-counts}
 use Rattle.types.proofs.InStep.{param-at, le-cons}
-use Rattle.types.proofs.Pairs.{mapO, both, taken, yes-of, no-when, mapped, same-test, grown-on, grown-none, met-yes, met-no, met-as, Sized, Pair, MetAt, met-here, pair-yes, pair-none, pair-no, pair-in}
+use Rattle.types.proofs.Pairs.{mapO, both, taken, yes-of, no-when, mapped, same-test, grown-on, grown-none, met-yes, met-no, met-as, Sized, Pair, MetAt, met-here, pair-yes, pair-none, pair-no}
+use Rattle.types.proofs.Pairs.{pair-in}
 use Rattle.types.proofs.Forward.{read-simple, node-list, node-range, node-context, node-function, param-on, result-read}
 use Rattle.types.proofs.Names.{readable-type}
 use Rattle.types.proofs.Short.{Passed, passed, not-passed}
@@ -133,21 +135,25 @@ module _ (l : ℕ) (a : List ℕ) (at : ℕ) (b : List ℕ) (bt n room : ℕ) (h
       let r = read-simple l (drop bt b) p (simp length-drop (omega arith)) (omega arith) (omega arith) in
       let d = decode (getD (drop bt b) 0 0 - 32) in
       let same : P .x ≡ leaf d = s .1 ∙ ap leaf (same-simple (s .0) d (sym (ap cmd (s .1)) ∙ e ∙ c ∙ sym (cmd-b (leaf d) r))) in
-      met-yes (both size size sameSimple (typeAt l (drop at a)) (typeAt l (drop bt b)) (P .x) (leaf d) (P .read) r ∙ ap (λ q. judge q (size (P .x)) (size (leaf d))) (ap₂ _&&_ (P .leafy) (ap (eqTy (P .x)) (sym same) ∙ eq-ty-self (P .x)))) (P .is) (P .is ∙ ap size same)
+      met-yes (both size size sameSimple (typeAt l (drop at a)) (typeAt l (drop bt b)) (P .x) (leaf d) (P .read) r
+      ∙ ap (λ q. judge q (size (P .x)) (size (leaf d))) (ap₂ _&&_ (P .leafy) (ap (eqTy (P .x)) (sym same) ∙ eq-ty-self (P .x)))) (P .is) (P .is ∙ ap size same)
 
 -- they conform to each other
 pub simple-pair : (l : ℕ) (a : List ℕ) (at : ℕ) (b : List ℕ) (bt n : ℕ) → Met (typesBy sameSimple (typeAt l (drop at a)) (typeAt l (drop bt b))) n n → (n ≡ 0 → ⊥)
     → Pair (readable-type l) (readable-type l) (le fixed) a at b bt n n
 simple-pair l a at b bt n w z =
     let B = taken size size sameSimple (typeAt l (drop at a)) (typeAt l (drop bt b)) n n (yes-of (typesBy sameSimple (typeAt l (drop at a)) (typeAt l (drop bt b))) n n w z) in
-    let q = both-hold (simple (B .x)) (eqTy (B .x) (B .y)) (B .holds) in
-    let s = simple-leaf (B .x) (q .0) in
-    record { x = B .x; y = B .y; read-a = B .read-a; read-b = B .read-b; holds = ap₂ (le fixed) (s .1) (sym (eq-ty-same (B .x) (B .y) (q .1)) ∙ s .1) ∙ le-leaves (s .0) (s .0) refl; size-a = B .size-a; size-b = B .size-b }
-  where
-    both-hold : (p q : Bool) → p && q ≡ true → (p ≡ true) × (q ≡ true)
-    both-hold true true e = (refl, refl)
-    both-hold true false e = absurd (true≢false (sym e))
-    both-hold false q e = absurd (true≢false (sym e))
+    let s = simple-leaf (B .x) (and-left (simple (B .x)) (eqTy (B .x) (B .y)) (B .holds)) in
+    record {
+      x = B .x;
+      y = B .y;
+      read-a = B .read-a;
+      read-b = B .read-b;
+      holds = ap₂ (le fixed) (s .1) (sym (eq-ty-same (B .x) (B .y) (and-right (simple (B .x)) (eqTy (B .x) (B .y)) (B .holds))) ∙ s .1)
+          ∙ le-leaves (s .0) (s .0) refl;
+      size-a = B .size-a;
+      size-b = B .size-b;
+    }
 
 -- ---- the returns of `conforms`
 module _ (l : ℕ) (a b : List ℕ) (t : ℕ) where
@@ -164,7 +170,8 @@ module _ (l : ℕ) (a b : List ℕ) (t : ℕ) where
 -- one is Null, or the other Any: both are only passed over
 module _ (l : ℕ) (a b : List ℕ) (r t : ℕ) (m : MetAt (readable-type l) (readable-type l) anyTwo a 0 b 0 r t) where
   met-ends : ((x y : Ty) → typeAt l a ≡ some x → typeAt l b ≡ some y → le fixed x y ≡ true) → Met (conformOf (typeAt l a) (typeAt l b)) r t
-  met-ends f = met-as (typesBy anyTwo (typeAt l a) (typeAt l b)) r t (same-test size size (le fixed) anyTwo (typeAt l a) (typeAt l b) f) (met-here (readable-type l) (readable-type l) anyTwo a 0 b 0 r t m)
+  met-ends f = met-as (typesBy anyTwo (typeAt l a) (typeAt l b)) r t (same-test size size (le fixed) anyTwo (typeAt l a) (typeAt l b) f)
+      (met-here (readable-type l) (readable-type l) anyTwo a 0 b 0 r t m)
 
   pub met-null : getD a 0 0 ≡ 41 → Met (conformOf (typeAt l a) (typeAt l b)) r t
   met-null c = met-ends (λ x y e f. le-null x y (cmd-is l a x e ∙ c) .1)
@@ -178,7 +185,8 @@ met-simple l a b p ha hb e i j =
     let x = decode (getD a 0 0 - 32) in
     let y = decode (getD b 0 0 - 32) in
     let xy : x ≡ y = ap (λ c. decode (c - 32)) e in
-    met-yes (both size size (le fixed) (typeAt l a) (typeAt l b) (leaf x) (leaf y) (read-simple l a p ha i j) (read-simple l b p hb (omega (arith, e)) (omega (arith, e))) ∙ ap (λ z. judge z 1 1) (le-leaves x y xy)) refl refl
+    met-yes (both size size (le fixed) (typeAt l a) (typeAt l b) (leaf x) (leaf y) (read-simple l a p ha i j) (read-simple l b p hb (omega (arith, e)) (omega (arith, e)))
+    ∙ ap (λ z. judge z 1 1) (le-leaves x y xy)) refl refl
 
 module _ (l : ℕ) (a b : List ℕ) (p : 0 < l) (ha : 0 < length a) (hb : 0 < length b) (r t : ℕ) where
   -- parents of one type each
@@ -186,7 +194,9 @@ module _ (l : ℕ) (a b : List ℕ) (p : 0 < l) (ha : 0 < length a) (hb : 0 < le
       → ((x y : Ty) → le fixed (wrap x) (wrap y) ≡ le fixed x y) → ((x : Ty) → size (wrap x) ≡ size x + 1)
       → Met (grown 1 1 (conformOf (typeAt (l - 1) (take (length a - 1) (drop 1 a))) (typeAt (l - 1) (take (length b - 1) (drop 1 b))))) r t
       → Met (conformOf (typeAt l a) (typeAt l b)) r t
-  met-wrapped wrap e f test sz m = met-as (grown 1 1 (conformOf (typeAt (l - 1) (drop 1 a)) (typeAt (l - 1) (drop 1 b)))) r t (ap₂ conformOf e f ∙ mapped size size (le fixed) size size (le fixed) wrap wrap 1 1 (typeAt (l - 1) (drop 1 a)) (typeAt (l - 1) (drop 1 b)) (λ x y e f. test x y) (λ x e. sz x) sz) (rw (rest a 1, rest b 1) at m)
+  met-wrapped wrap e f test sz m = met-as (grown 1 1 (conformOf (typeAt (l - 1) (drop 1 a)) (typeAt (l - 1) (drop 1 b)))) r t
+      (ap₂ conformOf e f ∙ mapped size size (le fixed) size size (le fixed) wrap wrap 1 1 (typeAt (l - 1) (drop 1 a)) (typeAt (l - 1) (drop 1 b)) (λ x y e f. test x y) (λ x e. sz x) sz)
+      (rw (rest a 1, rest b 1) at m)
 
   pub met-list : getD a 0 0 ≡ 42 → getD b 0 0 ≡ 42
       → Met (grown 1 1 (conformOf (typeAt (l - 1) (take (length a - 1) (drop 1 a))) (typeAt (l - 1) (take (length b - 1) (drop 1 b))))) r t
@@ -207,8 +217,10 @@ module _ (l : ℕ) (a b : List ℕ) (p : 0 < l) (ha : 0 < length a) (hb : 0 < le
       → Met (typesBy test (typeAt l a) (typeAt l b)) r t
   unfolding size
   met-contexts test child is n k ne ke c d i j m = met-as (grown 3 3 (conformBy size-fields size-fields (entries child) (fieldsAt (l - 1) n 0 (drop 3 a)) (fieldsAt (l - 1) k 0 (drop 3 b)))) r t
-      (ap₂ (typesBy test) (node-context l a p ha c i ∙ ap (λ z. mapO (λ fs. built (context fs)) (fieldsAt (l - 1) z 0 (drop 3 a))) (sym ne)) (node-context l b p hb d j ∙ ap (λ z. mapO (λ fs. built (context fs)) (fieldsAt (l - 1) z 0 (drop 3 b))) (sym ke))
-      ∙ mapped size-fields size-fields (entries child) size size test (λ x. built (context x)) (λ x. built (context x)) 3 3 (fieldsAt (l - 1) n 0 (drop 3 a)) (fieldsAt (l - 1) k 0 (drop 3 b)) (λ x y e f. is x y (fields-good (l - 1) n 0 (drop 3 a) x e .0)) (λ x e. omega arith) (λ x. omega arith)) (rw (rest a 3, rest b 3) at m)
+      (ap₂ (typesBy test) (node-context l a p ha c i ∙ ap (λ z. mapO (λ fs. built (context fs)) (fieldsAt (l - 1) z 0 (drop 3 a))) (sym ne))
+      (node-context l b p hb d j ∙ ap (λ z. mapO (λ fs. built (context fs)) (fieldsAt (l - 1) z 0 (drop 3 b))) (sym ke))
+      ∙ mapped size-fields size-fields (entries child) size size test (λ x. built (context x)) (λ x. built (context x)) 3 3 (fieldsAt (l - 1) n 0 (drop 3 a)) (fieldsAt (l - 1) k 0 (drop 3 b))
+      (λ x y e f. is x y (fields-good (l - 1) n 0 (drop 3 a) x e .0)) (λ x e. omega arith) (λ x. omega arith)) (rw (rest a 3, rest b 3) at m)
 
   pub met-context : (n k : ℕ) → n ≡ numAt 2 1 a → k ≡ numAt 2 1 b → getD a 0 0 ≡ 44 → getD b 0 0 ≡ 44 → 3 ≤ length a → 3 ≤ length b
       → Met (grown 3 3 (conformBy size-fields size-fields (entries (le fixed)) (fieldsAt (l - 1) n 0 (take (length a - 3) (drop 3 a))) (fieldsAt (l - 1) k 0 (take (length b - 3) (drop 3 b))))) r t
@@ -219,8 +231,10 @@ module _ (l : ℕ) (a b : List ℕ) (p : 0 < l) (ha : 0 < length a) (hb : 0 < le
       → Met (grown 2 2 (conformBy size-sig size-sig (le-sig (eqb n 0)) (sigAt (l - 1) n (take (length a - 2) (drop 2 a))) (sigAt (l - 1) n (take (length b - 2) (drop 2 b))))) r t
       → Met (conformOf (typeAt l a) (typeAt l b)) r t
   met-function n ne ab c d i j m = met-as (grown 2 2 (conformBy size-sig size-sig (le-sig (eqb n 0)) (sigAt (l - 1) n (drop 2 a)) (sigAt (l - 1) n (drop 2 b)))) r t
-      (ap₂ conformOf (node-function l a p ha c i ∙ ap (λ z. mapO funOf (sigAt (l - 1) z (drop 2 a))) (sym ne)) (node-function l b p hb d j ∙ ap (λ z. mapO funOf (sigAt (l - 1) z (drop 2 b))) (sym (ne ∙ ab)))
-      ∙ mapped size-sig size-sig (le-sig (eqb n 0)) size size (le fixed) funOf funOf 2 2 (sigAt (l - 1) n (drop 2 a)) (sigAt (l - 1) n (drop 2 b)) (λ x y e f. le-funs x y n (sig-count (l - 1) n (drop 2 a) x e)) (λ x e. size-fun x) size-fun) (rw (rest a 2, rest b 2) at m)
+      (ap₂ conformOf (node-function l a p ha c i ∙ ap (λ z. mapO funOf (sigAt (l - 1) z (drop 2 a))) (sym ne))
+      (node-function l b p hb d j ∙ ap (λ z. mapO funOf (sigAt (l - 1) z (drop 2 b))) (sym (ne ∙ ab)))
+      ∙ mapped size-sig size-sig (le-sig (eqb n 0)) size size (le fixed) funOf funOf 2 2 (sigAt (l - 1) n (drop 2 a)) (sigAt (l - 1) n (drop 2 b))
+      (λ x y e f. le-funs x y n (sig-count (l - 1) n (drop 2 a) x e)) (λ x e. size-fun x) size-fun) (rw (rest a 2, rest b 2) at m)
 
 -- ---- two at the front, behind k bytes each: the returns of `conform_inner` and of a function without parameters
 module _ (test : Ty → Ty → Bool) (l : ℕ) (a b : List ℕ) (k r t : ℕ) (m : MetAt (readable-type l) (readable-type l) test a 0 b 0 r t) where
@@ -233,7 +247,8 @@ module _ (test : Ty → Ty → Bool) (l : ℕ) (a b : List ℕ) (k r t : ℕ) (m
 pub behind-pair : (test : Ty → Ty → Bool) (l : ℕ) (a b : List ℕ) (k r t : ℕ) → Pair (readable-type l) (readable-type l) test a 0 b 0 r t → (p q : ℕ) → p ≡ r + k → q ≡ t + k
     → Met (grown k k (typesBy test (typeAt l a) (typeAt l b))) p q
 behind-pair test l a b k r t P p q e f =
-    met-yes (ap (grown k k) (both size size test (typeAt l a) (typeAt l b) (P .x) (P .y) (P .read-a) (P .read-b) ∙ ap (λ z. judge z (size (P .x)) (size (P .y))) (P .holds))) (omega (arith, e, P .size-a)) (omega (arith, f, P .size-b))
+    met-yes (ap (grown k k) (both size size test (typeAt l a) (typeAt l b) (P .x) (P .y) (P .read-a) (P .read-b) ∙ ap (λ z. judge z (size (P .x)) (size (P .y))) (P .holds)))
+    (omega (arith, e, P .size-a)) (omega (arith, f, P .size-b))
 
 -- ---- parameters in step
 pub record SigGo (l : ℕ) (ig : Bool) (whole : Conform) (a b : List ℕ) (count at bt i : ℕ) : Type 0 where
@@ -245,7 +260,13 @@ pub record SigGo (l : ℕ) (ig : Bool) (whole : Conform) (a b : List ℕ) (count
 pub sig-start : (l : ℕ) (ig : Bool) (a b : List ℕ) (count : ℕ) → SigGo l ig (conformBy size-sig size-sig (le-sig ig) (sigAt l count a) (sigAt l count b)) a b count 0 0 0
 sig-start l ig a b count =
     let x : count ≡ count - 0 = omega arith in
-    record { below = omega arith; in-a = omega arith; in-b = omega arith; goes = ap (λ p. conformBy size-sig size-sig (le-sig ig) (sigAt l p a) (sigAt l p b)) x ∙ grown-none (conformBy size-sig size-sig (le-sig ig) (sigAt l (count - 0) a) (sigAt l (count - 0) b)) }
+    record {
+      below = omega arith;
+      in-a = omega arith;
+      in-b = omega arith;
+      goes = ap (λ p. conformBy size-sig size-sig (le-sig ig) (sigAt l p a) (sigAt l p b)) x
+          ∙ grown-none (conformBy size-sig size-sig (le-sig ig) (sigAt l (count - 0) a) (sigAt l (count - 0) b));
+    }
 
 module _ {l : ℕ} {ig : Bool} {whole : Conform} {a b : List ℕ} {count at bt i : ℕ} (v : SigGo l ig whole a b count at bt i) where
   pub sig-turn : i < count → (r s : ℕ) → Pair (readable-type l) (readable-type l) (le fixed) b bt a at r s → SigGo l ig whole a b count (at + s) (bt + r) (i + 1)
@@ -253,19 +274,23 @@ module _ {l : ℕ} {ig : Bool} {whole : Conform} {a b : List ℕ} {count at bt i
       let I = pair-in (readable-type l) (readable-type l) (le fixed) b bt a at r s (v .in-b) (v .in-a) P in
       let A = sigAt l (count - (i + 1)) (drop (at + s) a) in
       let B = sigAt l (count - (i + 1)) (drop (bt + r) b) in
-      let ea : sigAt l (count - i) (drop at a) ≡ mapO (cons (P .y)) A = param-on l i count at a (P .y) h (P .read-b) ∙ ap (λ x. mapO (cons (P .y)) (sigAt l (count - (i + 1)) (drop (at + x) a))) (sym (P .size-b)) in
-      let eb : sigAt l (count - i) (drop bt b) ≡ mapO (cons (P .x)) B = param-on l i count bt b (P .x) h (P .read-a) ∙ ap (λ x. mapO (cons (P .x)) (sigAt l (count - (i + 1)) (drop (bt + x) b))) (sym (P .size-a)) in
+      let ea : sigAt l (count - i) (drop at a) ≡ mapO (cons (P .y)) A = param-on l i count at a (P .y) h (P .read-b)
+      ∙ ap (λ x. mapO (cons (P .y)) (sigAt l (count - (i + 1)) (drop (at + x) a))) (sym (P .size-b)) in
+      let eb : sigAt l (count - i) (drop bt b) ≡ mapO (cons (P .x)) B = param-on l i count bt b (P .x) h (P .read-a)
+      ∙ ap (λ x. mapO (cons (P .x)) (sigAt l (count - (i + 1)) (drop (bt + x) b))) (sym (P .size-a)) in
       record {
         below = omega arith;
         in-a = I .1;
         in-b = I .0;
         goes = v .goes ∙ ap (grown at bt) (ap₂ (conformBy size-sig size-sig (le-sig ig)) ea eb
-            ∙ mapped size-sig size-sig (le-sig ig) size-sig size-sig (le-sig ig) (cons (P .y)) (cons (P .x)) s r A B (λ f g e o. le-cons ig (P .y) (P .x) f g ∙ ap (λ x. x && le-sig ig f g) (P .holds)) (λ f e. omega (arith, size-cons (P .y) f, P .size-b)) (λ g. omega (arith, size-cons (P .x) g, P .size-a)))
+            ∙ mapped size-sig size-sig (le-sig ig) size-sig size-sig (le-sig ig) (cons (P .y)) (cons (P .x)) s r A B (λ f g e o. le-cons ig (P .y) (P .x) f g ∙ ap (λ x. x && le-sig ig f g) (P .holds))
+            (λ f e. omega (arith, size-cons (P .y) f, P .size-b)) (λ g. omega (arith, size-cons (P .x) g, P .size-a)))
             ∙ grown-on at bt s r (conformBy size-sig size-sig (le-sig ig) A B);
       }
 
   pub sig-apart : i < count → (k t r s : ℕ) → MetAt (readable-type l) (readable-type l) (le fixed) b bt a at r s → r ≡ 0 → Met (grown k k whole) 0 t
-  sig-apart h k t r s m z = met-no 0 t (ap (grown k k) (v .goes ∙ ap (grown at bt) (no-when size-sig size-sig (le-sig ig) (sigAt l (count - i) (drop at a)) (sigAt l (count - i) (drop bt b)) (λ f g e o.
+  sig-apart h k t r s m z = met-no 0 t (ap (grown k k) (v .goes ∙ ap (grown at bt) (no-when size-sig size-sig (le-sig ig) (sigAt l (count - i) (drop at a)) (sigAt l (count - i) (drop bt b))
+      (λ f g e o.
       let A = param-at l i count at a f h (v .in-a) e in
       let B = param-at l i count bt b g h (v .in-b) o in
       ap₂ (le-sig ig) (A .is) (B .is) ∙ le-cons ig (A .t) (B .t) (A .more) (B .more)
@@ -277,12 +302,15 @@ module _ {l : ℕ} {ig : Bool} {whole : Conform} {a b : List ℕ} {count at bt i
   last-is h =
       let z : count - i ≡ 0 = omega arith in
       v .goes
-      ∙ ap (grown at bt) (ap (λ k. conformBy size-sig size-sig (le-sig ig) (sigAt l k (drop at a)) (sigAt l k (drop bt b))) z ∙ ap₂ (conformBy size-sig size-sig (le-sig ig)) (result-read l (drop at a)) (result-read l (drop bt b))
-      ∙ mapped size size (λ r s. ig || le fixed r s) size-sig size-sig (le-sig ig) (sig no-params) (sig no-params) 0 0 (typeAt l (drop at a)) (typeAt l (drop bt b)) (λ x y e f. refl) (λ x e. omega arith) (λ x. omega arith)
+      ∙ ap (grown at bt) (ap (λ k. conformBy size-sig size-sig (le-sig ig) (sigAt l k (drop at a)) (sigAt l k (drop bt b))) z
+      ∙ ap₂ (conformBy size-sig size-sig (le-sig ig)) (result-read l (drop at a)) (result-read l (drop bt b))
+      ∙ mapped size size (λ r s. ig || le fixed r s) size-sig size-sig (le-sig ig) (sig no-params) (sig no-params) 0 0 (typeAt l (drop at a)) (typeAt l (drop bt b)) (λ x y e f. refl)
+      (λ x e. omega arith) (λ x. omega arith)
       ∙ sym (grown-none (typesBy (λ r s. ig || le fixed r s) (typeAt l (drop at a)) (typeAt l (drop bt b)))))
 
 -- parameters: the results are compared
-module _ {l : ℕ} {whole : Conform} {a b : List ℕ} {count at bt i : ℕ} (v : SigGo l (eqb count 0) whole a b count at bt i) (h : count ≤ i) (nz : 0 ≡ count → ⊥) (r s : ℕ) (m : MetAt (readable-type l) (readable-type l) (le fixed) a at b bt r s) where
+module _ {l : ℕ} {whole : Conform} {a b : List ℕ} {count at bt i : ℕ} (v : SigGo l (eqb count 0) whole a b count at bt i) (h : count ≤ i) (nz : 0 ≡ count → ⊥) (r s : ℕ)
+    (m : MetAt (readable-type l) (readable-type l) (le fixed) a at b bt r s) where
   looked-at : whole ≡ grown at bt (conformOf (typeAt l (drop at a)) (typeAt l (drop bt b)))
   looked-at = last-is v h ∙ ap (λ q. grown at bt (typesBy (λ x y. q || le fixed x y) (typeAt l (drop at a)) (typeAt l (drop bt b)))) (ne-eqb count 0 (λ e. nz (sym e)))
 
@@ -297,4 +325,5 @@ pub passed-over : (l : ℕ) (a b : List ℕ) (count : ℕ) → 0 ≡ count → (
     → Met (grown 2 2 (conformBy size-sig size-sig (le-sig (eqb count 0)) (sigAt l count a) (sigAt l count b))) r t
 passed-over l a b count z r t m =
     met-as (grown 2 2 (typesBy anyTwo (typeAt l a) (typeAt l b))) r t
-    (ap (grown 2 2) (last-is (sig-start l (eqb count 0) a b count) (omega (arith, z)) ∙ sym (grown-none (typesBy (λ r s. eqb count 0 || le fixed r s) (typeAt l a) (typeAt l b))) ∙ ap (λ q. typesBy (λ r s. q || le fixed r s) (typeAt l a) (typeAt l b)) (eq-eqb count 0 (sym z)))) m
+    (ap (grown 2 2) (last-is (sig-start l (eqb count 0) a b count) (omega (arith, z)) ∙ sym (grown-none (typesBy (λ r s. eqb count 0 || le fixed r s) (typeAt l a) (typeAt l b)))
+    ∙ ap (λ q. typesBy (λ r s. q || le fixed r s) (typeAt l a) (typeAt l b)) (eq-eqb count 0 (sym z)))) m

@@ -7,7 +7,7 @@ use mathlib.Core.List.{List}
 use native.Mathlib.Omega.{arith}
 use native.Mathlib.Numerals.{add-one}
 use lib.ListN.{length, getD, take, drop, length-drop}
-use lib.Seq.{take-all, drop-drop}
+use lib.Seq.{drop-drop}
 use Rattle.form.specs.Trees.{Ty, leaf, built, list, range, context, function, Fields, no-fields, field, Tys, no-params, param, code, decode}
 use Rattle.form.specs.Limits.{nameWidth}
 use Rattle.form.specs.Form.{num, numAt}
@@ -18,10 +18,6 @@ use Rattle.form.proofs.Nodes.{item-parts, named-parts, NodeT, nSimple, nList, n
 use Rattle.order.specs.Ascending.{Asc, AscFields, AscTys}
 use Rattle.order.specs.Size.{size, size-fields, size-tys}
 use Rattle.types.specs.At.{seen, typeAt, fieldsAt, Sig, sig, cons, funOf, size-sig, sigAt, Ok}
-
--- what `&s[n..]` is
-pub rest : {A : Type 0} (s : List A) (n : ℕ) → take (length s - n) (drop n s) ≡ drop n s
-rest s n = take-all (length s - n) (drop n s) (simp length-drop (omega arith))
 
 -- ---- results taken apart
 pub is-ok : {X : Type 0} (r : Option X) (x : X) → r ≡ some x → Ok r
@@ -86,7 +82,8 @@ unfolding size Asc
 type-step left s ih h t n (nSimple p q) = record { sized = refl; ascend = tt; inside = omega arith }
 type-step left s ih h t n (nList e u m r) = let F = ih (drop 1 s) u m r in record { sized = omega (arith, F .sized); ascend = F .ascend; inside = omega (arith, simp length-drop at (F .inside)) }
 type-step left s ih h t n (nRange e u m r) = let F = ih (drop 1 s) u m r in record { sized = omega (arith, F .sized); ascend = F .ascend; inside = omega (arith, simp length-drop at (F .inside)) }
-type-step left s ih h t n (nContext e k fs m r) = let F = fields-told (readT left) ih (numAt 2 1 s) 0 (drop 3 s) fs m r in record { sized = omega (arith, F .sized); ascend = F .ascend; inside = omega (arith, simp length-drop at (F .inside)) }
+type-step left s ih h t n (nContext e k fs m r) = let F = fields-told (readT left) ih (numAt 2 1 s) 0 (drop 3 s) fs m r in record
+    { sized = omega (arith, F .sized); ascend = F .ascend; inside = omega (arith, simp length-drop at (F .inside)) }
 type-step left s ih h t n (nFunction e k ts m r u j q) =
     let F = tys-told (readT left) ih (getD s 1 0) (drop 2 s) ts m r in
     let G = ih (drop m (drop 2 s)) u j q in
@@ -120,7 +117,8 @@ pub record IsFun (l : ℕ) (s : List ℕ) (t : Ty) : Type 0 where
   pub read : sigAt (l - 1) (getD s 1 0) (drop 2 s) ≡ some f
   pub is : t ≡ funOf f
 
-pub then-got : {X Y Z : Type 0} (g : X → Y → Z) (s : List ℕ) (more : List ℕ → Got Y) (r : Got X) (x : X) (m : ℕ) (y : Y) (n : ℕ) → r ≡ got x m → more (drop m s) ≡ got y n → andThen g 0 s more r ≡ got (g x y) (0 + m + n)
+pub then-got : {X Y Z : Type 0} (g : X → Y → Z) (s : List ℕ) (more : List ℕ → Got Y) (r : Got X) (x : X) (m : ℕ) (y : Y) (n : ℕ) → r ≡ got x m → more (drop m s) ≡ got y n
+    → andThen g 0 s more r ≡ got (g x y) (0 + m + n)
 unfolding andThen Rattle.form.specs.Read.front
 then-got g s more r x m y n p q = rw (p, q)
 
@@ -181,7 +179,8 @@ node-fun l s t n (nContext e k fs m r) c = absurd (omega arith)
 node-fun l s t n (nFunction e k ts m r u j q) c = record {
   f = sig ts u;
   two = k;
-  read = got-seen (andThen sig 0 (drop 2 s) (readT (l - 1)) (readTys (readT (l - 1)) (getD s 1 0) (drop 2 s))) (sig ts u) (0 + m + j) (then-got sig (drop 2 s) (readT (l - 1)) (readTys (readT (l - 1)) (getD s 1 0) (drop 2 s)) ts m u j r q);
+  read = got-seen (andThen sig 0 (drop 2 s) (readT (l - 1)) (readTys (readT (l - 1)) (getD s 1 0) (drop 2 s))) (sig ts u) (0 + m + j)
+      (then-got sig (drop 2 s) (readT (l - 1)) (readTys (readT (l - 1)) (getD s 1 0) (drop 2 s)) ts m u j r q);
   is = refl;
 }
 
@@ -226,7 +225,8 @@ entry l n least s fs e =
     seen-got (readFields (readT l) (suc n) least s) fs e (λ m r.
     named-parts no-fields field ascending (readT l) n least s fs m r (λ w h x k px y j py pz pn.
     let F = type-told l (drop nameWidth s) x k px in
-    let p : seen (readFields (readT l) n (num (take nameWidth s) + 1) (drop k (drop nameWidth s))) ≡ some y = got-seen (readFields (readT l) n (num (take nameWidth s) + 1) (drop k (drop nameWidth s))) y j py in
+    let p : seen (readFields (readT l) n (num (take nameWidth s) + 1) (drop k (drop nameWidth s))) ≡ some y = got-seen
+    (readFields (readT l) n (num (take nameWidth s) + 1) (drop k (drop nameWidth s))) y j py in
     record {
       name = num (take nameWidth s);
       t = x;

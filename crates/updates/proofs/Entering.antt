@@ -1,6 +1,6 @@
 -- The builders of an updated context: what each leaves, from what the one below it leaves.
 -- Assumes nothing.
-use Prim.Native.Nat.{ℕ, suc, _+_, _-_, _*_, _<_, _≤_, min}
+use Prim.Native.Nat.{ℕ, _+_, _-_, _<_, _≤_, min}
 use native.Mathlib.Omega.{arith}
 use mathlib.Core.Path.{_≡_, refl, sym, ap, ap₂, subst, _∙_}
 use mathlib.Core.Bool.{Bool, true, false}
@@ -11,14 +11,14 @@ use lib.Seq.{take-all, length-take-le}
 use borrow.Rule.Slice.PartMut.{putMid}
 use Rattle.form.specs.Limits.{nameWidth, mostBytes, valueLevels}
 use Rattle.form.specs.Trees.{Val, v-context, Entries, no-entries, entry}
-use Rattle.form.specs.Form.{Bytes, bytes, numAt, countEntries, encV, encEntries, levelV, WfV}
+use Rattle.form.specs.Form.{Bytes, bytes, numAt, countEntries, encV, levelV, WfV}
 use Rattle.form.specs.Read.{readV}
 use Rattle.form.proofs.ExactValues.{read-encV}
 use Rattle.form.proofs.Values.{took-encV}
+use Rattle.form.proofs.Runs.{rest}
 use Rattle.order.specs.Size.{size-val, size-entries}
-use Rattle.order.proofs.LeastSize.{length-encV}
 use Rattle.types.specs.At.{Ok}
-use Rattle.types.proofs.Reading.{rest, is-ok, ok-got, got-seen}
+use Rattle.types.proofs.Reading.{is-ok, ok-got, got-seen}
 use Rattle.values.specs.At.{valueAt}
 use Rattle.values.proofs.Reading.{some-byte}
 use Rattle.retrieval.specs.Retrieve.{mapped}
@@ -26,21 +26,19 @@ use Rattle.retrieval.specs.Filling.{fill, puts, Filled}
 use Rattle.retrieval.proofs.Answering.{behind}
 use Rattle.retrieval.proofs.Contexts.{size-next}
 use Rattle.retrieval.proofs.Pieces.{length-fill, fill-then, then-length}
-use Rattle.retrieval.proofs.Theorems.{none-some, some-same}
-use Rattle.paths.specs.Paths.{value-of, entries-of, given, or-empty, entry-place}
-use Rattle.paths.specs.Places.{wholeAt, contextAt, placed, Finds}
-use Rattle.paths.specs.declared.Place.{Place}
+use Rattle.paths.specs.Paths.{value-of, entries-of, given, or-empty}
+use Rattle.paths.specs.Places.{wholeAt, contextAt}
 use Rattle.paths.specs.declared.Place.the-variants as place-is
 use Rattle.paths.proofs.Whole.{whole-is, is-whole, Ctx, ctx-ok}
-use Rattle.paths.proofs.Searching.{at-context, WholeContext, whole-context, whole-other, path-first, Hit, hit-whole, hit-inside, hit-start, Miss}
-use Rattle.paths.proofs.Splitting.{Around, well-entries, count-context, around-none, around-some, child-whole}
+use Rattle.paths.proofs.Searching.{at-context, whole-context, whole-other, path-first, Hit, hit-whole, hit-inside, hit-start, Miss}
+use Rattle.paths.proofs.Splitting.{Around, well-entries, count-context, around-none, around-some}
 use Rattle.updates.specs.Update.{insert}
-use Rattle.updates.specs.Writing.{updated, way, replaced, made, Wrote, grown, Small, begun, opened, framed, Updates, Replaces, Enters}
+use Rattle.updates.specs.Writing.{updated, way, replaced, made, Wrote, grown, begun, opened, framed, Updates, Replaces, Enters}
 use Rattle.updates.specs.declared.Made.{Made}
 use Rattle.updates.specs.declared.Made.the-variants as made-is
 use Rattle.retrieval.proofs.Pieces.{put-then}
 use Rattle.updates.proofs.Pieces.{length-opened}
-use Rattle.updates.proofs.Updating.{or-new, mapped-twice, mapped-same, updated-step, count-new, count-same, text-insert}
+use Rattle.updates.proofs.Updating.{or-new, updated-step, count-new, count-same, text-insert}
 
 -- ---- what was written
 pub wrote-as : (o p : Option (List ℕ)) (old new : List ℕ) (m k : ℕ) (r : Made) → o ≡ p → m ≤ k → Wrote o old new m r → Wrote p old new k r
@@ -81,19 +79,23 @@ pub whole-text : (l : ℕ) (s : List ℕ) (v : Val) → Bytes s → wholeAt l s 
 whole-text l s v b e = sym (take-all (length s) s (omega arith)) ∙ took-encV l s b v (length s) (whole-is l s v e)
 
 -- ---- `replace`
-pub replaces : (strict : Bool) (a : Option Val) (w : Val) (p : List ℕ) (b : Option Val) (x : Val) (old new : List ℕ) (most : ℕ) (r : Made) → a ≡ some w → b ≡ some x → Wrote (mapped encV (replaced strict p x w)) old new most r → Replaces strict a p b old new most r
+pub replaces : (strict : Bool) (a : Option Val) (w : Val) (p : List ℕ) (b : Option Val) (x : Val) (old new : List ℕ) (most : ℕ) (r : Made) → a ≡ some w → b ≡ some x
+    → Wrote (mapped encV (replaced strict p x w)) old new most r → Replaces strict a p b old new most r
 unfolding Replaces
 replaces strict a w p b x old new most r ea eb W = rw (ea, eb) W
 
-pub replaces-is : (strict : Bool) (a : Option Val) (w : Val) (p : List ℕ) (b : Option Val) (x : Val) (old new : List ℕ) (most : ℕ) (r : Made) → a ≡ some w → b ≡ some x → Replaces strict a p b old new most r → Wrote (mapped encV (replaced strict p x w)) old new most r
+pub replaces-is : (strict : Bool) (a : Option Val) (w : Val) (p : List ℕ) (b : Option Val) (x : Val) (old new : List ℕ) (most : ℕ) (r : Made) → a ≡ some w → b ≡ some x
+    → Replaces strict a p b old new most r → Wrote (mapped encV (replaced strict p x w)) old new most r
 unfolding Replaces
 replaces-is strict a w p b x old new most r ea eb W = rw (ea, eb) at W
 
-pub updates-is : (strict : Bool) (a : Option Entries) (es : Entries) (p : List ℕ) (b : Option Val) (x : Val) (old new : List ℕ) (most : ℕ) (r : Made) → a ≡ some es → b ≡ some x → Updates strict a p b old new most r → Wrote (mapped encV (mapped v-context (updated strict p x es))) old new most r
+pub updates-is : (strict : Bool) (a : Option Entries) (es : Entries) (p : List ℕ) (b : Option Val) (x : Val) (old new : List ℕ) (most : ℕ) (r : Made) → a ≡ some es → b ≡ some x
+    → Updates strict a p b old new most r → Wrote (mapped encV (mapped v-context (updated strict p x es))) old new most r
 unfolding Updates
 updates-is strict a es p b x old new most r ea eb W = rw (ea, eb) at W
 
-updates : (strict : Bool) (a : Option Entries) (es : Entries) (p : List ℕ) (b : Option Val) (x : Val) (old new : List ℕ) (most : ℕ) (r : Made) → a ≡ some es → b ≡ some x → Wrote (mapped encV (mapped v-context (updated strict p x es))) old new most r → Updates strict a p b old new most r
+updates : (strict : Bool) (a : Option Entries) (es : Entries) (p : List ℕ) (b : Option Val) (x : Val) (old new : List ℕ) (most : ℕ) (r : Made) → a ≡ some es → b ≡ some x
+    → Wrote (mapped encV (mapped v-context (updated strict p x es))) old new most r → Updates strict a p b old new most r
 unfolding Updates
 updates strict a es p b x old new most r ea eb W = rw (ea, eb) W
 
@@ -119,7 +121,8 @@ module _ (strict : Bool) (l : ℕ) (s p v old : List ℕ) (ok : Ok (wholeAt l s)
   X = ok-got (wholeAt valueLevels v) okv
 
   -- no name is left
-  pub replace-ends : Bytes v → (new : List ℕ) (most : ℕ) → length p ≡ 0 → length v ≤ most → new ≡ fill v old → Replaces strict (wholeAt l s) p (wholeAt valueLevels v) old new most (made-is.Bytes (length v))
+  pub replace-ends : Bytes v → (new : List ℕ) (most : ℕ) → length p ≡ 0 → length v ≤ most → new ≡ fill v old
+      → Replaces strict (wholeAt l s) p (wholeAt valueLevels v) old new most (made-is.Bytes (length v))
   replace-ends b new most e m o = go p e
     where
       go : (q : List ℕ) → length q ≡ 0 → Replaces strict (wholeAt l s) q (wholeAt valueLevels v) old new most (made-is.Bytes (length v))
@@ -130,7 +133,8 @@ module _ (strict : Bool) (l : ℕ) (s p v old : List ℕ) (ok : Ok (wholeAt l s)
 
   module _ (more : length p ≡ 0 → ⊥) where
     -- in the context
-    pub replace-inside : (new : List ℕ) (m most : ℕ) (r : Made) → getD s 0 0 ≡ 11 → m ≤ most → Updates strict (contextAt l s) p (wholeAt valueLevels v) old new m r → Replaces strict (wholeAt l s) p (wholeAt valueLevels v) old new most r
+    pub replace-inside : (new : List ℕ) (m most : ℕ) (r : Made) → getD s 0 0 ≡ 11 → m ≤ most → Updates strict (contextAt l s) p (wholeAt valueLevels v) old new m r
+        → Replaces strict (wholeAt l s) p (wholeAt valueLevels v) old new most r
     replace-inside new m most r c k U = go p more U
       where
         go : (q : List ℕ) → (length q ≡ 0 → ⊥) → Updates strict (contextAt l s) q (wholeAt valueLevels v) old new m r → Replaces strict (wholeAt l s) q (wholeAt valueLevels v) old new most r
@@ -156,7 +160,8 @@ module _ (strict : Bool) (l : ℕ) (s p v old : List ℕ) (ok : Ok (wholeAt l s)
             (wrote-as none (mapped encV (replaced strict (n ∷ q) (X .0) (W .0))) old old most most made-is.NotContext (ap (mapped encV) (sym g)) (omega arith) (wrote-none old old most refl))
 
     -- in a new context
-    pub replace-new : strict ≡ false → (getD s 0 0 ≡ 11 → ⊥) → (fresh new : List ℕ) (m most : ℕ) (r : Made) → fresh ≡ 0x0B ∷ 0 ∷ 0 ∷ [] → m ≤ most → Updates strict (contextAt 1 fresh) p (wholeAt valueLevels v) old new m r → Replaces strict (wholeAt l s) p (wholeAt valueLevels v) old new most r
+    pub replace-new : strict ≡ false → (getD s 0 0 ≡ 11 → ⊥) → (fresh new : List ℕ) (m most : ℕ) (r : Made) → fresh ≡ 0x0B ∷ 0 ∷ 0 ∷ [] → m ≤ most
+        → Updates strict (contextAt 1 fresh) p (wholeAt valueLevels v) old new m r → Replaces strict (wholeAt l s) p (wholeAt valueLevels v) old new most r
     replace-new e c fresh new m most r f k U = go p more U
       where
         go : (q : List ℕ) → (length q ≡ 0 → ⊥) → Updates strict (contextAt 1 fresh) q (wholeAt valueLevels v) old new m r → Replaces strict (wholeAt l s) q (wholeAt valueLevels v) old new most r
@@ -164,17 +169,20 @@ module _ (strict : Bool) (l : ℕ) (s p v old : List ℕ) (ok : Ok (wholeAt l s)
         go (n ∷ q) z u =
             let h = whole-other l s (W .0) (W .1) c in
             let g : replaced strict (n ∷ q) (X .0) (W .0) ≡ mapped v-context (updated strict (n ∷ q) (X .0) no-entries) =
-            ap (λ t. replaced t (n ∷ q) (X .0) (W .0)) e ∙ ap (λ o. mapped v-context (updated false (n ∷ q) (X .0) (or-empty o))) h ∙ sym (ap (λ t. mapped v-context (updated t (n ∷ q) (X .0) no-entries)) e) in
+            ap (λ t. replaced t (n ∷ q) (X .0) (W .0)) e ∙ ap (λ o. mapped v-context (updated false (n ∷ q) (X .0) (or-empty o))) h
+            ∙ sym (ap (λ t. mapped v-context (updated t (n ∷ q) (X .0) no-entries)) e) in
             replaces strict (wholeAt l s) (W .0) (n ∷ q) (wholeAt valueLevels v) (X .0) old new most r (W .1) (X .1)
             (wrote-as (mapped encV (mapped v-context (updated strict (n ∷ q) (X .0) no-entries))) (mapped encV (replaced strict (n ∷ q) (X .0) (W .0))) old new m most r (ap (mapped encV) (sym g)) k
             (updates-is strict (contextAt 1 fresh) no-entries (n ∷ q) (wholeAt valueLevels v) (X .0) old new m r (ap (contextAt 1) f ∙ empty-read) (X .1) u))
 
 -- ---- `enter`
-enters : (strict : Bool) (count : ℕ) (c : List ℕ) (at to : ℕ) (a : Option Val) (w : Val) (n : ℕ) (p : List ℕ) (b : Option Val) (x : Val) (old new : List ℕ) (most : ℕ) (r : Made) → a ≡ some w → b ≡ some x → Wrote (mapped (framed count c at to n) (replaced strict p x w)) old new most r → Enters strict count c at to a (n ∷ p) b old new most r
+enters : (strict : Bool) (count : ℕ) (c : List ℕ) (at to : ℕ) (a : Option Val) (w : Val) (n : ℕ) (p : List ℕ) (b : Option Val) (x : Val) (old new : List ℕ) (most : ℕ) (r : Made) → a ≡ some w
+    → b ≡ some x → Wrote (mapped (framed count c at to n) (replaced strict p x w)) old new most r → Enters strict count c at to a (n ∷ p) b old new most r
 unfolding Enters
 enters strict count c at to a w n p b x old new most r ea eb W = rw (ea, eb) W
 
-pub enters-is : (strict : Bool) (count : ℕ) (c : List ℕ) (at to : ℕ) (a : Option Val) (w : Val) (n : ℕ) (p : List ℕ) (b : Option Val) (x : Val) (old new : List ℕ) (most : ℕ) (r : Made) → a ≡ some w → b ≡ some x → Enters strict count c at to a (n ∷ p) b old new most r → Wrote (mapped (framed count c at to n) (replaced strict p x w)) old new most r
+pub enters-is : (strict : Bool) (count : ℕ) (c : List ℕ) (at to : ℕ) (a : Option Val) (w : Val) (n : ℕ) (p : List ℕ) (b : Option Val) (x : Val) (old new : List ℕ) (most : ℕ) (r : Made) → a ≡ some w
+    → b ≡ some x → Enters strict count c at to a (n ∷ p) b old new most r → Wrote (mapped (framed count c at to n) (replaced strict p x w)) old new most r
 unfolding Enters
 enters-is strict count c at to a w n p b x old new most r ea eb W = rw (ea, eb) at W
 
@@ -186,7 +194,8 @@ framed-text : (count : ℕ) (c : List ℕ) (at to name : ℕ) (w : Val) → (ope
 unfolding framed
 framed-text count c at to name w = append-assoc (opened count c at name) (encV w) (drop to c)
 
-module _ (strict : Bool) (count : ℕ) (c : List ℕ) (at to l : ℕ) (s p v old : List ℕ) (ok : Ok (wholeAt l s)) (okv : Ok (wholeAt valueLevels v)) (some-name : 0 < length p) (low : 3 ≤ at) (ordered : at ≤ to) (inside : to ≤ length c) where
+module _ (strict : Bool) (count : ℕ) (c : List ℕ) (at to l : ℕ) (s p v old : List ℕ) (ok : Ok (wholeAt l s)) (okv : Ok (wholeAt valueLevels v)) (some-name : 0 < length p) (low : 3 ≤ at)
+    (ordered : at ≤ to) (inside : to ≤ length c) where
   abbrev W2 : (w : Val) × (wholeAt l s ≡ some w)
   W2 = ok-got (wholeAt l s) ok
 
@@ -194,9 +203,11 @@ module _ (strict : Bool) (count : ℕ) (c : List ℕ) (at to l : ℕ) (s p v old
   X2 = ok-got (wholeAt valueLevels v) okv
 
   -- the name and what is before it stand in `mid`; the rest of it was lent, and came back at ys
-  module _ (name : ℕ) (named : name ≡ getD p 0 0) (mid : List ℕ) (em : mid ≡ fill (opened count c at name) old) (start : ℕ) (started : start ≡ at + nameWidth) (q : ℕ) (eq : q ≡ min start (length mid)) (ys : List ℕ) (m : ℕ) (r : Made) (R : Replaces strict (wholeAt l s) (take (length p - 1) (drop 1 p)) (wholeAt valueLevels v) (behind q mid) ys m r) where
+  module _ (name : ℕ) (named : name ≡ getD p 0 0) (mid : List ℕ) (em : mid ≡ fill (opened count c at name) old) (start : ℕ) (started : start ≡ at + nameWidth) (q : ℕ) (eq : q ≡ min start (length mid))
+      (ys : List ℕ) (m : ℕ) (r : Made) (R : Replaces strict (wholeAt l s) (take (length p - 1) (drop 1 p)) (wholeAt valueLevels v) (behind q mid) ys m r) where
     inner : Wrote (mapped encV (replaced strict (drop 1 p) (X2 .0) (W2 .0))) (behind q mid) ys m r
-    inner = replaces-is strict (wholeAt l s) (W2 .0) (drop 1 p) (wholeAt valueLevels v) (X2 .0) (behind q mid) ys m r (W2 .1) (X2 .1) (subst (λ z. Replaces strict (wholeAt l s) z (wholeAt valueLevels v) (behind q mid) ys m r) (path-rest p) R)
+    inner = replaces-is strict (wholeAt l s) (W2 .0) (drop 1 p) (wholeAt valueLevels v) (X2 .0) (behind q mid) ys m r (W2 .1) (X2 .1)
+        (subst (λ z. Replaces strict (wholeAt l s) z (wholeAt valueLevels v) (behind q mid) ys m r) (path-rest p) R)
 
     abbrev back : List ℕ
     back = putMid q (length mid - q) mid ys
@@ -204,17 +215,20 @@ module _ (strict : Bool) (count : ℕ) (c : List ℕ) (at to l : ℕ) (s p v old
     pub enter-kept : length back ≡ length old
     enter-kept = then-length q mid ys (wrote-kept (mapped encV (replaced strict (drop 1 p) (X2 .0) (W2 .0))) (behind q mid) ys m r inner) ∙ ap length em ∙ length-fill (opened count c at name) old
 
-    entered : (new : List ℕ) (most : ℕ) (z : Made) → Wrote (mapped (framed count c at to name) (replaced strict (drop 1 p) (X2 .0) (W2 .0))) old new most z → Enters strict count c at to (wholeAt l s) p (wholeAt valueLevels v) old new most z
+    entered : (new : List ℕ) (most : ℕ) (z : Made) → Wrote (mapped (framed count c at to name) (replaced strict (drop 1 p) (X2 .0) (W2 .0))) old new most z
+        → Enters strict count c at to (wholeAt l s) p (wholeAt valueLevels v) old new most z
     entered new most z T = go p some-name (subst (λ k. Wrote (mapped (framed count c at to k) (replaced strict (drop 1 p) (X2 .0) (W2 .0))) old new most z) named T)
       where
-        go : (u : List ℕ) → 0 < length u → Wrote (mapped (framed count c at to (getD u 0 0)) (replaced strict (drop 1 u) (X2 .0) (W2 .0))) old new most z → Enters strict count c at to (wholeAt l s) u (wholeAt valueLevels v) old new most z
+        go : (u : List ℕ) → 0 < length u → Wrote (mapped (framed count c at to (getD u 0 0)) (replaced strict (drop 1 u) (X2 .0) (W2 .0))) old new most z
+            → Enters strict count c at to (wholeAt l s) u (wholeAt valueLevels v) old new most z
         go [] h t = absurd (omega arith)
         go (n ∷ u) h t = enters strict count c at to (wholeAt l s) (W2 .0) n u (wholeAt valueLevels v) (X2 .0) old new most z (W2 .1) (X2 .1) t
 
     pub enter-not : r ≡ made-is.NotContext → (most : ℕ) → Enters strict count c at to (wholeAt l s) p (wholeAt valueLevels v) old back most made-is.NotContext
     enter-not e most =
         let g = wrote-not (replaced strict (drop 1 p) (X2 .0) (W2 .0)) (behind q mid) ys m r inner e in
-        entered back most made-is.NotContext (wrote-as none (mapped (framed count c at to name) (replaced strict (drop 1 p) (X2 .0) (W2 .0))) old back most most made-is.NotContext (ap (mapped (framed count c at to name)) (sym (g .0))) (omega arith) (wrote-none old back most enter-kept))
+        entered back most made-is.NotContext (wrote-as none (mapped (framed count c at to name) (replaced strict (drop 1 p) (X2 .0) (W2 .0))) old back most most made-is.NotContext
+        (ap (mapped (framed count c at to name)) (sym (g .0))) (omega arith) (wrote-none old back most enter-kept))
 
     module _ (w : ℕ) (e : r ≡ made-is.Bytes w) where
       S : Some (replaced strict (drop 1 p) (X2 .0) (W2 .0)) (behind q mid) ys w
@@ -226,20 +240,37 @@ module _ (strict : Bool) (count : ℕ) (c : List ℕ) (at to l : ℕ) (s p v old
       back-is : back ≡ fill (opened count c at name ++ encV (S .w)) old
       back-is = fill-then (opened count c at name) (encV (S .w)) old mid ys start q em (length-opened count c at name low (omega arith) ∙ sym started) eq (S .out)
 
-      pub enter-done : (new : List ℕ) (most n : ℕ) → n ≡ start + w + length (take (length c - to) (drop to c)) → n ≤ most → new ≡ puts (start + w) (take (length c - to) (drop to c)) back → Enters strict count c at to (wholeAt l s) p (wholeAt valueLevels v) old new most (made-is.Bytes n)
+      pub enter-done : (new : List ℕ) (most n : ℕ) → n ≡ start + w + length (take (length c - to) (drop to c)) → n ≤ most → new ≡ puts (start + w) (take (length c - to) (drop to c)) back
+          → Enters strict count c at to (wholeAt l s) p (wholeAt valueLevels v) old new most (made-is.Bytes n)
       enter-done new most n en k o =
-          let long : length (opened count c at name ++ encV (S .w)) ≡ start + w = omega (arith, length-append (opened count c at name) (encV (S .w)), length-opened count c at name low (omega arith), S .long, started) in
+          let long : length (opened count c at name ++ encV (S .w)) ≡ start + w = omega (
+            arith,
+            length-append (opened count c at name) (encV (S .w)),
+            length-opened count c at name low
+                (omega arith),
+            S .long,
+            started,
+          ) in
           let z : new ≡ fill (framed count c at to name (S .w)) old =
           put-then (opened count c at name ++ encV (S .w)) (take (length c - to) (drop to c)) old back new (start + w) back-is long o
           ∙ ap (λ (t : List ℕ). fill ((opened count c at name ++ encV (S .w)) ++ t) old) (rest c to)
           ∙ ap (λ (t : List ℕ). fill t old) (framed-text count c at to name (S .w)) in
-          let d : n ≡ length (framed count c at to name (S .w)) = omega (arith, ap length (framed-text count c at to name (S .w)), length-append (opened count c at name ++ encV (S .w)) (drop to c), long, ap length (rest c to)) in
+          let d : n ≡ length (framed count c at to name (S .w)) = omega (
+            arith,
+            ap length (framed-text count c at to name (S .w)),
+            length-append (opened count c at name ++ encV (S .w))
+                (drop to c),
+            long,
+            ap length (rest c to),
+          ) in
           entered new most (made-is.Bytes n)
-          (wrote-as (some (framed count c at to name (S .w))) (mapped (framed count c at to name) (replaced strict (drop 1 p) (X2 .0) (W2 .0))) old new most most (made-is.Bytes n) (ap (mapped (framed count c at to name)) (sym (S .is))) (omega arith)
+          (wrote-as (some (framed count c at to name (S .w))) (mapped (framed count c at to name) (replaced strict (drop 1 p) (X2 .0) (W2 .0))) old new most most (made-is.Bytes n)
+          (ap (mapped (framed count c at to name)) (sym (S .is))) (omega arith)
           (wrote-some (framed count c at to name (S .w)) old new most n d k z))
 
 -- ---- `update`
-framed-insert : (l n : ℕ) (c : List ℕ) (es : Entries) (at to count : ℕ) (w : Val) → Bytes c → Ctx l c es → Around n c es at to → count ≡ countEntries (insert n w es) → framed count c at to n w ≡ encV (v-context (insert n w es))
+framed-insert : (l n : ℕ) (c : List ℕ) (es : Entries) (at to count : ℕ) (w : Val) → Bytes c → Ctx l c es → Around n c es at to → count ≡ countEntries (insert n w es)
+    → framed count c at to n w ≡ encV (v-context (insert n w es))
 unfolding framed opened begun
 framed-insert l n c es at to count w b C A e =
     append-assoc ((0x0B ∷ bytes 2 count) ++ take (at - 3) (drop 3 c)) (bytes nameWidth n) (encV w ++ drop to c)
@@ -274,24 +305,29 @@ module _ {l : ℕ} {c : List ℕ} {n at to : ℕ} (H : Hit l c n at to) (bs : By
   part-long : length (take (to - (at + nameWidth)) (drop (at + nameWidth) c)) ≡ to - (at + nameWidth)
   part-long = let z : to - (at + nameWidth) ≤ length (drop (at + nameWidth) c) = simp length-drop (omega (arith, hit-inside H bs)) in length-take-le (to - (at + nameWidth)) (drop (at + nameWidth) c) z
 
-  pub hit-bounds : (count : ℕ) → count < 65536 → length c ≤ mostBytes → (3 ≤ at) × (at ≤ to) × (to ≤ length c) × (count < 65536) × (length (take (to - (at + nameWidth)) (drop (at + nameWidth) c)) ≤ mostBytes)
+  pub hit-bounds : (count : ℕ) → count < 65536 → length c ≤ mostBytes → (3 ≤ at) × (at ≤ to) × (to ≤ length c) × (count < 65536) ×
+      (length (take (to - (at + nameWidth)) (drop (at + nameWidth) c)) ≤ mostBytes)
   hit-bounds count h k = (omega (arith, H .start), omega (arith, hit-start H bs), hit-inside H bs, h, omega (arith, part-long, hit-inside H bs))
 
   pub hit-grown : (names bytes : ℕ) → length c + at + length (take (to - (at + nameWidth)) (drop (at + nameWidth) c)) + grown 0 names bytes - (to + 3) ≤ grown (length c) names bytes
   hit-grown names bytes = omega (arith, part-long, hit-start H bs, hit-inside H bs)
 
-module _ (strict : Bool) (l : ℕ) (c p v old new : List ℕ) (n at to count k : ℕ) (s : List ℕ) (bs : Bytes c) (okv : Ok (wholeAt valueLevels v)) (some-name : 0 < length p) (named : n ≡ getD p 0 0) (m most : ℕ) (r : Made) where
+module _ (strict : Bool) (l : ℕ) (c p v old new : List ℕ) (n at to count k : ℕ) (s : List ℕ) (bs : Bytes c) (okv : Ok (wholeAt valueLevels v)) (some-name : 0 < length p) (named : n ≡ getD p 0 0)
+    (m most : ℕ) (r : Made) where
   abbrev X3 : (x : Val) × (wholeAt valueLevels v ≡ some x)
   X3 = ok-got (wholeAt valueLevels v) okv
 
-  updated-by : (es : Entries) (C : Ctx l c es) (o : Option Val) → value-of n es ≡ o → wholeAt k s ≡ some (or-new o) → Around n c es at to → ((w : Val) → count ≡ countEntries (insert n w es)) → Enters strict count c at to (wholeAt k s) p (wholeAt valueLevels v) old new m r → m ≤ most → Updates strict (contextAt l c) p (wholeAt valueLevels v) old new most r
-  updated-by es C o eo ew A ec E h = subst (λ z. Updates strict (contextAt l c) z (wholeAt valueLevels v) old new most r) (sym first) (updates strict (contextAt l c) es (n ∷ drop 1 p) (wholeAt valueLevels v) (X3 .0) old new most r (C .read) (X3 .1) W3)
+  updated-by : (es : Entries) (C : Ctx l c es) (o : Option Val) → value-of n es ≡ o → wholeAt k s ≡ some (or-new o) → Around n c es at to → ((w : Val) → count ≡ countEntries (insert n w es))
+      → Enters strict count c at to (wholeAt k s) p (wholeAt valueLevels v) old new m r → m ≤ most → Updates strict (contextAt l c) p (wholeAt valueLevels v) old new most r
+  updated-by es C o eo ew A ec E h = subst (λ z. Updates strict (contextAt l c) z (wholeAt valueLevels v) old new most r) (sym first)
+      (updates strict (contextAt l c) es (n ∷ drop 1 p) (wholeAt valueLevels v) (X3 .0) old new most r (C .read) (X3 .1) W3)
     where
       first : p ≡ n ∷ drop 1 p
       first = path-first p (λ z. omega arith) ∙ ap (λ (z : ℕ). z ∷ drop 1 p) (sym named)
 
       inner : Wrote (mapped (framed count c at to n) (replaced strict (drop 1 p) (X3 .0) (or-new o))) old new m r
-      inner = enters-is strict count c at to (wholeAt k s) (or-new o) n (drop 1 p) (wholeAt valueLevels v) (X3 .0) old new m r ew (X3 .1) (subst (λ z. Enters strict count c at to (wholeAt k s) z (wholeAt valueLevels v) old new m r) first E)
+      inner = enters-is strict count c at to (wholeAt k s) (or-new o) n (drop 1 p) (wholeAt valueLevels v) (X3 .0) old new m r ew (X3 .1)
+          (subst (λ z. Enters strict count c at to (wholeAt k s) z (wholeAt valueLevels v) old new m r) first E)
 
       same-text : (q : Option Val) → mapped (framed count c at to n) q ≡ mapped encV (mapped v-context (mapped (λ w. insert n w es) q))
       same-text none = refl
@@ -300,20 +336,25 @@ module _ (strict : Bool) (l : ℕ) (c p v old new : List ℕ) (n at to count k :
       step : mapped (framed count c at to n) (replaced strict (drop 1 p) (X3 .0) (or-new o)) ≡ mapped encV (mapped v-context (updated strict (n ∷ drop 1 p) (X3 .0) es))
       step =
           same-text (replaced strict (drop 1 p) (X3 .0) (or-new o))
-          ∙ ap (λ q. mapped encV (mapped v-context q)) (ap (λ z. mapped (λ w. insert n w es) (replaced strict (drop 1 p) (X3 .0) (or-new z))) (sym eo) ∙ sym (updated-step strict n (drop 1 p) (X3 .0) es))
+          ∙ ap (λ q. mapped encV (mapped v-context q)) (ap (λ z. mapped (λ w. insert n w es) (replaced strict (drop 1 p) (X3 .0) (or-new z))) (sym eo)
+          ∙ sym (updated-step strict n (drop 1 p) (X3 .0) es))
 
       W3 : Wrote (mapped encV (mapped v-context (updated strict (n ∷ drop 1 p) (X3 .0) es))) old new most r
-      W3 = wrote-as (mapped (framed count c at to n) (replaced strict (drop 1 p) (X3 .0) (or-new o))) (mapped encV (mapped v-context (updated strict (n ∷ drop 1 p) (X3 .0) es))) old new m most r step h inner
+      W3 = wrote-as (mapped (framed count c at to n) (replaced strict (drop 1 p) (X3 .0) (or-new o)))
+          (mapped encV (mapped v-context (updated strict (n ∷ drop 1 p) (X3 .0) es))) old new m most r step h inner
 
   -- the name is there
-  pub updated-at : (H : Hit l c n at to) → k ≡ l - 1 → s ≡ take (to - (at + nameWidth)) (drop (at + nameWidth) c) → count ≡ numAt 2 1 c → Enters strict count c at to (wholeAt k s) p (wholeAt valueLevels v) old new m r → m ≤ most → Updates strict (contextAt l c) p (wholeAt valueLevels v) old new most r
+  pub updated-at : (H : Hit l c n at to) → k ≡ l - 1 → s ≡ take (to - (at + nameWidth)) (drop (at + nameWidth) c) → count ≡ numAt 2 1 c
+      → Enters strict count c at to (wholeAt k s) p (wholeAt valueLevels v) old new m r → m ≤ most → Updates strict (contextAt l c) p (wholeAt valueLevels v) old new most r
   updated-at H ek es ec E h =
       updated-by (H .es) (H .ctx) (some (H .x)) (H .value) (ap₂ wholeAt ek es ∙ hit-whole H bs)
-      (subst (λ (z : ℕ). Around n c (H .es) at z) (sym (H .end)) (subst (λ (z : ℕ). Around n c (H .es) z (z + nameWidth + size-val (H .x))) (sym (H .start)) (around-some l n c (H .es) (H .x) bs (H .ctx) (H .value))))
+      (subst (λ (z : ℕ). Around n c (H .es) at z) (sym (H .end)) (subst (λ (z : ℕ). Around n c (H .es) z (z + nameWidth + size-val (H .x))) (sym (H .start))
+      (around-some l n c (H .es) (H .x) bs (H .ctx) (H .value))))
       (λ w. ec ∙ count-context l c (H .es) bs (H .ctx) ∙ sym (count-same n 0 (H .es) (well-entries l c (H .es) bs (H .ctx)) w (H .x) (H .value))) E h
 
   -- it is absent
-  pub updated-new : (M : Miss l c n at) → k ≡ 1 → to ≡ at → s ≡ 0x0B ∷ 0 ∷ 0 ∷ [] → count ≡ numAt 2 1 c + 1 → Enters strict count c at to (wholeAt k s) p (wholeAt valueLevels v) old new m r → m ≤ most → Updates strict (contextAt l c) p (wholeAt valueLevels v) old new most r
+  pub updated-new : (M : Miss l c n at) → k ≡ 1 → to ≡ at → s ≡ 0x0B ∷ 0 ∷ 0 ∷ [] → count ≡ numAt 2 1 c + 1 → Enters strict count c at to (wholeAt k s) p (wholeAt valueLevels v) old new m r → m ≤ most
+      → Updates strict (contextAt l c) p (wholeAt valueLevels v) old new most r
   updated-new M ek et es ec E h =
       updated-by (M .es) (M .ctx) none (M .value) (ap₂ wholeAt ek es ∙ empty-whole)
       (subst (λ (z : ℕ). Around n c (M .es) at z) (sym et) (subst (λ (z : ℕ). Around n c (M .es) z z) (sym (M .start)) (around-none l n c (M .es) bs (M .ctx) (M .value))))

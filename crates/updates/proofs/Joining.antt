@@ -14,8 +14,8 @@ use Rattle.form.specs.Trees.{Val, v-context, Entries, no-entries, entry}
 use Rattle.form.specs.Form.{bytes, numAt, Bytes, countEntries, encV, encEntries}
 use Rattle.form.proofs.Exact.{bytes-drop}
 use Rattle.form.proofs.Numbers.{length-bytes}
+use Rattle.form.proofs.Runs.{rest}
 use Rattle.order.specs.Size.{size-val}
-use Rattle.types.proofs.Reading.{rest}
 use Rattle.types.proofs.Entries.{next-is}
 use Rattle.types.specs.At.{Ok}
 use Rattle.values.specs.At.{valueAt, entriesAt, sizeAtV}
@@ -122,7 +122,8 @@ written-starts head old mid to h e =
       state = e ∙ sym (fill-over head head old (omega arith)) ∙ ap₂ fill (sym (append-nil head)) (sym e);
     }
 
-written-more : {head mid out done : List ℕ} {to k : ℕ} → Written head mid out done to k → (b new : List ℕ) (t : ℕ) → 0 < length b → new ≡ puts to b out → t ≡ to + length b → Written head mid new (done ++ b) t (k + 1)
+written-more : {head mid out done : List ℕ} {to k : ℕ} → Written head mid out done to k → (b new : List ℕ) (t : ℕ) → 0 < length b → new ≡ puts to b out → t ≡ to + length b
+    → Written head mid new (done ++ b) t (k + 1)
 written-more {head} {mid} {out} {done} {to} {k} W b new t h en et =
     record {
       long = omega (arith, length-append done b, W .long);
@@ -142,7 +143,8 @@ text-whole : (ws : Entries) → contextText 0 [] ws ≡ encV (v-context ws)
 unfolding encV
 text-whole ws = let e : 0 + countEntries ws ≡ countEntries ws = omega arith in ap (λ (c : ℕ). 11 ∷ (bytes 2 c ++ encEntries ws)) e
 
-merges : (all : Bool) (l : ℕ) (c o : List ℕ) (es gs : Entries) (old new : List ℕ) (r : ℕ) → contextAt l c ≡ some es → contextAt l o ≡ some gs → r ≡ length (encV (v-context (merged all es gs))) → new ≡ fill (encV (v-context (merged all es gs))) old → Merges all (contextAt l c) (contextAt l o) old new r
+merges : (all : Bool) (l : ℕ) (c o : List ℕ) (es gs : Entries) (old new : List ℕ) (r : ℕ) → contextAt l c ≡ some es → contextAt l o ≡ some gs → r ≡ length (encV (v-context (merged all es gs)))
+    → new ≡ fill (encV (v-context (merged all es gs))) old → Merges all (contextAt l c) (contextAt l o) old new r
 unfolding Merges
 merges all l c o es gs old new r ec eo er en = rw (ec, eo) (er, en)
 
@@ -172,7 +174,8 @@ pub record Joining (all : Bool) (l : ℕ) (c o : List ℕ) (n m : ℕ) (mid out 
 pub context-three : (l : ℕ) (s : List ℕ) → Ok (contextAt l s) → 3 ≤ length s
 context-three l s h = ctx-ok l s h .1 .three
 
-pub joining-starts : (all : Bool) (l : ℕ) (c o : List ℕ) (n m : ℕ) (old mid : List ℕ) → Ok (contextAt l c) → Ok (contextAt l o) → (length c ≤ mostBytes) × (length o ≤ mostBytes) → n ≡ numAt 2 1 c → m ≡ numAt 2 1 o → mid ≡ fill (take 3 c) old → Joining all l c o n m mid mid 3 0 3 0 3 0
+pub joining-starts : (all : Bool) (l : ℕ) (c o : List ℕ) (n m : ℕ) (old mid : List ℕ) → Ok (contextAt l c) → Ok (contextAt l o) → (length c ≤ mostBytes) × (length o ≤ mostBytes) → n ≡ numAt 2 1 c
+    → m ≡ numAt 2 1 o → mid ≡ fill (take 3 c) old → Joining all l c o n m mid mid 3 0 3 0 3 0
 joining-starts all l c o n m old mid hc ho short en em e = go (ctx-ok l c hc) (ctx-ok l o ho)
   where
     go : (es : Entries) × Ctx l c es → (gs : Entries) × Ctx l o gs → Joining all l c o n m mid mid 3 0 3 0 3 0
@@ -302,13 +305,15 @@ module _ {all : Bool} {l : ℕ} {c o : List ℕ} {n m : ℕ} {mid out : List ℕ
             (ap₂ (merged all) (E .is ∙ ap (λ (r : ℕ). entry r (E .v) (E .more)) same) (G .is) ∙ merged-both all (G .name) (E .v) (G .v) (E .more) (G .more) (G .from))
 
       -- ---- both at their end
-      pub joining-done : x ≡ nameEnd → (p q : ℕ) → p ≡ k % 256 → q ≡ k / 256 → (old new : List ℕ) → mid ≡ fill (take 3 c) old → new ≡ fill (11 ∷ p ∷ q ∷ []) out → Merges all (contextAt l c) (contextAt l o) old new to
+      pub joining-done : x ≡ nameEnd → (p q : ℕ) → p ≡ k % 256 → q ≡ k / 256 → (old new : List ℕ) → mid ≡ fill (take 3 c) old → new ≡ fill (11 ∷ p ∷ q ∷ []) out
+          → Merges all (contextAt l c) (contextAt l o) old new to
       joining-done d p q ep eq old new em en =
           let B = Q .both in
           let y-end : y ≡ nameEnd = omega arith in
           let head : length (take 3 c) ≡ 3 = length-take-le 3 c (B .ctx-c .three) in
           let none : merged all (Q .es) (Q .gs) ≡ no-entries = ap₂ (merged all) (left-ended (Q .left-c) X d) (left-ended (Q .left-o) Y y-end) ∙ merged-none all no-entries in
-          let text : encV (v-context (merged all (B .whole-c) (B .whole-o))) ≡ (11 ∷ p ∷ q ∷ []) ++ Q .done = sym (Q .goes) ∙ ap (contextText k (Q .done)) none ∙ ended k p q (Q .done) joining-few ep eq in
+          let text : encV (v-context (merged all (B .whole-c) (B .whole-o))) ≡ (11 ∷ p ∷ q ∷ []) ++ Q .done = sym (Q .goes) ∙ ap (contextText k (Q .done)) none
+          ∙ ended k p q (Q .done) joining-few ep eq in
           merges all l c o (B .whole-c) (B .whole-o) old new to (B .ctx-c .read) (B .ctx-o .read)
           (omega (arith, ap length text, Q .wrote .long))
           (late-head (take 3 c) (11 ∷ p ∷ q ∷ []) (Q .done) old mid out new head em (Q .wrote .state) en ∙ ap (λ (r : List ℕ). fill r old) (sym text))

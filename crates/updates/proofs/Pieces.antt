@@ -1,15 +1,15 @@
 -- The front of a context, one piece behind the other.
 -- Assumes nothing.
-use Prim.Native.Nat.{ℕ, _+_, _-_, _/_, _%_, _<_, _≤_, min}
+use Prim.Native.Nat.{ℕ, _+_, _-_, _/_, _%_, _<_, _≤_}
 use native.Mathlib.Omega.{arith}
 use mathlib.Core.Path.{_≡_, refl, sym, ap, ap₂, _∙_}
-use mathlib.Core.List.{List, [], _∷_, _++_, append-nil}
-use lib.ListN.{length, take, drop, length-append, length-drop, drop-of-length-le}
+use mathlib.Core.List.{List, [], _∷_, _++_}
+use lib.ListN.{length, take, drop, length-append, length-drop}
 use lib.Seq.{length-take-le}
 use Rattle.form.specs.Limits.{nameWidth}
 use Rattle.form.specs.Form.{bytes}
 use Rattle.form.proofs.Numbers.{length-bytes}
-use Rattle.bounds.proofs.Laws.{rest}
+use Rattle.form.proofs.Runs.{rest}
 use Rattle.retrieval.specs.Filling.{fill, puts}
 use Rattle.retrieval.proofs.Pieces.{put-then}
 use Rattle.updates.specs.Writing.{begun, opened, closed}
@@ -20,7 +20,8 @@ unfolding bytes
 two-bytes n p q h ep eq = let f : n / 256 % 256 ≡ q = omega arith in ap₂ (λ (x y : ℕ). x ∷ y ∷ []) (sym ep) f
 
 -- ---- the front of a context
-pub begun-is : (c old mid new : List ℕ) (at count p q : ℕ) → count < 65536 → p ≡ count % 256 → q ≡ count / 256 → mid ≡ fill (0x0B ∷ p ∷ q ∷ []) old → new ≡ puts 3 (take (at - 3) (drop 3 c)) mid → new ≡ fill (begun count c at) old
+pub begun-is : (c old mid new : List ℕ) (at count p q : ℕ) → count < 65536 → p ≡ count % 256 → q ≡ count / 256 → mid ≡ fill (0x0B ∷ p ∷ q ∷ []) old → new ≡ puts 3 (take (at - 3) (drop 3 c)) mid
+    → new ≡ fill (begun count c at) old
 unfolding begun
 begun-is c old mid new at count p q h ep eq em en =
     put-then (0x0B ∷ p ∷ q ∷ []) (take (at - 3) (drop 3 c)) old mid new 3 em refl en
@@ -30,7 +31,8 @@ pub length-begun : (count : ℕ) (c : List ℕ) (at : ℕ) → 3 ≤ at → at �
 unfolding begun bytes
 length-begun count c at l h = let z : length (take (at - 3) (drop 3 c)) ≡ at - 3 = length-take-le (at - 3) (drop 3 c) (simp length-drop (omega arith)) in omega (arith, z)
 
-pub opened-is : (c old mid new : List ℕ) (at count name p q : ℕ) → 3 ≤ at → at ≤ length c → name < 65536 → p ≡ name % 256 → q ≡ name / 256 → mid ≡ fill (begun count c at) old → new ≡ puts at (p ∷ q ∷ []) mid → new ≡ fill (opened count c at name) old
+pub opened-is : (c old mid new : List ℕ) (at count name p q : ℕ) → 3 ≤ at → at ≤ length c → name < 65536 → p ≡ name % 256 → q ≡ name / 256 → mid ≡ fill (begun count c at) old
+    → new ≡ puts at (p ∷ q ∷ []) mid → new ≡ fill (opened count c at name) old
 unfolding opened
 opened-is c old mid new at count name p q l h b ep eq em en =
     put-then (begun count c at) (p ∷ q ∷ []) old mid new at em (length-begun count c at l h) en
@@ -40,7 +42,8 @@ pub length-opened : (count : ℕ) (c : List ℕ) (at name : ℕ) → 3 ≤ at �
 unfolding opened
 length-opened count c at name l h = omega (arith, length-append (begun count c at) (bytes nameWidth name), length-begun count c at l h, length-bytes nameWidth name)
 
-pub closed-is : (c old mid new : List ℕ) (at to count r : ℕ) → 3 ≤ at → at ≤ length c → mid ≡ fill (begun count c at) old → r ≡ at + length (take (length c - to) (drop to c)) → new ≡ puts at (take (length c - to) (drop to c)) mid → (r ≡ length (closed count c at to)) × (new ≡ fill (closed count c at to) old)
+pub closed-is : (c old mid new : List ℕ) (at to count r : ℕ) → 3 ≤ at → at ≤ length c → mid ≡ fill (begun count c at) old → r ≡ at + length (take (length c - to) (drop to c))
+    → new ≡ puts at (take (length c - to) (drop to c)) mid → (r ≡ length (closed count c at to)) × (new ≡ fill (closed count c at to) old)
 unfolding closed
 closed-is c old mid new at to count r l h em er en = (
   omega (arith, er, ap length (rest c to), length-append (begun count c at) (drop to c), length-begun count c at l h),

@@ -9,7 +9,8 @@ use native.Mathlib.Omega.{arith}
 use lib.ListN.{length, getD, drop}
 use lib.Dec.{eqb, leb}
 use borrow.Author.Tests.{ne-eqb, le-leb, lt-leb}
-use Rattle.form.specs.Trees.{Simple, any, Ty, leaf, built, list, range, context, function, Tys, no-params, param, code, code-temporal, simple, Temporal, on-date, at-time, at-dateTime, for-daysAndTime, for-yearsAndMonths, Leaf, Params, Val, v-leaf, v-range, v-list, v-context, v-function, v-built-in, v-type, v-irrelevant, isDataLeaf, decode-temporal}
+use Rattle.form.specs.Trees.{Simple, any, Ty, leaf, built, list, range, context, function, Tys, no-params, param, code, simple, Leaf, Params, Val, v-leaf, v-range, v-list, v-context, v-function}
+use Rattle.form.specs.Trees.{v-built-in, v-type, v-irrelevant, isDataLeaf, decode-temporal}
 use Rattle.form.specs.Limits.{nameWidth}
 use Rattle.form.specs.Form.{countTys}
 use Rattle.form.specs.Outcome.{pick}
@@ -18,15 +19,16 @@ use Rattle.form.proofs.ExactValues.{code-decode}
 use Rattle.order.specs.Order.{up, fixed, flat}
 use Rattle.order.specs.Types.{cmp, cmps}
 use Rattle.order.specs.Size.{size}
-use Rattle.order.specs.Values.{temporal-type, leaf-type, types-of, conforms}
-use Rattle.order.proofs.Simple.{fixed-laws}
+use Rattle.order.specs.Values.{leaf-type, types-of, conforms}
+use Rattle.order.proofs.Simple.{fixed-laws, temporal-code}
 use Rattle.order.proofs.Bools.{and-false}
 use Rattle.types.specs.At.{Sig, sig, funOf}
 use Rattle.types.proofs.Reading.{cmd}
-use Rattle.types.proofs.Conforming.{le-null, le-any, le-other, le-leaves, same-simple, count-sig}
+use Rattle.types.proofs.Conforming.{le-null, le-other, le-leaves, same-simple, count-sig}
 use Rattle.values.specs.At.{valueAt, Definition, definition, definitionAt}
 use Rattle.values.specs.Held.{definitionConforms}
-use Rattle.values.proofs.Reading.{IsVal, is-null, is-boolean, is-number, is-string, is-temporal, is-range, is-list, is-context, is-definition, is-built-in, is-type, is-irrelevant, is-val, paramsAt, next-parameter, no-parameter, definition-parts}
+use Rattle.values.proofs.Reading.{IsVal, is-null, is-boolean, is-number, is-string, is-temporal, is-range, is-list, is-context, is-definition, is-built-in, is-type, is-irrelevant, is-val}
+use Rattle.values.proofs.Reading.{paramsAt, next-parameter, no-parameter, definition-parts}
 
 -- the command of the types of a value's kind; Any's for a value that has none
 abbrev pub kind : Val → ℕ
@@ -39,13 +41,6 @@ kind (v-built-in x) = 0x20
 kind (v-type t) = 0x20
 kind v-irrelevant = 0x20
 
-code-type : (k : Temporal) → code (temporal-type k) ≡ 4 + code-temporal k
-code-type on-date = refl
-code-type at-time = refl
-code-type at-dateTime = refl
-code-type for-daysAndTime = refl
-code-type for-yearsAndMonths = refl
-
 -- ---- by the command of a value that was read
 -- the same, by the value's own command
 unfoldable pub kindAt : ℕ → ℕ
@@ -57,7 +52,15 @@ kind-plain c h k = rw (ne-eqb c 0 (λ e. omega arith), le-leb c 8 k)
 
 pub kind-other : (c : ℕ) → 13 ≤ c → kindAt c ≡ 32
 unfolding kindAt
-kind-other c h = rw (ne-eqb c 0 (λ e. omega arith), lt-leb c 8 (omega arith), ne-eqb c 9 (λ e. omega arith), ne-eqb c 10 (λ e. omega arith), ne-eqb c 11 (λ e. omega arith), ne-eqb c 12 (λ e. omega arith))
+kind-other c h = rw (
+  ne-eqb c 0 (λ e. omega arith),
+  lt-leb c 8 (omega arith),
+  ne-eqb c 9 (λ e. omega arith),
+  ne-eqb c 10 (λ e. omega arith),
+  ne-eqb c 11 (λ e. omega arith),
+  ne-eqb c 12
+      (λ e. omega arith),
+)
 
 kind-of : (l : ℕ) (s : List ℕ) (x : Val) → IsVal l s x → kind x ≡ kindAt (getD s 0 0)
 unfolding kindAt
@@ -65,7 +68,7 @@ kind-of l s x (is-null y c) = ap kindAt (sym c)
 kind-of l s x (is-boolean y c) = ap kindAt (sym c)
 kind-of l s x (is-number y c) = ap kindAt (sym c)
 kind-of l s x (is-string y c) = ap kindAt (sym c)
-kind-of l s x (is-temporal y h i) = omega (arith, code-type (decode-temporal (getD s 0 0 - 4)), code-decode (getD s 0 0 - 4) (omega arith), kind-plain (getD s 0 0) (omega arith) (omega arith))
+kind-of l s x (is-temporal y h i) = omega (arith, temporal-code (decode-temporal (getD s 0 0 - 4)), code-decode (getD s 0 0 - 4) (omega arith), kind-plain (getD s 0 0) (omega arith) (omega arith))
 kind-of l s x (is-range i j a b c k p) = ap kindAt (sym c)
 kind-of l s x (is-list vs c k p) = ap kindAt (sym c)
 kind-of l s x (is-context es c k p) = ap kindAt (sym c)

@@ -1,6 +1,6 @@
 -- The public calls: what the readers' answers say, and a whole value for the laws of a call over two arguments.
 -- Assumes nothing.
-use Prim.Native.Nat.{ℕ, _≤_}
+use Prim.Native.Nat.{ℕ}
 use mathlib.Core.Path.{_≡_, sym, ap, _∙_}
 use mathlib.Core.Option.{some}
 use mathlib.Core.List.{List}
@@ -39,7 +39,12 @@ pub value-accepted : (s : List ℕ) → Bytes s → (c : Checked) (n : ℕ) → 
 unfolding checkValue valueAt
 value-accepted s bs c n p q =
     level-told levelV (readValue s) n (sym q ∙ ap checked p) (λ v r d.
-    record { v = v; whole = r; stands = got-seen (readV typeLevels s) v (length s) (read-upV valueLevels typeLevels s bs v (length s) (omega arith) (whole-got valueRefusals (readV valueLevels) s v r)) })
+    record {
+      v = v;
+      whole = r;
+      stands = got-seen (readV typeLevels s) v (length s) (read-upV valueLevels typeLevels s bs v (length s) (omega arith)
+          (whole-got valueRefusals (readV valueLevels) s v r));
+    })
 
 -- ---- a whole value: what the reader accepts stands at the front and takes all bytes
 pub whole-value : Whole size-val (valueAt valueLevels) readValue

@@ -11,9 +11,10 @@ use lib.ListN.{length, getD, take, drop, length-drop}
 use lib.Seq.{drop-drop}
 use Rattle.form.specs.Trees.{Ty, no-params, Params, no-parameters, parameter, Val, v-function}
 use Rattle.form.specs.Limits.{nameWidth}
-use Rattle.form.specs.Read.{Got, got, readT}
+use Rattle.form.specs.Read.{readT}
 use Rattle.form.proofs.AnySize.{Fair}
 use Rattle.form.proofs.Fuel.{stays}
+use Rattle.form.proofs.Runs.{rest}
 use Rattle.order.specs.Order.{up, fixed}
 use Rattle.order.specs.Types.{cmp, cmps, le}
 use Rattle.order.specs.Size.{size, size-params, size-val}
@@ -21,20 +22,20 @@ use Rattle.order.specs.Values.{types-of}
 use Rattle.order.specs.Inferred.{valueConformsTo}
 use Rattle.order.proofs.Bools.{and-assoc}
 use Rattle.types.specs.At.{typeAt, Sig, sig, cons, funOf, size-sig, sigAt, sizeAt, Ok}
-use Rattle.types.specs.Conform.{Conform, judge, conformBy, conformOf, grown, Met}
-use Rattle.types.proofs.Reading.{rest, seen-got, got-seen, ok-got, is-ok, is-fun, t-good, size-cons, size-fun, result}
+use Rattle.types.specs.Conform.{Conform, judge, conformBy, grown, Met}
+use Rattle.types.proofs.Reading.{seen-got, got-seen, ok-got, is-ok, is-fun, t-good, size-cons, size-fun, result}
 use Rattle.types.proofs.Entries.{step, size-got}
 use Rattle.types.proofs.InStep.{param-at}
 use Rattle.types.proofs.Conforming.{sig-count}
 use Rattle.types.proofs.Forward as forward
 use Rattle.types.proofs.Forward.{param-on, result-read}
 use Rattle.types.proofs.Names.{readable-type}
-use Rattle.types.proofs.Pairs.{mapO, mapO-same, both, no-when, mapped, grown-on, grown-none, met-yes, met-no, met-as, Pair, MetAt, pair, pair-no, pair-in}
-use Rattle.values.specs.At.{valueAt, Definition, definition, size-definition, definitionAt, sizeAtV}
+use Rattle.types.proofs.Pairs.{mapO, mapO-same, both, no-when, mapped, grown-on, met-yes, met-no, met-as, Pair, MetAt, pair, pair-no, pair-in}
+use Rattle.values.specs.At.{valueAt, Definition, definition, size-definition, definitionAt}
 use Rattle.values.specs.Held.{held, definitionConforms, heldDefinition}
 use Rattle.values.proofs.Reading.{paramsAt, definition-parts, next-parameter, no-parameter}
 use Rattle.values.proofs.ByKind.{definition-is, held-function, counts-differ}
-use Rattle.values.proofs.Holding.{never, fails}
+use Rattle.values.proofs.Holding.{fails}
 
 same-tree : {X : Type 0} {x y : X} → some x ≡ some y → x ≡ y
 same-tree e = cc
@@ -82,7 +83,8 @@ definition-start l m v t count h o at k =
       read-r = R;
       read-v = ap₂ (λ k z. paramsAt l k (drop z v)) (sym c) a ∙ P .second;
       goes = ap₂ heldDefinition (g .1 ∙ ap some (P .is)) (sym (mapO-same (sigAt m count t)))
-          ∙ mapped size-params size-sig (left-conforms (P .r)) size-definition size-sig definitionConforms (definition (P .r)) (λ f. f) at 0 (some (P .ps)) (sigAt m count t) (λ x y e f. refl) (λ x e. omega arith) (λ f. omega arith)
+          ∙ mapped size-params size-sig (left-conforms (P .r)) size-definition size-sig definitionConforms (definition (P .r)) (λ f. f) at 0 (some (P .ps)) (sigAt m count t) (λ x y e f. refl)
+          (λ x e. omega arith) (λ f. omega arith)
           ∙ ap (λ n. grown at 0 (conformBy size-params size-sig (left-conforms (P .r)) (some (P .ps)) (sigAt m n t))) c;
     }
 
@@ -134,7 +136,8 @@ module _ {l m : ℕ} {whole : Conform} {v t : List ℕ} {count at bt i : ℕ} (I
           let S = sigAt m (count - (i + 1)) (drop (bt + y) t) in
           let a : P .x ≡ A .a = same-tree (sym (P .read-a) ∙ A .first) in
           let xa : x ≡ size (A .a) = P .size-a ∙ ap size a in
-          let e : sigAt m (count - i) (drop bt t) ≡ mapO (cons (P .y)) S = param-on m i count bt t (P .y) h (P .read-b) ∙ ap (λ k. mapO (cons (P .y)) (sigAt m (count - (i + 1)) (drop (bt + k) t))) (sym (P .size-b)) in
+          let e : sigAt m (count - i) (drop bt t) ≡ mapO (cons (P .y)) S = param-on m i count bt t (P .y) h (P .read-b)
+          ∙ ap (λ k. mapO (cons (P .y)) (sigAt m (count - (i + 1)) (drop (bt + k) t))) (sym (P .size-b)) in
           let o : at + (nameWidth + x) ≡ at + nameWidth + x = omega arith in
           record {
             r = I .r;
@@ -147,7 +150,8 @@ module _ {l m : ℕ} {whole : Conform} {v t : List ℕ} {count at bt i : ℕ} (I
             read-v = ap (λ k. paramsAt l (count - (i + 1)) (drop (at + nameWidth + k) v)) xa ∙ A .second;
             goes = I .goes ∙ ap (grown at bt) (ap₂ (conformBy size-params size-sig (left-conforms (I .r))) (ap some (A .is)) e
                 ∙ mapped size-params size-sig (left-conforms (I .r)) size-params size-sig (left-conforms (I .r)) (parameter (A .name) (A .a)) (cons (P .y)) (nameWidth + x) y (some (A .more)) S
-                (λ qs f p q. left-cons (I .r) (A .name) (A .a) qs (P .y) f ∙ ap (λ b. b && left-conforms (I .r) qs f) (ap (λ k. le fixed k (P .y)) (sym a) ∙ P .holds)) (λ qs p. omega (arith, xa)) (λ f. omega (arith, size-cons (P .y) f, P .size-b)))
+                (λ qs f p q. left-cons (I .r) (A .name) (A .a) qs (P .y) f ∙ ap (λ b. b && left-conforms (I .r) qs f) (ap (λ k. le fixed k (P .y)) (sym a) ∙ P .holds)) (λ qs p. omega (arith, xa))
+                (λ f. omega (arith, size-cons (P .y) f, P .size-b)))
                 ∙ grown-on at bt (nameWidth + x) y (conformBy size-params size-sig (left-conforms (I .r)) (some (A .more)) S)
                 ∙ ap (λ k. grown k (bt + y) (conformBy size-params size-sig (left-conforms (I .r)) (some (A .more)) S)) o;
           }
@@ -178,7 +182,8 @@ module _ {l m : ℕ} {whole : Conform} {v t : List ℕ} {count at bt i : ℕ} (I
       result-yes p q e f =
           let s : sigAt m (count - i) (drop bt t) ≡ some (sig no-params (P .y)) = ap (λ n. sigAt m n (drop bt t)) no-more ∙ result-read m (drop bt t) ∙ ap (mapO (sig no-params)) (P .read-b) in
           let k : left-conforms (I .r) no-parameters (sig no-params (P .y)) ≡ true = ap (λ r. le fixed r (P .y)) (same-tree (sym (I .read-r) ∙ P .read-a)) ∙ P .holds in
-          met-yes (ap (grown 4 2) (I .goes ∙ ap (grown at bt) (both size-params size-sig (left-conforms (I .r)) (some (I .ps)) (sigAt m (count - i) (drop bt t)) no-parameters (sig no-params (P .y)) (ap some last) s ∙ ap (λ b. judge b 0 (size-sig (sig no-params (P .y)))) k))) (omega (arith, e)) (omega (arith, f, P .size-b))
+          met-yes (ap (grown 4 2) (I .goes ∙ ap (grown at bt) (both size-params size-sig (left-conforms (I .r)) (some (I .ps)) (sigAt m (count - i) (drop bt t)) no-parameters (sig no-params (P .y))
+          (ap some last) s ∙ ap (λ b. judge b 0 (size-sig (sig no-params (P .y)))) k))) (omega (arith, e)) (omega (arith, f, P .size-b))
 
 -- ---- the returns of `conform_other` at a definition
 module _ (l m : ℕ) (v t : List ℕ) (mp : 0 < m) (c : getD v 0 0 ≡ 12) (d : getD t 0 0 ≡ 45) (two : 2 ≤ length t) (x : Val) (e : valueAt l v ≡ some x) where
@@ -204,10 +209,12 @@ module _ (l m : ℕ) (v t : List ℕ) (mp : 0 < m) (c : getD v 0 0 ≡ 12) (d : 
   unfolding size-val mapO function-of
   met-definition n k q r u w =
       let D = definition-is l v x e c in
-      let ev : valueAt l v ≡ mapO (function-of (D .b)) (definitionAt (l - 1) n (drop 4 v)) = e ∙ ap some (D .is) ∙ sym (ap (λ j. mapO (function-of (D .b)) (definitionAt (l - 1) j (drop 4 v))) k ∙ ap (mapO (function-of (D .b))) (D .read)) in
+      let ev : valueAt l v ≡ mapO (function-of (D .b)) (definitionAt (l - 1) n (drop 4 v)) = e ∙ ap some (D .is)
+      ∙ sym (ap (λ j. mapO (function-of (D .b)) (definitionAt (l - 1) j (drop 4 v))) k ∙ ap (mapO (function-of (D .b))) (D .read)) in
       let et : typeAt m t ≡ mapO funOf (sigAt (m - 1) n (drop 2 t)) = forward.node-function m t mp (omega arith) d two ∙ ap (λ j. mapO funOf (sigAt (m - 1) j (drop 2 t))) (sym (k ∙ q)) in
       met-as (grown 4 2 (heldDefinition (definitionAt (l - 1) n (drop 4 v)) (sigAt (m - 1) n (drop 2 t)))) r u
-      (ap₂ held ev et ∙ mapped size-definition size-sig definitionConforms size-val size valueConformsTo (function-of (D .b)) funOf 4 2 (definitionAt (l - 1) n (drop 4 v)) (sigAt (m - 1) n (drop 2 t)) (tested (D .b)) (λ y f. sizes (D .b) y) size-fun) (rw (rest v 4, rest t 2) at w)
+      (ap₂ held ev et ∙ mapped size-definition size-sig definitionConforms size-val size valueConformsTo (function-of (D .b)) funOf 4 2 (definitionAt (l - 1) n (drop 4 v)) (sigAt (m - 1) n (drop 2 t))
+      (tested (D .b)) (λ y f. sizes (D .b) y) size-fun) (rw (rest v 4, rest t 2) at w)
     where
       tested : (b : ℕ) (y : Definition) (f : Sig) → definitionAt (l - 1) n (drop 4 v) ≡ some y → sigAt (m - 1) n (drop 2 t) ≡ some f
           → valueConformsTo (function-of b y) (funOf f) ≡ definitionConforms y f

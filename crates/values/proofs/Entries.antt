@@ -1,6 +1,6 @@
 -- The entries of a context, as they are read, and their test against those of a type, name by name: what the laws of two ascending lists in step ask for.
 -- Assumes nothing.
-use Prim.Native.Nat.{ℕ, zero, suc, _+_, _-_, _<_, _≤_}
+use Prim.Native.Nat.{ℕ, zero, suc, _-_, _<_, _≤_}
 use mathlib.Core.Path.{_≡_, refl, sym, ap, ap₂, _∙_}
 use mathlib.Core.Bool.{false, cond, _&&_}
 use mathlib.Core.Option.{some}
@@ -51,7 +51,18 @@ entries-run l = record {
   size-cons = λ n x es. refl;
   none = λ least s. refl;
   on = λ n least s x w h e. named-on size-val no-entries entry (readV l) (λ r y m f. value-told l r y m f .sized) n least s x w h e;
-  back = λ n least s es e. let E = next-entry l n least s es e in record { name = E .name; x = E .v; more = E .more; two = E .two; named = E .named; above = E .above; first = E .first; is = E .is; asc = above l n (suc (E .name)) (drop (size-val (E .v)) (drop nameWidth s)) (E .more) (E .second) };
+  back = λ n least s es e. let E = next-entry l n least s es e in record {
+    name = E .name;
+    x = E .v;
+    more = E .more;
+    two = E .two;
+    named = E .named;
+    above = E .above;
+    first = E .first;
+    is = E .is;
+    asc = above l n (suc (E .name))
+        (drop (size-val (E .v)) (drop nameWidth s)) (E .more) (E .second);
+  };
 }
 
 -- a name smaller than all that are asked for does not matter

@@ -1,12 +1,12 @@
 -- The reader of values forward: what stands at the front is made of what stands behind it, whether that is read or not.
 -- Assumes nothing.
 use Prim.Native.Nat.{ℕ, suc, _+_, _-_, _<_, _≤_}
-use mathlib.Core.Path.{_≡_, refl, sym, ap, _∙_}
+use mathlib.Core.Path.{_≡_, refl, ap, _∙_}
 use mathlib.Core.Bool.{Bool, true, false}
 use mathlib.Core.Option.{none, some}
 use mathlib.Core.List.{List, [], _∷_}
 use native.Mathlib.Omega.{arith}
-use lib.ListN.{length, getD, take, drop, length-drop}
+use lib.ListN.{length, getD, drop, length-drop}
 use lib.Seq.{getD-drop, drop-drop}
 use lib.Dec.{leb}
 use borrow.Author.Tests.{le-leb, leb-true}
@@ -14,7 +14,7 @@ use Rattle.form.specs.Trees.{Val, v-range, v-list, v-context, v-irrelevant, Val
 use Rattle.form.specs.Form.{numAt}
 use Rattle.form.specs.Layout.{kindOf}
 use Rattle.form.specs.Faults.{Shape}
-use Rattle.form.specs.Read.{Got, got, bad, front, andThen, orElse, operand, readRun, counted, readRange, stepValue, stepV, readT, readV, readVals, readEntries}
+use Rattle.form.specs.Read.{Got, got, bad, front, andThen, orElse, operand, readRun, counted, readRange, stepValue, stepV, readV, readVals, readEntries}
 use Rattle.form.proofs.ValueLaws.{v-step}
 use Rattle.types.specs.At.{seen}
 use Rattle.types.proofs.Reading.{seen-got}
@@ -91,7 +91,8 @@ module _ (l : ℕ) (s : List ℕ) (p : 0 < l) (h : 3 ≤ length s) where
 
   pub node-range : getD s 0 0 ≡ 9 → getD s 1 0 ≤ 3 → getD s 2 0 ≤ 3 → valueAt l s ≡ mapO (rangeOf (getD s 1 0) (getD s 2 0)) (itemsAt (l - 1) 2 (drop 3 s))
   unfolding valueAt itemsAt kindOf stepV stepValue
-  node-range c i j = rw (v-step l s some-byte p, c) (rw (getD-drop 1 s 0 0, getD-drop 1 s 1 0, drop-drop 2 1 s) at (range-seen (readV (l - 1)) (drop 1 s) two-bytes (rw (getD-drop 1 s 0 0) i) (rw (getD-drop 1 s 1 0) j)))
+  node-range c i j = rw (v-step l s some-byte p, c) (rw (getD-drop 1 s 0 0, getD-drop 1 s 1 0, drop-drop 2 1 s) at
+      (range-seen (readV (l - 1)) (drop 1 s) two-bytes (rw (getD-drop 1 s 0 0) i) (rw (getD-drop 1 s 1 0) j)))
 
   pub no-range : getD s 0 0 ≡ 9 → (getD s 1 0 ≤ 3 → getD s 2 0 ≤ 3 → ⊥) → valueAt l s ≡ none
   unfolding valueAt kindOf stepV stepValue

@@ -9,34 +9,31 @@ use native.Mathlib.Omega.{arith}
 use lib.ListN.{length, getD, take, drop, length-drop}
 use lib.Dec.{leb, eqb}
 use borrow.Author.Tests.{leb-true, leb-false, eqb-true, eqb-false}
-use Rattle.form.specs.Trees.{Ty, leaf, decode, built, list, range, context, simple, Val, v-range, v-list, v-context, v-function, Vals, no-items, item, Entries, isDataLeaf}
+use Rattle.form.specs.Trees.{Ty, leaf, decode, built, list, range, context, simple, Val, v-list, v-context, Vals, no-items, item, isDataLeaf}
 use Rattle.form.specs.Form.{numAt}
-use Rattle.form.specs.Outcome.{pick}
-use Rattle.form.specs.Read.{Got, got, bad, readV}
-use Rattle.form.specs.Walks.{Short, leafIn}
-use Rattle.form.proofs.Nodes.{value-read}
-use Rattle.form.proofs.Runs.{first-at}
+use Rattle.form.specs.Read.{readV}
+use Rattle.form.specs.Walks.{Short}
+use Rattle.form.proofs.Runs.{rest, first-at}
 use Rattle.order.specs.Order.{fixed}
 use Rattle.order.specs.Size.{size, size-fields, size-val, size-vals, size-entries}
 use Rattle.order.specs.Values.{conforms, all-conform}
 use Rattle.order.specs.Inferred.{valueConformsTo}
 use Rattle.order.proofs.Size.{size-val-positive}
 use Rattle.order.proofs.Bools.{and-true, and-false}
-use Rattle.types.specs.At.{typeAt, fieldsAt, funOf, size-sig, sigAt, sizeAt, Ok}
-use Rattle.types.specs.Conform.{Conform, Yes, No, judge, conformBy, grown, Met}
+use Rattle.types.specs.At.{typeAt, fieldsAt}
+use Rattle.types.specs.Conform.{judge, grown, Met}
 use Rattle.types.proofs.Reading as types
-use Rattle.types.proofs.Reading.{rest, is-ok, seen-got, got-seen, cmd, cmd-is, is-ctx, is-fun, size-fun}
-use Rattle.types.proofs.Conforming.{sig-count}
-use Rattle.types.proofs.Passing.{cmd-in, sized, unsized}
+use Rattle.types.proofs.Reading.{cmd, cmd-is, is-ctx, is-fun}
+use Rattle.types.proofs.Passing.{cmd-in, sized}
 use Rattle.types.proofs.Forward as forward
 use Rattle.types.proofs.Names.{readable-type}
 use Rattle.types.proofs.Short.{Passed, passed, not-passed}
-use Rattle.types.proofs.Pairs.{mapO, Both, both, taken, yes-of, no-when, mapped, same-test, grown-on, grown-none, met-yes, met-no, met-as, Readable, Sized, Pair, MetAt, met-here, pair-yes, pair-none, pair-no, pair-in}
-use Rattle.values.specs.At.{valueAt, itemsAt, entriesAt, definition, size-definition, definitionAt, sizeAtV}
-use Rattle.values.specs.Held.{heldBy, held, leafConforms, heldItems, entriesConform, heldEntries, definitionConforms, heldDefinition}
+use Rattle.types.proofs.Pairs.{mapO, both, taken, yes-of, no-when, mapped, met-yes, met-no, met-as, Readable, Sized, Pair}
+use Rattle.values.specs.At.{valueAt, itemsAt, entriesAt, sizeAtV}
+use Rattle.values.specs.Held.{heldBy, held, leafConforms, heldItems, entriesConform, heldEntries}
 use Rattle.values.proofs.Reading.{value-told, some-byte, some-level, v-inside, size-got, next-item, no-item}
-use Rattle.values.proofs.Forward.{rangeOf, node-range, no-range, node-list, node-context, item-on, items-gone}
-use Rattle.values.proofs.ByKind.{kind, kindAt, kind-plain, kind-other, kind-is, leaf-is, long-is, small-is, definition-is, kinds-differ, to-any, leaf-null, leaf-same, simple-is, simple-cmd, not-simple, held-function, counts-differ}
+use Rattle.values.proofs.Forward.{rangeOf, node-range, no-range, node-list, node-context}
+use Rattle.values.proofs.ByKind.{kind, kindAt, kind-plain, kind-other, kind-is, leaf-is, long-is, small-is, kinds-differ, to-any, leaf-null, leaf-same, simple-is, simple-cmd}
 
 pub readable-value : (l : ℕ) → Readable size-val (valueAt l)
 readable-value l = record { positive = size-val-positive; inside = λ s x e. v-inside l s x e }
@@ -135,7 +132,9 @@ module _ (l m : ℕ) (v : List ℕ) (at : ℕ) (t : List ℕ) (bt : ℕ) where
               record { x = _; read = g; is = refl }
 
           tests : conforms fixed (P .x) (T .x) ≡ true → Met (heldBy leafConforms (valueAt l (drop at v)) (typeAt m (drop bt t))) n 1
-          tests k = met-yes (both size-val size leafConforms (valueAt l (drop at v)) (typeAt m (drop bt t)) (P .x) (T .x) (P .read) (T .read) ∙ ap (λ q. judge q (size-val (P .x)) (size (T .x))) (three (isDataLeaf (P .x)) (simple (T .x)) (conforms fixed (P .x) (T .x)) (P .leafy) (simple-is (T .x) (omega (arith, cmd-there (T .x) (T .read)))) k)) (P .is) (T .is)
+          tests k = met-yes (both size-val size leafConforms (valueAt l (drop at v)) (typeAt m (drop bt t)) (P .x) (T .x) (P .read) (T .read)
+              ∙ ap (λ q. judge q (size-val (P .x)) (size (T .x))) (three (isDataLeaf (P .x)) (simple (T .x)) (conforms fixed (P .x) (T .x)) (P .leafy)
+              (simple-is (T .x) (omega (arith, cmd-there (T .x) (T .read)))) k)) (P .is) (T .is)
 
           pub leaf-is-null : getD v at 0 ≡ 0 → Met (heldBy leafConforms (valueAt l (drop at v)) (typeAt m (drop bt t))) n 1
           unfolding kindAt
@@ -145,7 +144,8 @@ module _ (l m : ℕ) (v : List ℕ) (at : ℕ) (t : List ℕ) (bt : ℕ) where
           to-any-leaf d = tests (to-any (P .x) (T .x) (cmd-there (T .x) (T .read) ∙ d))
 
           own-leaf : 1 ≤ getD v at 0 → getD t bt 0 ≡ getD v at 0 + 32 → Met (heldBy leafConforms (valueAt l (drop at v)) (typeAt m (drop bt t))) n 1
-          own-leaf c d = tests (leaf-same (P .x) (T .x) (P .leafy) (simple-is (T .x) (omega (arith, cmd-there (T .x) (T .read)))) (leaf-kind ∙ kind-plain (getD v at 0) c small ∙ sym d ∙ sym (cmd-there (T .x) (T .read))))
+          own-leaf c d = tests (leaf-same (P .x) (T .x) (P .leafy) (simple-is (T .x) (omega (arith, cmd-there (T .x) (T .read))))
+              (leaf-kind ∙ kind-plain (getD v at 0) c small ∙ sym d ∙ sym (cmd-there (T .x) (T .read))))
 
         pub leaf-to-any : getD t bt 0 ≡ 32 → Met (heldBy leafConforms (valueAt l (drop at v)) (typeAt m (drop bt t))) n 1
         leaf-to-any d = to-any-leaf (omega arith) (omega arith) d
@@ -163,7 +163,16 @@ pub leaf-pair : (l m : ℕ) (v : List ℕ) (at : ℕ) (t : List ℕ) (bt n : ℕ
     → Pair (readable-value l) (readable-type m) valueConformsTo v at t bt n 1
 leaf-pair l m v at t bt n w z =
     let B = taken size-val size leafConforms (valueAt l (drop at v)) (typeAt m (drop bt t)) n 1 (yes-of (heldBy leafConforms (valueAt l (drop at v)) (typeAt m (drop bt t))) n 1 w z) in
-    record { x = B .x; y = B .y; read-a = B .read-a; read-b = B .read-b; holds = last (isDataLeaf (B .x)) (simple (B .y)) (conforms fixed (B .x) (B .y)) (B .holds); size-a = B .size-a; size-b = B .size-b }
+    record {
+      x = B .x;
+      y = B .y;
+      read-a = B .read-a;
+      read-b = B .read-b;
+      holds = last (isDataLeaf (B .x)) (simple (B .y)) (conforms fixed (B .x) (B .y))
+          (B .holds);
+      size-a = B .size-a;
+      size-b = B .size-b;
+    }
   where
     last : (a b c : Bool) → a && (b && c) ≡ true → c ≡ true
     last true true c e = e
@@ -182,7 +191,8 @@ met-any l m v t p h d n e = go (valueAt l v) refl
     size-is = e ∙ ap (λ r. sizeAtV (valueAt l r)) (rest v 0)
 
     go : (r : Option Val) → valueAt l v ≡ r → Met (held (valueAt l v) (typeAt m t)) n 1
-    go (some x) r = met-yes (both size-val size valueConformsTo (valueAt l v) (typeAt m t) x (leaf (decode (getD t 0 0 - 32))) r T ∙ ap (λ q. judge q (size-val x) 1) (to-any x (leaf (decode (getD t 0 0 - 32))) (cmd-is m t (leaf (decode (getD t 0 0 - 32))) T ∙ d))) (size-is ∙ ap sizeAtV r) refl
+    go (some x) r = met-yes (both size-val size valueConformsTo (valueAt l v) (typeAt m t) x (leaf (decode (getD t 0 0 - 32))) r T
+        ∙ ap (λ q. judge q (size-val x) 1) (to-any x (leaf (decode (getD t 0 0 - 32))) (cmd-is m t (leaf (decode (getD t 0 0 - 32))) T ∙ d))) (size-is ∙ ap sizeAtV r) refl
     go none r = met-no n 1 (no-when size-val size valueConformsTo (valueAt l v) (typeAt m t) (λ x y f g. absurd (types.never (sym r ∙ f)))) (size-is ∙ ap sizeAtV r)
 
 -- what `conform_other` is asked, and told
@@ -256,7 +266,8 @@ pub met-null : (l m : ℕ) (v t : List ℕ) (n room : ℕ) → Short isDataLeaf 
 unfolding kindAt
 met-null l m v t n room h z c k T =
     let P = passed-leaf l v n room h z in
-    met-yes (both size-val size valueConformsTo (valueAt l v) (typeAt m t) (P .x) (T .x) (P .read) (T .read) ∙ ap (λ q. judge q (size-val (P .x)) (size (T .x))) (leaf-null (P .x) (T .x) (P .leafy) (kind-is l v (P .x) (P .read) ∙ ap kindAt c))) (P .is) (T .is)
+    met-yes (both size-val size valueConformsTo (valueAt l v) (typeAt m t) (P .x) (T .x) (P .read) (T .read)
+    ∙ ap (λ q. judge q (size-val (P .x)) (size (T .x))) (leaf-null (P .x) (T .x) (P .leafy) (kind-is l v (P .x) (P .read) ∙ ap kindAt c))) (P .is) (T .is)
 
 -- another leaf of data, and its own type
 pub met-plain : (l m : ℕ) (v t : List ℕ) → 0 < m → 0 < length t → 1 ≤ getD v 0 0 → getD v 0 0 ≤ 8 → getD t 0 0 ≡ getD v 0 0 + 32 → (n room : ℕ)
@@ -270,7 +281,8 @@ met-plain l m v t mp there h k d n room w = go (eqb n 0) refl
     go false e =
         let z = eqb-false n 0 e in
         let P = leaf-pair l m v 0 t 0 n (leaf-to-own l m v 0 t 0 n room w z mp there d) z in
-        met-yes (both size-val size valueConformsTo (valueAt l v) (typeAt m t) (P .x) (P .y) (P .read-a) (P .read-b) ∙ ap (λ q. judge q (size-val (P .x)) (size (P .y))) (P .holds)) (P .size-a) (P .size-b)
+        met-yes (both size-val size valueConformsTo (valueAt l v) (typeAt m t) (P .x) (P .y) (P .read-a) (P .read-b) ∙ ap (λ q. judge q (size-val (P .x)) (size (P .y))) (P .holds)) (P .size-a)
+        (P .size-b)
 
 -- ---- ranges, lists, contexts
 two-of : (l : ℕ) (s : List ℕ) (vs : Vals) → itemsAt l 2 s ≡ some vs → (a : Val) × (b : Val) × (vs ≡ item a (item b no-items))
@@ -287,7 +299,8 @@ module _ (l m : ℕ) (v t : List ℕ) (lp : 0 < l) (mp : 0 < m) (three : 3 ≤ l
   unfolding conforms rangeOf size-val size
   met-range c d i j w = met-as (grown 3 1 (heldItems (itemsAt (l - 1) 2 (drop 3 v)) (typeAt (m - 1) (drop 1 t)))) r u
       (ap₂ held (node-range l v lp three c i j) (forward.node-range m t mp some-t d)
-      ∙ mapped size-vals size (all-conform fixed) size-val size valueConformsTo (rangeOf (getD v 1 0) (getD v 2 0)) (λ y. built (range y)) 3 1 (itemsAt (l - 1) 2 (drop 3 v)) (typeAt (m - 1) (drop 1 t)) tested sizes wrapped) (rw (rest v 3, rest t 1) at w)
+      ∙ mapped size-vals size (all-conform fixed) size-val size valueConformsTo (rangeOf (getD v 1 0) (getD v 2 0)) (λ y. built (range y)) 3 1 (itemsAt (l - 1) 2 (drop 3 v))
+      (typeAt (m - 1) (drop 1 t)) tested sizes wrapped) (rw (rest v 3, rest t 1) at w)
     where
       tested : (vs : Vals) (y : Ty) → itemsAt (l - 1) 2 (drop 3 v) ≡ some vs → typeAt (m - 1) (drop 1 t) ≡ some y
           → conforms fixed (rangeOf (getD v 1 0) (getD v 2 0) vs) (built (range y)) ≡ all-conform fixed vs y
@@ -310,12 +323,15 @@ module _ (l m : ℕ) (v t : List ℕ) (lp : 0 < l) (mp : 0 < m) (three : 3 ≤ l
   unfolding conforms size-val size
   met-list c d n ne w = met-as (grown 3 1 (heldItems (itemsAt (l - 1) n (drop 3 v)) (typeAt (m - 1) (drop 1 t)))) r u
       (ap₂ held (node-list l v lp three c ∙ ap (λ k. mapO v-list (itemsAt (l - 1) k (drop 3 v))) (sym ne)) (forward.node-list m t mp some-t d)
-      ∙ mapped size-vals size (all-conform fixed) size-val size valueConformsTo v-list (λ y. built (list y)) 3 1 (itemsAt (l - 1) n (drop 3 v)) (typeAt (m - 1) (drop 1 t)) (λ x y e f. refl) (λ x e. omega arith) (λ y. omega arith)) (rw (rest v 3, rest t 1) at w)
+      ∙ mapped size-vals size (all-conform fixed) size-val size valueConformsTo v-list (λ y. built (list y)) 3 1 (itemsAt (l - 1) n (drop 3 v)) (typeAt (m - 1) (drop 1 t)) (λ x y e f. refl)
+      (λ x e. omega arith) (λ y. omega arith)) (rw (rest v 3, rest t 1) at w)
 
   pub met-context : getD v 0 0 ≡ 11 → getD t 0 0 ≡ 44 → 3 ≤ length t → (n k : ℕ) → n ≡ numAt 2 1 v → k ≡ numAt 2 1 t
       → Met (grown 3 3 (heldEntries (entriesAt (l - 1) n 0 (take (length v - 3) (drop 3 v))) (fieldsAt (m - 1) k 0 (take (length t - 3) (drop 3 t))))) r u
       → Met (held (valueAt l v) (typeAt m t)) r u
   unfolding conforms size-val size
   met-context c d i n k ne ke w = met-as (grown 3 3 (heldEntries (entriesAt (l - 1) n 0 (drop 3 v)) (fieldsAt (m - 1) k 0 (drop 3 t)))) r u
-      (ap₂ held (node-context l v lp three c ∙ ap (λ z. mapO v-context (entriesAt (l - 1) z 0 (drop 3 v))) (sym ne)) (forward.node-context m t mp some-t d i ∙ ap (λ z. mapO (λ fs. built (context fs)) (fieldsAt (m - 1) z 0 (drop 3 t))) (sym ke))
-      ∙ mapped size-entries size-fields entriesConform size-val size valueConformsTo v-context (λ fs. built (context fs)) 3 3 (entriesAt (l - 1) n 0 (drop 3 v)) (fieldsAt (m - 1) k 0 (drop 3 t)) (λ x y e f. refl) (λ x e. omega arith) (λ y. omega arith)) (rw (rest v 3, rest t 3) at w)
+      (ap₂ held (node-context l v lp three c ∙ ap (λ z. mapO v-context (entriesAt (l - 1) z 0 (drop 3 v))) (sym ne))
+      (forward.node-context m t mp some-t d i ∙ ap (λ z. mapO (λ fs. built (context fs)) (fieldsAt (m - 1) z 0 (drop 3 t))) (sym ke))
+      ∙ mapped size-entries size-fields entriesConform size-val size valueConformsTo v-context (λ fs. built (context fs)) 3 3 (entriesAt (l - 1) n 0 (drop 3 v)) (fieldsAt (m - 1) k 0 (drop 3 t))
+      (λ x y e f. refl) (λ x e. omega arith) (λ y. omega arith)) (rw (rest v 3, rest t 3) at w)

@@ -8,18 +8,18 @@ use mathlib.Core.Option.{some}
 use mathlib.Core.List.{List}
 use native.Mathlib.Omega.{arith}
 use lib.ListN.{length, take, drop}
-use Rattle.form.specs.Trees.{Ty, Val, Vals, no-items, item}
+use Rattle.form.specs.Trees.{no-items, item}
 use Rattle.order.specs.Order.{fixed}
 use Rattle.order.specs.Size.{size, size-val, size-vals}
 use Rattle.order.specs.Values.{conforms, all-conform}
 use Rattle.order.specs.Inferred.{valueConformsTo}
 use Rattle.types.specs.At.{typeAt, sizeAt}
-use Rattle.types.specs.Conform.{Conform, judge, conformBy, grown, Met}
+use Rattle.types.specs.Conform.{Conform, conformBy, grown, Met}
 use Rattle.types.proofs.Entries.{step}
 use Rattle.types.proofs.Names.{readable-type}
 use Rattle.types.proofs.Passing.{sized-part, unsized-part}
 use Rattle.types.proofs.Pairs.{mapO, mapO-same, both, no-when, mapped, grown-on, grown-none, met-yes, met-no, Sized, Pair, MetAt, pair-no, pair-in}
-use Rattle.values.specs.At.{valueAt, itemsAt}
+use Rattle.values.specs.At.{itemsAt}
 use Rattle.values.specs.Held.{heldItems}
 use Rattle.values.proofs.Reading.{next-item}
 use Rattle.values.proofs.Forward.{item-on, items-gone}
@@ -34,7 +34,13 @@ pub record ItemsGo (l m : ℕ) (whole : Conform) (v : List ℕ) (n : ℕ) (t : L
 pub items-start : (l m : ℕ) (v : List ℕ) (n : ℕ) (t : List ℕ) → ItemsGo l m (heldItems (itemsAt l n v) (typeAt m t)) v n t 0 0 0
 items-start l m v n t =
     let e : n ≡ n - 0 = omega arith in
-    record { below = omega arith; in-v = omega arith; known = λ z. absurd (omega arith); goes = ap (λ k. heldItems (itemsAt l k v) (typeAt m t)) e ∙ grown-none (heldItems (itemsAt l (n - 0) v) (typeAt m t)) }
+    record {
+      below = omega arith;
+      in-v = omega arith;
+      known = λ z. absurd (omega arith);
+      goes = ap (λ k. heldItems (itemsAt l k v) (typeAt m t)) e
+          ∙ grown-none (heldItems (itemsAt l (n - 0) v) (typeAt m t));
+    }
 
 same-tree : {X : Type 0} {x y : X} → some x ≡ some y → x ≡ y
 same-tree e = cc
@@ -57,7 +63,8 @@ module _ {l m : ℕ} {whole : Conform} {v : List ℕ} {n : ℕ} {t : List ℕ} {
       unfolding conforms size-val
       items-turn =
           let A = itemsAt l (n - (i + 1)) (drop (at + r) v) in
-          let e : itemsAt l (n - i) (drop at v) ≡ mapO (item (P .x)) A = item-on l i n at v (P .x) h (P .read-a) ∙ ap (λ k. mapO (item (P .x)) (itemsAt l (n - (i + 1)) (drop (at + k) v))) (sym (P .size-a)) in
+          let e : itemsAt l (n - i) (drop at v) ≡ mapO (item (P .x)) A = item-on l i n at v (P .x) h (P .read-a)
+          ∙ ap (λ k. mapO (item (P .x)) (itemsAt l (n - (i + 1)) (drop (at + k) v))) (sym (P .size-a)) in
           let z = P .size-a in
           record {
             below = omega arith;
@@ -74,7 +81,8 @@ module _ {l m : ℕ} {whole : Conform} {v : List ℕ} {n : ℕ} {t : List ℕ} {
   unfolding conforms size-val
   items-done h p r u e f =
       let T = I .known p in
-      met-yes (ap (grown 3 1) (I .goes ∙ ap (grown at 0) (both size-vals size (all-conform fixed) (itemsAt l (n - i) (drop at v)) (typeAt m t) no-items (T .x) (items-gone l i n at v h) (T .read)))) (omega (arith, e)) (omega (arith, f, T .is))
+      met-yes (ap (grown 3 1) (I .goes ∙ ap (grown at 0) (both size-vals size (all-conform fixed) (itemsAt l (n - i) (drop at v)) (typeAt m t) no-items (T .x) (items-gone l i n at v h) (T .read))))
+      (omega (arith, e)) (omega (arith, f, T .is))
 
 -- ---- no items
 module _ (l m : ℕ) (v : List ℕ) (n : ℕ) (t : List ℕ) (z : 0 ≡ n) (k : ℕ) (e : k ≡ sizeAt (typeAt m (take (length t - 0) (drop 0 t)))) where

@@ -3,14 +3,14 @@
 use Prim.Native.Nat.{ℕ, zero, suc, _+_, _-_, _<_, _≤_}
 use mathlib.Core.Path.{_≡_, refl, sym, ap, subst, _∙_}
 use mathlib.Core.Bool.{Bool}
-use mathlib.Core.Option.{Option, none, some}
-use mathlib.Core.List.{List, [], _∷_}
+use mathlib.Core.Option.{Option, some}
+use mathlib.Core.List.{List, []}
 use native.Mathlib.Omega.{arith}
 use native.Mathlib.Numerals.{add-one}
 use lib.ListN.{length, getD, take, drop, length-drop}
-use lib.Seq.{drop-drop}
 use lib.Dec.{eqb}
-use Rattle.form.specs.Trees.{Ty, Params, no-parameters, parameter, Leaf, l-null, l-boolean, l-number, l-string, l-temporal, Val, v-leaf, v-range, v-list, v-context, v-function, v-built-in, v-type, v-irrelevant, Vals, no-items, item, Entries, no-entries, entry, isDataLeaf, decode-temporal}
+use Rattle.form.specs.Trees.{Ty, Params, no-parameters, parameter, l-null, l-boolean, l-number, l-string, l-temporal, Val, v-leaf, v-range, v-list, v-context, v-function, v-built-in, v-type}
+use Rattle.form.specs.Trees.{v-irrelevant, Vals, no-items, item, Entries, no-entries, entry, isDataLeaf, decode-temporal}
 use Rattle.form.specs.Limits.{nameWidth}
 use Rattle.form.specs.Form.{num, numAt, levelV}
 use Rattle.form.specs.Walks.{walkOf, sizeIn, Short}
@@ -19,8 +19,8 @@ use Rattle.form.specs.Read.{Got, got, bad, andThen, readRun, readNamed, readT, 
 use Rattle.form.proofs.Told.{short-end}
 use Rattle.form.proofs.ValueLaws.{leaf-level}
 use Rattle.form.proofs.Exact.{got-parts, then-parts}
-use Rattle.form.proofs.Nodes.{item-parts, named-parts, NodeV, nNull, nBoolean, nNumber, nString, nTemporal, nRangeV, nListV, nContextV, nDefinition, nBuiltIn, nType, nIrrelevant, ValueRead, value-read}
-use Rattle.order.specs.Size.{size, size-params, size-leaf, size-val, size-vals, size-entries}
+use Rattle.form.proofs.Nodes.{item-parts, named-parts, NodeV, nNull, nBoolean, nNumber, nString, nTemporal, nRangeV, nListV, nContextV, nDefinition, nBuiltIn, nType, nIrrelevant, value-read}
+use Rattle.order.specs.Size.{size, size-params, size-val, size-vals, size-entries}
 use Rattle.types.specs.At.{seen, typeAt}
 use Rattle.types.proofs.Reading as types
 use Rattle.types.proofs.Reading.{seen-got, got-seen, then-got}
@@ -79,8 +79,10 @@ value-step left s ih h v n (nRangeV c k x y a m p b j q) =
     let F = ih (drop 3 s) a m p in
     let G = ih (drop m (drop 3 s)) b j q in
     record { sized = omega (arith, F .sized, G .sized); inside = omega (arith, simp length-drop at (F .inside), simp (length-drop, length-drop) at (G .inside)) }
-value-step left s ih h v n (nListV c k vs m p) = let F = items-told (readV left) ih (numAt 2 1 s) (drop 3 s) vs m p in record { sized = omega (arith, F .sized); inside = omega (arith, simp length-drop at (F .inside)) }
-value-step left s ih h v n (nContextV c k es m p) = let F = entries-told (readV left) ih (numAt 2 1 s) 0 (drop 3 s) es m p in record { sized = omega (arith, F .sized); inside = omega (arith, simp length-drop at (F .inside)) }
+value-step left s ih h v n (nListV c k vs m p) = let F = items-told (readV left) ih (numAt 2 1 s) (drop 3 s) vs m p in record
+    { sized = omega (arith, F .sized); inside = omega (arith, simp length-drop at (F .inside)) }
+value-step left s ih h v n (nContextV c k es m p) = let F = entries-told (readV left) ih (numAt 2 1 s) 0 (drop 3 s) es m p in record
+    { sized = omega (arith, F .sized); inside = omega (arith, simp length-drop at (F .inside)) }
 value-step left s ih h v n (nDefinition c k t m p ps j q) =
     let F = type-told left (drop 4 s) t m p in
     let G = params-told left (getD s 1 0) 0 (drop m (drop 4 s)) ps j q in
@@ -202,7 +204,8 @@ next-entry l n least s es e =
     seen-got (readEntries (readV l) (suc n) least s) es e (λ m r.
     named-parts no-entries entry ascending (readV l) n least s es m r (λ w h x k px y j py pz pn.
     let F = value-told l (drop nameWidth s) x k px in
-    let p : seen (readEntries (readV l) n (num (take nameWidth s) + 1) (drop k (drop nameWidth s))) ≡ some y = got-seen (readEntries (readV l) n (num (take nameWidth s) + 1) (drop k (drop nameWidth s))) y j py in
+    let p : seen (readEntries (readV l) n (num (take nameWidth s) + 1) (drop k (drop nameWidth s))) ≡ some y = got-seen
+    (readEntries (readV l) n (num (take nameWidth s) + 1) (drop k (drop nameWidth s))) y j py in
     record {
       name = num (take nameWidth s);
       v = x;

@@ -24,11 +24,11 @@ use Rattle.form.proofs.+walk_entries+walk_items+walk_value.{statement}
 use Rattle.form.proofs.+walk_entries+walk_items+walk_value.Tie.{close}
 use borrow.Author.Needs.{needs}
 use native.Mathlib.Omega.{arith}
-use mathlib.Core.Path.{_≡_, refl, sym, ap, _∙_}
+use mathlib.Core.Path.{refl, ap, _∙_}
 use mathlib.Core.List.{List}
-use lib.ListN.{length, getD, take, drop}
+use lib.ListN.{length, getD}
 use Rattle.form.specs.Limits.{nameWidth}
-use Rattle.form.specs.Faults.{Shape, Names, Level}
+use Rattle.form.specs.Faults.{Shape, Level}
 use Rattle.form.specs.Trees.{no-entries, entry, no-items, item, isDataLeaf}
 use Rattle.form.specs.Form.{levelV, levelVals, levelEntries}
 use Rattle.form.specs.Layout.{kRange, kList, kContext, ofValue, kindOf, operandsV, operands}

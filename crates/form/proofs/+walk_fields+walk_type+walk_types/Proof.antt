@@ -1,7 +1,7 @@
 -- The walk over one type and its two loops: each return hands on what a callee told, or what the reader's equation says of the command; each turn of a loop is one citation
 -- of the laws in Loops, over the child's walk.
 -- Assumes nothing.
-use Prim.Native.Nat.{ℕ, _<_, _+_, _*_, _-_, _≤_, max}
+use Prim.Native.Nat.{ℕ, _<_, _+_, _*_, _-_}
 use borrow.Fn.Kinds.{In}
 use borrow.Fn.PlainCycle.{Measures, is, falls, and}
 use Rattle.form.proofs.walk_fields.Reads as walk-fields
@@ -24,22 +24,21 @@ use Rattle.form.proofs.+walk_fields+walk_type+walk_types.{statement}
 use Rattle.form.proofs.+walk_fields+walk_type+walk_types.Tie.{close}
 use borrow.Author.Needs.{needs}
 use native.Mathlib.Omega.{arith}
-use mathlib.Core.Path.{_≡_, refl, sym, ap, _∙_}
+use mathlib.Core.Path.{refl}
 use mathlib.Core.List.{List}
 use mathlib.Core.Logic.{⊎-elim}
-use lib.ListN.{length, getD, take, drop}
 use Rattle.form.specs.Limits.{nameWidth}
-use Rattle.form.specs.Faults.{Shape, Names, Level}
+use Rattle.form.specs.Faults.{Shape, Level}
 use Rattle.form.specs.Trees.{no-fields, field, no-params, param, simple}
 use Rattle.form.specs.Form.{level, levelFields, levelTys}
-use Rattle.form.specs.Layout.{tSimple, tContext, tFunction, ofType, kindOf, operandsT, operands}
+use Rattle.form.specs.Layout.{tContext, tFunction, ofType, kindOf, operandsT, operands}
 use Rattle.form.specs.Read.{readT, readRun, readNamed, readTys, readFields, ascending}
-use Rattle.form.specs.Walks.{walkOf, walkBy}
+use Rattle.form.specs.Walks.{walkBy}
 use Rattle.form.proofs.Runs.{RunInv, run-start}
 use Rattle.form.proofs.Told.{told-stop, told-ended, told-parent, ample, scant, part-room}
 use Rattle.form.proofs.Loops.{fits, items-short, items-walk, items-fault, items-end, names-end, names-none, names-fall, names-short}
 use Rattle.form.proofs.Loops.{names-walk, names-fault}
-use Rattle.form.proofs.Commands.{kind-simple, width-is}
+use Rattle.form.proofs.Commands.{kind-simple}
 use Rattle.form.proofs.TypeLaws.{simple-level, fields-law, fields-flat, tys-law, tys-flat, t-none, t-level, t-short, t-other}
 use Rattle.form.proofs.TypeLaws.{t-simple, t-one-run, t-context, t-function}
 

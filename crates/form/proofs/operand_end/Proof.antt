@@ -7,8 +7,6 @@ use Rattle.form.proofs.operand_end.Lts as lts
 use mathlib.Core.Path.{sym, ap}
 use borrow.Author.Tests.{ne-eqb}
 use Rattle.form.specs.Walks.{operandEnd}
-use borrow.Author.Needs.{needs}
-use native.Mathlib.Omega.{arith}
 
 pub operand-end-spec : {M : Type 1} → statement M
 operand-end-spec =

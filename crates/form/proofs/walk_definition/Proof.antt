@@ -10,10 +10,9 @@ use Rattle.form.proofs.larger.Reads as larger-reads
 use Rattle.form.proofs.walk_type.Reads as walk-type-reads
 use borrow.Author.Needs.{needs}
 use native.Mathlib.Omega.{arith}
-use mathlib.Core.Path.{_≡_, refl, sym, ap, _∙_}
-use mathlib.Core.List.{List}
-use lib.ListN.{length, getD, take, drop}
-use Prim.Native.Nat.{ℕ, _+_, _-_, _<_, _≤_}
+use mathlib.Core.Path.{refl, sym, ap}
+use lib.ListN.{length}
+use Prim.Native.Nat.{ℕ, _+_, _-_}
 use Rattle.form.specs.Limits.{nameWidth}
 use Rattle.form.specs.Trees.{no-parameters, parameter}
 use Rattle.form.specs.Form.{numAt, level, levelParams}

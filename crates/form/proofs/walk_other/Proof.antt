@@ -13,10 +13,10 @@ use Rattle.form.proofs.walk_types.Reads as walk-types-reads
 use Rattle.form.proofs.wide.Reads as wide-reads
 use Rattle.form.proofs.width.Reads as width-reads
 use native.Mathlib.Omega.{arith}
-use mathlib.Core.Path.{_≡_, refl, sym, ap, _∙_}
+use mathlib.Core.Path.{refl}
 use mathlib.Core.List.{List}
-use lib.ListN.{length, getD, take, drop}
-use Prim.Native.Nat.{ℕ, _+_, _-_, _<_, _≤_}
+use lib.ListN.{length, getD}
+use Prim.Native.Nat.{ℕ, _-_}
 use Rattle.form.specs.Faults.{Shape, Level}
 use Rattle.form.specs.Form.{level, levelParams, levelTys}
 use Rattle.form.specs.Layout.{kNull, kBoolean, kRange, kList, kContext, kDefinition, kBuiltIn, kType, kIrrelevant, ofValue, kindOf, operands, operandsV}

@@ -1,10 +1,10 @@
 -- `form::width` meets its contract: the table agrees with the layout by a test at each of its 46 entries, which is computed.
 -- Assumes nothing.
-use mathlib.Core.Path.{_≡_, sym, ap, _∙_, refl}
+use mathlib.Core.Path.{sym}
 use mathlib.Core.List.{List, [], _∷_}
 use mathlib.Core.Bool.{Bool}
-use Prim.Native.Nat.{ℕ, _<_, _≤_}
-use lib.Dec.{T, eqb, ltb, eqb→eq, ltb→lt}
+use Prim.Native.Nat.{ℕ, _<_}
+use lib.Dec.{eqb, ltb, eqb→eq, ltb→lt}
 use lib.ListN.{getD}
 use native.Mathlib.Omega.{arith}
 use borrow.Author.Needs.{needs}

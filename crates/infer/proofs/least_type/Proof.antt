@@ -8,9 +8,8 @@ use Rattle.infer.proofs.least_type.Lts as lts
 use Rattle.form.proofs.check_value.Reads as check-value-reads
 use Rattle.infer.proofs.build.Reads as build-reads
 use Rattle.infer.proofs.is_data.Reads as is-data-reads
-use native.Mathlib.Omega.{arith}
 use mathlib.Core.Path.{sym, ap, _∙_}
-use mathlib.Core.Bool.{true, false}
+use mathlib.Core.Bool.{true}
 use Rattle.form.specs.Answers.{checked}
 use Rattle.values.proofs.Calling.{value-refused}
 use Rattle.infer.proofs.Calling.{fine, fine-ok, ask, is-data, least-refused, least-other, least-done}

@@ -7,9 +7,8 @@ use Rattle.infer.proofs.type_of.Reads as reads
 use Rattle.infer.proofs.type_of.Lts as lts
 use Rattle.form.proofs.check_value.Reads as check-value-reads
 use Rattle.infer.proofs.build.Reads as build-reads
-use native.Mathlib.Omega.{arith}
 use mathlib.Core.Path.{sym, ap, _∙_}
-use mathlib.Core.Bool.{true, false, true≢false}
+use mathlib.Core.Bool.{false, true≢false}
 use Rattle.form.specs.Answers.{checked}
 use Rattle.values.proofs.Calling.{value-refused}
 use Rattle.infer.proofs.Calling.{fine, ask, type-refused, type-done}

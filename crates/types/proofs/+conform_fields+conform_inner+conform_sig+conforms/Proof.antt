@@ -27,7 +27,7 @@ use Rattle.types.proofs.+conform_fields+conform_inner+conform_sig+confo
 use Rattle.types.proofs.+conform_fields+conform_inner+conform_sig+conforms.Tie.{close}
 use borrow.Author.Needs.{needs}
 use native.Mathlib.Omega.{arith}
-use mathlib.Core.Path.{_≡_, refl, sym, _∙_}
+use mathlib.Core.Path.{refl, sym, _∙_}
 use mathlib.Core.Logic.{⊎-elim, inl, inr}
 use lib.Dec.{eqb}
 use lib.ListN.{length}

@@ -9,7 +9,6 @@ use Rattle.check.proofs.same.Reads as same-reads
 use Rattle.types.proofs.skip.Reads as skip-reads
 use mathlib.Core.Bool.{true≢false}
 use mathlib.Core.Path.{sym, _∙_}
-use native.Mathlib.Omega.{arith}
 use Rattle.form.proofs.Whole.{bytes-of}
 use Rattle.types.specs.Calls.{instanceOf}
 use Rattle.types.proofs.Instances.{list-short, list-apart, list-over, list-any, list-same, list-differ}

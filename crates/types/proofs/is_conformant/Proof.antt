@@ -14,7 +14,6 @@ use Rattle.form.specs.Read.{readType}
 use Rattle.types.specs.Calls.{isConformant}
 use Rattle.types.proofs.Asking.{first-refused, second-refused, asked-yes, asked-no}
 use Rattle.types.proofs.Calling.{was-refused, was-accepted}
-use native.Mathlib.Omega.{arith}
 
 -- src/lib.rt:259:8
 passes-requires : tie.Need-passes-requires

@@ -7,7 +7,6 @@ use Rattle.types.proofs.is_instance.Reads as reads
 use Rattle.types.proofs.is_instance.Lts as lts
 use Rattle.types.proofs.instance_context.Reads as instance-context-reads
 use Rattle.types.proofs.instance_list.Reads as instance-list-reads
-use native.Mathlib.Omega.{arith}
 use Rattle.order.specs.Document.{isInstanceOf}
 use Rattle.types.specs.Calls.{instanceOf}
 use Rattle.types.proofs.Asking.{long-first, long-second}

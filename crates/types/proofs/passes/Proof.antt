@@ -11,7 +11,6 @@ use Rattle.order.specs.Types.{le}
 use Rattle.types.specs.Calls.{isConformant}
 use Rattle.types.proofs.Asking.{long-first, long-second, apart, over-first, told-whole}
 use Rattle.types.proofs.Calling.{whole-type}
-use native.Mathlib.Omega.{arith}
 
 -- src/lib.rt:239:9
 returns : tie.Need-returns

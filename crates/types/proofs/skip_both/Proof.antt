@@ -8,7 +8,6 @@ use Rattle.types.proofs.skip_both.Lts as lts
 use Rattle.types.proofs.skip.Reads as skip-reads
 use Rattle.types.specs.Conform.{anyTwo}
 use Rattle.types.proofs.Passing.{sized, unsized, two-read, never}
-use native.Mathlib.Omega.{arith}
 
 -- src/lib.rt:56:9
 skip-requires : tie.Need-skip-requires

@@ -26,7 +26,8 @@ use native.Mathlib.Omega.{arith}
 use mathlib.Core.Path.{_≡_, refl, sym, ap, _∙_}
 use lib.ListN.{length, length-drop}
 use Rattle.form.proofs.Whole.{bytes-of}
-use Rattle.types.proofs.Reading.{is-ok, rest, ok-got}
+use Rattle.form.proofs.Runs.{rest}
+use Rattle.types.proofs.Reading.{is-ok, ok-got}
 use Rattle.paths.proofs.Whole.{ctx-ok, whole-is}
 use Rattle.paths.proofs.Searching.{Hit, hit, hit-whole, hit-inside, hit-start, Miss, miss, WholeContext, whole-context}
 use Rattle.updates.specs.Writing.{Small}

@@ -23,7 +23,7 @@ use Rattle.values.proofs.skip.Reads as skip-reads′
 use Rattle.values.proofs.+conform_entries+conform_items+conforms.{statement}
 use Rattle.values.proofs.+conform_entries+conform_items+conforms.Tie.{close}
 use native.Mathlib.Omega.{arith}
-use mathlib.Core.Path.{refl, sym, _∙_}
+use mathlib.Core.Path.{refl}
 use mathlib.Core.Logic.{⊎-elim}
 use lib.ListN.{length}
 use Rattle.form.specs.Limits.{nameWidth}

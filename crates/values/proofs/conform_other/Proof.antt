@@ -10,8 +10,7 @@ use Rattle.form.proofs.wide.Reads as wide-reads
 use Rattle.types.proofs.skip.Reads as skip-reads
 use Rattle.values.proofs.conform_definition.Reads as conform-definition-reads
 use Rattle.values.proofs.skip.Reads as skip-reads′
-use Prim.Native.Nat.{_-_, _<_}
-use mathlib.Core.Path.{_≡_, refl, sym, _∙_}
+use Prim.Native.Nat.{_-_}
 use native.Mathlib.Omega.{arith}
 use Rattle.form.proofs.Told.{part-room}
 use Rattle.order.specs.Inferred.{valueConformsTo}

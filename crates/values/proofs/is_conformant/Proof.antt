@@ -16,7 +16,6 @@ use Rattle.types.proofs.Asking.{first-refused, second-refused, asked-yes, asked
 use Rattle.types.proofs.Calling.{was-refused, was-accepted}
 use Rattle.values.specs.Calls.{isConformant}
 use Rattle.values.proofs.Calling.{value-refused, value-accepted}
-use native.Mathlib.Omega.{arith}
 
 -- src/lib.rt:325:8
 passes-requires : tie.Need-passes-requires

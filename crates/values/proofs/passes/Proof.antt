@@ -11,7 +11,6 @@ use Rattle.types.proofs.Asking.{long-first, long-second, apart, over-first, tol
 use Rattle.types.proofs.Calling.{whole-type}
 use Rattle.values.specs.Calls.{isConformant}
 use Rattle.values.proofs.Calling.{whole-value}
-use native.Mathlib.Omega.{arith}
 
 -- src/lib.rt:305:9
 returns : tie.Need-returns
