@@ -20,7 +20,8 @@ use Rattle.form.specs.declared.Checked.{Checked}
 use Rattle.form.specs.declared.Checked.the-variants as checked-is
 use Rattle.form.specs.declared.Written.{Written}
 use Rattle.form.specs.declared.Written.the-variants as written-is
-use Rattle.form.proofs.Accepted.{Accepted, refused-done, level-told, level-refused}
+use Rattle.form.specs.ByteForm.{Accepted}
+use Rattle.form.proofs.Accepted.{refused-done, level-told, level-refused}
 use Rattle.form.proofs.ExactValues.{enc-readV, read-encV}
 use Rattle.form.proofs.Exact.{bytes-drop}
 use Rattle.form.proofs.Values.{read-upV, value-accepted, value-accepts, ValueTold, value-told, encV-same, encV-some}

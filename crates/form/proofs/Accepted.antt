@@ -12,13 +12,8 @@ use Rattle.form.specs.Limits.{mostBytes}
 use Rattle.form.specs.Outcome.{Outcome, done, refused, _>>=_, _>>_, pick, check}
 use Rattle.form.specs.Form.{Bytes}
 use Rattle.form.specs.Read.{Got, got, bad, all, readWhole}
+use Rattle.form.specs.ByteForm.{Accepted}
 use Rattle.form.proofs.Exact.{Sound, Found, got-parts}
-
-pub record Accepted {X : Type 0} (enc : X → List ℕ) (good : X → Type 0) (lv : X → ℕ) (most : ℕ) (s : List ℕ) (x : X) : Type 0 where
-  pub bytes : s ≡ enc x
-  pub well : good x
-  pub low : lv x ≤ most
-  pub short : length s ≤ mostBytes
 
 pub refused-done : {X : Type 0} {n : ℕ} {x : X} → refused n ≡ done x → ⊥
 refused-done e = let z : _≡_ {A = ℕ} 0 1 = cc in omega arith

@@ -1,7 +1,9 @@
--- Without the limit on levels there is no refusal for a level.
+-- A type of any size: the reader without limits refuses for no level and no length, and an accepted type is one within the limits.
+-- Idea: as many levels as bytes are enough, since every level takes a byte (`read-fair`).
 -- Assumes nothing.
-use Prim.Native.Nat.{ℕ, zero, suc, _+_, _-_, _≤_}
-use mathlib.Core.Path.{_≡_}
+use Prim.Native.Nat.{ℕ, zero, suc, _+_, _-_, _<_, _≤_}
+use mathlib.Core.Path.{_≡_, sym}
+use mathlib.Core.Logic.{_↔_, _⊎_, inl, inr}
 use mathlib.Core.Bool.{Bool, true, false}
 use mathlib.Core.List.{List, [], _∷_}
 use native.Mathlib.Omega.{arith}
@@ -9,12 +11,15 @@ use lib.ListN.{length, take, drop, length-drop}
 use lib.Dec.{leb, eqb}
 use Rattle.form.specs.Trees.{Ty, built, list, range, context, function, no-fields, field, no-params, param}
 use Rattle.form.specs.Layout.{TypeKind, tSimple, tList, tRange, tContext, tFunction, Kind, ofValue, ofType, noCommand, kindOf}
-use Rattle.form.specs.Limits.{nameWidth, typeRefusals}
+use Rattle.form.specs.Limits.{nameWidth, mostBytes, typeLevels, typeRefusals}
 use Rattle.form.specs.Outcome.{done, refused, pick}
-use Rattle.form.specs.Form.{num}
+use Rattle.form.specs.Form.{Bytes, num, level}
 use Rattle.form.specs.Read.{Got, got, bad, front, andThen, orElse, operand, named, readRun, readNamed, readFields, readTys, ascending, counted, readFunction, stepType, stepT, readT, numberOf}
-use Rattle.form.specs.Read.{all, readAnyType}
+use Rattle.form.specs.Read.{all, readType, readAnyType}
 use Rattle.form.specs.Faults.{Fault, Shape, Names, Level}
+use Rattle.form.proofs.Accepted.{refused-done}
+use Rattle.form.proofs.Refused.{refused-same}
+use Rattle.form.proofs.Types.{type-accepted, type-accepts, any-exact, any-same}
 
 -- a fault that is not of the level
 abbrev pub Mild : Fault → Type 0
@@ -95,18 +100,31 @@ read-fair zero (b ∷ s) h = absurd (omega arith)
 read-fair (suc l) [] h = tt
 read-fair (suc l) (b ∷ s) h = step-fair (readT l) l (read-fair l) (kindOf b) b s (omega arith)
 
-all-fair : {X : Type 0} (n : ℕ) (r : Got X) → Fair r → all typeRefusals n r ≡ refused 9 → ⊥
+all-fair : {X : Type 0} (n m : ℕ) (r : Got X) → Fair r → all typeRefusals n r ≡ refused m → (m ≡ 7) ⊎ ((m ≡ 8) ⊎ (m ≡ 10))
 unfolding all numberOf
-all-fair n (got x m) h e = go (eqb m n) e
+all-fair n m (got x k) h e = go (eqb k n) e
   where
-    go : (b : Bool) → pick b (done x) (refused 10) ≡ refused 9 → ⊥
-    go true q = absurd (let z : _≡_ {A = ℕ} 0 1 = cc in omega arith)
-    go false q = absurd (let z : _≡_ {A = ℕ} 10 9 = cc in omega arith)
-all-fair n (bad Shape) h e = absurd (let z : _≡_ {A = ℕ} 7 9 = cc in omega arith)
-all-fair n (bad Names) h e = absurd (let z : _≡_ {A = ℕ} 8 9 = cc in omega arith)
-all-fair n (bad Level) h e = absurd h
+    go : (b : Bool) → pick b (done x) (refused 10) ≡ refused m → (m ≡ 7) ⊎ ((m ≡ 8) ⊎ (m ≡ 10))
+    go true q = absurd (refused-done (sym q))
+    go false q = inr (inr (sym (refused-same q)))
+all-fair n m (bad Shape) h e = inl (sym (refused-same e))
+all-fair n m (bad Names) h e = inr (inl (sym (refused-same e)))
+all-fair n m (bad Level) h e = absurd h
 
 -- a type of any size is refused for 7, 8 or 10 only
-pub any-no-level : (s : List ℕ) → readAnyType s ≡ refused 9 → ⊥
+pub any-numbers : (s : List ℕ) (n : ℕ) → readAnyType s ≡ refused n → (n ≡ 7) ⊎ ((n ≡ 8) ⊎ (n ≡ 10))
 unfolding readAnyType
-any-no-level s e = all-fair (length s) (readT (length s) s) (read-fair (length s) s (omega arith)) e
+any-numbers s n e = all-fair (length s) n (readT (length s) s) (read-fair (length s) s (omega arith)) e
+
+-- no bytes are no type
+pub any-some : (s : List ℕ) (t : Ty) → readAnyType s ≡ done t → 0 < length s
+unfolding readAnyType readT all
+any-some [] t e = absurd (refused-done e)
+any-some (b ∷ s) t e = omega arith
+
+-- an accepted type is exactly a type of any size within the limits
+pub accepted-any : (s : List ℕ) → Bytes s → (t : Ty) → (readType s ≡ done t) ↔ ((readAnyType s ≡ done t) × ((level t ≤ typeLevels) × (length s ≤ mostBytes)))
+accepted-any s bs t = (
+  λ e. let A = type-accepted s bs t e in (any-same s bs t e, (A .low, A .short)),
+  λ h. let a = any-exact s bs t .0 (h .0) in type-accepts s t (record { bytes = a .0; well = a .1; low = h .1 .0; short = h .1 .1 }),
+)

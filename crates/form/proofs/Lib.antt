@@ -11,6 +11,8 @@ pub mod Exact
 pub mod ExactTypes
 pub mod ExactValues
 pub mod Accepted
+pub mod Refused
+pub mod Answered
 pub mod Types
 pub mod Values
 pub mod AnySize
@@ -18,4 +20,4 @@ pub mod Fuel
 pub mod Nodes
 pub mod Leaves
 pub mod Encoded
-pub mod Laws
+pub mod ByteForm

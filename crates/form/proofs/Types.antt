@@ -14,7 +14,8 @@ use Rattle.form.specs.Form.{bytes, Bytes, enc, encBuilt, encFields, encT
 use Rattle.form.specs.Read.{got, bad, readT, readType, readAnyType, checkType}
 use Rattle.form.proofs.Exact.{Found, found-inside, length-front}
 use Rattle.form.proofs.ExactTypes.{read-enc, enc-read}
-use Rattle.form.proofs.Accepted.{Accepted, all-parts, all-got, found-whole, whole-accepted, whole-accepts, read-same, level-told}
+use Rattle.form.specs.ByteForm.{Accepted}
+use Rattle.form.proofs.Accepted.{all-parts, all-got, found-whole, whole-accepted, whole-accepts, read-same, level-told}
 
 pub enc-some : (t : Ty) → 0 < length (enc t)
 unfolding enc

@@ -14,7 +14,8 @@ use Rattle.form.specs.Form.{Bytes, encLeaf, encV, levelV, WfV}
 use Rattle.form.specs.Read.{got, readV, readValue, checkValue}
 use Rattle.form.proofs.Exact.{Found, found-inside}
 use Rattle.form.proofs.ExactValues.{read-encV, enc-readV}
-use Rattle.form.proofs.Accepted.{Accepted, whole-accepted, whole-accepts, read-same, level-told}
+use Rattle.form.specs.ByteForm.{Accepted}
+use Rattle.form.proofs.Accepted.{whole-accepted, whole-accepts, read-same, level-told}
 
 pub encV-some : (v : Val) → 0 < length (encV v)
 unfolding encV encLeaf

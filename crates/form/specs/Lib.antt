@@ -7,4 +7,4 @@ pub mod Faults
 pub mod Read
 pub mod Answers
 pub mod Walks
-pub mod Examples
+pub mod ByteForm

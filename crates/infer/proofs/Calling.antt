@@ -17,7 +17,7 @@ use Rattle.form.specs.Read.{readV, readValue, checkValue}
 use Rattle.form.specs.Answers.{onto, Built}
 use Rattle.form.specs.declared.Written.{Written}
 use Rattle.form.specs.declared.Written.the-variants as written-is
-use Rattle.form.proofs.Accepted.{Accepted}
+use Rattle.form.specs.ByteForm.{Accepted}
 use Rattle.form.proofs.ExactValues.{read-encV}
 use Rattle.form.specs.Answers.{checked}
 use Rattle.form.specs.declared.Checked.{Checked}

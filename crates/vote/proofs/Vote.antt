@@ -1,34 +1,40 @@
 -- The statements of the vote hold.
+-- Idea: what was accepted is the encoding of a well-formed tree (`byte-form`), so each statement is a theorem on trees; and a call that answered has passed every line
+-- of its definition, one law for each kind of line (`bind-done`, `check-done`, `fits-done`).
 -- Assumes nothing.
-use Prim.Native.Nat.{ℕ, _+_, _*_, _<_, _≤_, max}
+use Prim.Native.Nat.{ℕ, _+_, _<_, _≤_}
 use native.Mathlib.Omega.{arith}
-use mathlib.Core.Path.{_≡_, refl, sym, ap, subst, _∙_}
-use mathlib.Core.Bool.{Bool, true, false}
+use mathlib.Core.Path.{_≡_, refl, sym, ap, ap₂, subst, _∙_}
+use mathlib.Core.Bool.{Bool, true}
 use mathlib.Core.Logic.{_↔_}
 use mathlib.Core.List.{List}
 use lib.ListN.{length}
 use lib.Dec.{leb}
-use borrow.Author.Tests.{le-leb}
-use Rattle.form.specs.Outcome.{Outcome, done, refused, _>>=_, _>>_, pick, check, fits}
+use borrow.Author.Tests.{le-leb, leb-true}
+use Rattle.form.specs.Outcome.{done, _>>=_, _>>_, check, fits}
 use Rattle.form.specs.Limits.{valueLevels, typeLevels, mostBytes}
 use Rattle.form.specs.Trees.{Ty, Val}
 use Rattle.form.specs.Form.{Bytes, enc, encV, level, levelV, Wf, WfV}
 use Rattle.form.specs.Read.{readType, readValue}
-use Rattle.form.proofs.Accepted.{Accepted}
+use Rattle.form.specs.ByteForm.{Accepted}
+use Rattle.form.proofs.Answered.{done-same, bind-done, check-done, fits-done}
+use Rattle.form.proofs.ByteForm.{byte-form}
 use Rattle.form.proofs.Encoded.{bytes-enc}
 use Rattle.form.proofs.Types.{enc-same, type-exact, any-exact, any-same}
 use Rattle.form.proofs.Values.{value-exact}
 use Rattle.order.specs.Order.{fixed}
-use Rattle.order.specs.Document.{conformsTo, reducedForm, supertype}
+use Rattle.order.specs.Document.{conformsTo, reducedForm, supertype, subtype, eqTy}
 use Rattle.order.specs.Inferred.{valueConformsTo, isData, leastType}
+use Rattle.order.proofs.Dmn.{eq-bytes}
 use Rattle.order.proofs.Size.{length-enc, size-reduce}
 use Rattle.order.proofs.Theorems.{document}
 use Rattle.order.proofs.ValueTheorems.{document-values}
 use Rattle.types.specs.Calls as types
-use Rattle.bounds.specs.Calls.{commonSupertype, reducedCall}
+use Rattle.bounds.specs.Calls.{combined, reducedCall}
 use Rattle.values.specs.Calls as values
 use Rattle.infer.specs.Calls.{wanted, leastTypeCall}
-use Rattle.vote.specs.Vote.{AcceptedValue, DataValue, AcceptedType, AnyType, LeastAnswered, SupertypeAnswered, ReducedAnswered, LeastUpperBound, Vote}
+use Rattle.vote.specs.Vote.{DataValue, AcceptedType, AnyType, LeastAnswered, ReducedAnswered, TypesCompared, ValueCompared, LeastDue, BoundDue, ReducedDue}
+use Rattle.vote.specs.Vote.{LeastUpperBound, GreatestLowerBound, Vote}
 
 -- ---- what was accepted
 accepted-value : (v : DataValue) → Accepted encV WfV levelV valueLevels (v .bytes) (v .value)
@@ -93,6 +99,25 @@ bound-of a b =
       first = above .0;
       second = above .1;
       least = λ t. document .supertype-least (a .type) (b .type) (t .type);
+      reduced = document .supertype-reduced (a .type) (b .type);
+    }
+
+wf-sub : (a b : AcceptedType) → Wf (subtype (a .type) (b .type))
+wf-sub a b =
+    let l = long-type a in
+    let m = long-type b in
+    document .subtype-well-formed (a .type) (b .type) (accepted-type a .well) (accepted-type b .well) (omega (arith, l .0, l .1, m .0, m .1))
+
+below-of : (a b : AcceptedType) → GreatestLowerBound a b (enc (subtype (a .type) (b .type)))
+below-of a b =
+    let below = document .subtype-below (a .type) (b .type) (accepted-type a .well) (accepted-type b .well) in
+    record {
+      bound = any-of (subtype (a .type) (b .type)) (wf-sub a b);
+      is = refl;
+      first = below .0;
+      second = below .1;
+      greatest = λ t. document .subtype-greatest (a .type) (b .type) (t .type);
+      reduced = document .subtype-reduced (a .type) (b .type);
     }
 
 each : (a b : AnyType)
@@ -103,69 +128,130 @@ each a b =
       λ p. e .1 (enc-same (reducedForm (a .type)) (reducedForm (b .type)) (document .reduced-well-formed (a .type) (wf-any a)) (document .reduced-well-formed (b .type) (wf-any b)) p),
     )
 
--- ---- the calls
-done-same : {X : Type 0} {x y : X} → done x ≡ done y → x ≡ y
-done-same e = cc
+-- ---- the calls: an answer is due exactly where every line of the definition is passed
+types-compared : (a b : List ℕ) (yes : Bool) → (types.isConformant a b ≡ done yes) ↔ TypesCompared a b yes
+unfolding types.isConformant
+types-compared a b yes = (
+  λ e.
+      bind-done (readType a) _ yes e (λ s p f.
+      bind-done (readType b) _ yes f (λ t q g.
+      record { first = s; second = t; first-read = p; second-read = q; is = sym (done-same g) })),
+  back,
+)
+  where
+    back : TypesCompared a b yes → types.isConformant a b ≡ done yes
+    unfolding _>>=_
+    back C = rw (C .first-read, C .second-read) (ap done (sym (C .is)))
 
--- what fits is what was answered
-fits-is : (q : Bool) (n : ℕ) (x y : List ℕ) → pick q (done x) (refused n) ≡ done y → y ≡ x
-fits-is true n x y e = cc
-fits-is false n x y e = absurd (let z : _≡_ {A = ℕ} 0 1 = cc in omega arith)
-
--- and behind a check that was passed
-check-fits : (q r : Bool) (n m : ℕ) (x y : List ℕ) → _>>_ (check n q) (pick r (done x) (refused m)) ≡ done y → y ≡ x
-unfolding _>>_
-check-fits true r n m x y e = fits-is r m x y e
-check-fits false r n m x y e = absurd (let z : _≡_ {A = ℕ} 0 1 = cc in omega arith)
-
--- a call on what was accepted, behind its reads and what is asked of the value
-least-call : (v : DataValue) (scratch room : ℕ)
-    → leastTypeCall (v .bytes) scratch room ≡ _>>_ (check 14 (leb (wanted (v .bytes)) scratch)) (fits room (enc (leastType (v .value))))
-unfolding leastTypeCall _>>=_ _>>_
-least-call v scratch room = rw (v .accepted, v .data-only)
-
-super-call : (a b : AcceptedType) (scratch room : ℕ)
-    → commonSupertype (a .bytes) (b .bytes) scratch room ≡ _>>_ (check 14 (leb (length (a .bytes) + length (b .bytes)) scratch)) (fits room (enc (supertype (a .type) (b .type))))
-unfolding _>>=_ _>>_
-super-call a b scratch room = rw (a .accepted, b .accepted)
-
-reduced-call : (t : AcceptedType) (room : ℕ) → reducedCall (t .bytes) room ≡ fits room (enc (reducedForm (t .type)))
-unfolding _>>=_
-reduced-call t room = rw (t .accepted)
-
-conform-call : (a b : AcceptedType) → types.isConformant (a .bytes) (b .bytes) ≡ done (conformsTo (a .type) (b .type))
-unfolding types.isConformant _>>=_
-conform-call a b = rw (a .accepted, b .accepted)
-
-held-call : (v t : List ℕ) (x : Val) (y : Ty) → readValue v ≡ done x → readType t ≡ done y → values.isConformant v t ≡ done (valueConformsTo x y)
-unfolding values.isConformant _>>=_
-held-call v t x y p q = rw (p, q)
+value-compared : (v t : List ℕ) (yes : Bool) → (values.isConformant v t ≡ done yes) ↔ ValueCompared v t yes
+unfolding values.isConformant
+value-compared v t yes = (
+  λ e.
+      bind-done (readValue v) _ yes e (λ w p f.
+      bind-done (readType t) _ yes f (λ u q g.
+      record { value = w; type = u; value-read = p; type-read = q; is = sym (done-same g) })),
+  back,
+)
+  where
+    back : ValueCompared v t yes → values.isConformant v t ≡ done yes
+    unfolding _>>=_
+    back C = rw (C .value-read, C .type-read) (ap done (sym (C .is)))
 
 -- a check that is passed and an answer that fits
-passed : (n m scratch room : ℕ) (x : List ℕ) → n ≤ scratch → length x ≤ room → _>>_ (check m (leb n scratch)) (fits room x) ≡ done x
+passed : (n m scratch room : ℕ) (x y : List ℕ) → n ≤ scratch → length x ≤ room → y ≡ x → _>>_ (check m (leb n scratch)) (fits room x) ≡ done y
 unfolding _>>_
-passed n m scratch room x h k = rw (le-leb n scratch h, le-leb (length x) room k)
+passed n m scratch room x y h k e = rw (le-leb n scratch h, le-leb (length x) room k) (ap done (sym e))
+
+least-due : (v : List ℕ) (scratch room : ℕ) (a : List ℕ) → (leastTypeCall v scratch room ≡ done a) ↔ LeastDue v scratch room a
+unfolding leastTypeCall
+least-due v scratch room a = (
+  λ e.
+      bind-done (readValue v) _ a e (λ w p f.
+      check-done 13 (isData w) _ a f (λ d g.
+      check-done 14 (leb (wanted v) scratch) _ a g (λ c h.
+      fits-done room (enc (leastType w)) a h (λ r i.
+      record { value = w; read = p; data-only = d; scratch-suffices = leb-true (wanted v) scratch c; room-suffices = r; is = i })))),
+  back,
+)
+  where
+    back : LeastDue v scratch room a → leastTypeCall v scratch room ≡ done a
+    unfolding _>>=_ _>>_
+    back D = rw (D .read, D .data-only) (passed (wanted v) 14 scratch room (enc (leastType (D .value))) a (D .scratch-suffices) (D .room-suffices) (D .is))
+
+bound-due : (of : Ty → Ty → Ty) (a b : List ℕ) (scratch room : ℕ) (s : List ℕ) → (combined of a b scratch room ≡ done s) ↔ BoundDue of a b scratch room s
+bound-due of a b scratch room s = (
+  λ e.
+      bind-done (readType a) _ s e (λ t p f.
+      bind-done (readType b) _ s f (λ u q g.
+      check-done 14 (leb (length a + length b) scratch) _ s g (λ c h.
+      fits-done room (enc (of t u)) s h (λ r i.
+      record { first = t; second = u; first-read = p; second-read = q; scratch-suffices = leb-true (length a + length b) scratch c; room-suffices = r; is = i })))),
+  back,
+)
+  where
+    back : BoundDue of a b scratch room s → combined of a b scratch room ≡ done s
+    unfolding _>>=_
+    back D = rw (D .first-read, D .second-read)
+        (passed (length a + length b) 14 scratch room (enc (of (D .first) (D .second))) s (D .scratch-suffices) (D .room-suffices) (D .is))
+
+reduced-due : (t : List ℕ) (room : ℕ) (a : List ℕ) → (reducedCall t room ≡ done a) ↔ ReducedDue t room a
+reduced-due t room a = (
+  λ e.
+      bind-done (readType t) _ a e (λ u p f.
+      fits-done room (enc (reducedForm u)) a f (λ r i.
+      record { type = u; read = p; room-suffices = r; is = i })),
+  back,
+)
+  where
+    back : ReducedDue t room a → reducedCall t room ≡ done a
+    unfolding _>>=_
+    back D = rw (D .read, le-leb (length (enc (reducedForm (D .type)))) room (D .room-suffices)) (ap done (sym (D .is)))
+
+-- ---- and of what was accepted
+conform-call : (a b : AcceptedType) → types.isConformant (a .bytes) (b .bytes) ≡ done (conformsTo (a .type) (b .type))
+conform-call a b =
+    types-compared (a .bytes) (b .bytes) (conformsTo (a .type) (b .type)) .1
+    (record { first = a .type; second = b .type; first-read = a .accepted; second-read = b .accepted; is = refl })
+
+held-call : (v : DataValue) (t : AcceptedType) → values.isConformant (v .bytes) (t .bytes) ≡ done (valueConformsTo (v .value) (t .type))
+held-call v t =
+    value-compared (v .bytes) (t .bytes) (valueConformsTo (v .value) (t .type)) .1
+    (record { value = v .value; type = t .type; value-read = v .accepted; type-read = t .accepted; is = refl })
 
 least-is : (v : DataValue) (a : List ℕ) → LeastAnswered (v .bytes) a → a ≡ enc (leastType (v .value))
 least-is v a A =
-    check-fits (leb (wanted (v .bytes)) (A .scratch)) (leb (length (enc (leastType (v .value)))) (A .room)) 14 18 (enc (leastType (v .value))) a
-    (sym (least-call v (A .scratch) (A .room)) ∙ A .answered)
+    let D = least-due (v .bytes) (A .scratch) (A .room) a .0 (A .answered) in
+    D .is ∙ ap (λ w. enc (leastType w)) (done-same (sym (D .read) ∙ v .accepted))
 
-super-is : (a b : AcceptedType) (s : List ℕ) → SupertypeAnswered (a .bytes) (b .bytes) s → s ≡ enc (supertype (a .type) (b .type))
-super-is a b s A =
-    check-fits (leb (length (a .bytes) + length (b .bytes)) (A .scratch)) (leb (length (enc (supertype (a .type) (b .type)))) (A .room)) 14 18 (enc (supertype (a .type) (b .type))) s
-    (sym (super-call a b (A .scratch) (A .room)) ∙ A .answered)
+bound-is : (of : Ty → Ty → Ty) (a b : AcceptedType) (scratch room : ℕ) (s : List ℕ) → combined of (a .bytes) (b .bytes) scratch room ≡ done s → s ≡ enc (of (a .type) (b .type))
+bound-is of a b scratch room s e =
+    let D = bound-due of (a .bytes) (b .bytes) scratch room s .0 e in
+    D .is ∙ ap₂ (λ t u. enc (of t u)) (done-same (sym (D .first-read) ∙ a .accepted)) (done-same (sym (D .second-read) ∙ b .accepted))
 
 reduced-is : (t : AcceptedType) (x : List ℕ) → ReducedAnswered (t .bytes) x → x ≡ enc (reducedForm (t .type))
-reduced-is t x A = fits-is (leb (length (enc (reducedForm (t .type)))) (A .room)) 18 (enc (reducedForm (t .type))) x (sym (reduced-call t (A .room)) ∙ A .answered)
+reduced-is t x A =
+    let D = reduced-due (t .bytes) (A .room) x .0 (A .answered) in
+    D .is ∙ ap (λ u. enc (reducedForm u)) (done-same (sym (D .read) ∙ t .accepted))
 
 -- the least type that was answered, as an accepted type
 abbrev least-accepted : DataValue → AcceptedType
 least-accepted v = record { bytes = enc (leastType (v .value)); are-bytes = bytes-enc (leastType (v .value)) (wf-least v); type = leastType (v .value); accepted = least-read v }
 
+-- equal trees of any size are equal bytes
+same-bytes : (a b : AnyType) → (eqTy (a .type) (b .type) ≡ true) ↔ (a .bytes ≡ b .bytes)
+same-bytes a b =
+    let p = any-exact (a .bytes) (a .are-bytes) (a .type) .0 (a .written) in
+    let q = any-exact (b .bytes) (b .are-bytes) (b .type) .0 (b .written) in
+    let e = eq-bytes (a .type) (b .type) (p .1) (q .1) in
+    (λ h. p .0 ∙ e .0 h ∙ sym (q .0), λ h. e .1 (sym (p .0) ∙ h ∙ q .0))
+
 pub vote : Vote
 vote =
     record {
+      accepted-any = byte-form .accepted-any;
+      any-some = byte-form .any-some;
+      any-numbers = byte-form .any-numbers;
+      type-equality = same-bytes;
       equal-least-types = equal-least;
       equal-answers = λ v w a b A B.
           let p = least-is v a A in
@@ -173,13 +259,16 @@ vote =
           (λ e. equal-least v w .0 (sym p ∙ e ∙ q), λ h. p ∙ equal-least v w .1 h ∙ sym q);
       by-least-type = λ v t. document-values .by-least-type (v .value) (t .type) (v .data-only);
       answer-accepted = λ v a A. ap readType (least-is v a A) ∙ least-read v;
+      least-reduced = λ v. document-values .least-reduced (v .value);
       by-answer = λ v a A t.
-          held-call (v .bytes) (t .bytes) (v .value) (t .type) (v .accepted) (t .accepted)
+          held-call v t
           ∙ ap done (document-values .by-least-type (v .value) (t .type) (v .data-only))
           ∙ sym (conform-call (least-accepted v) t)
           ∙ ap (λ x. types.isConformant x (t .bytes)) (sym (least-is v a A));
       supertype-bound = bound-of;
-      answer-bound = λ a b s A. subst (LeastUpperBound a b) (sym (super-is a b s A)) (bound-of a b);
+      answer-bound = λ a b s A. subst (LeastUpperBound a b) (sym (bound-is supertype a b (A .scratch) (A .room) s (A .answered))) (bound-of a b);
+      subtype-bound = below-of;
+      answer-below = λ a b s A. subst (GreatestLowerBound a b) (sym (bound-is subtype a b (A .scratch) (A .room) s (A .answered))) (below-of a b);
       each-other = each;
       each-other-answers = λ a b x y A B.
           let p = reduced-is a x A in
@@ -188,12 +277,14 @@ vote =
             λ h. p ∙ e .0 (done-same (sym (conform-call a b) ∙ h .0), done-same (sym (conform-call b a) ∙ h .1)) ∙ sym q,
             λ z. let h = e .1 (sym p ∙ z ∙ q) in (conform-call a b ∙ ap done (h .0), conform-call b a ∙ ap done (h .1)),
           );
-      value-conformance = λ v t. held-call (v .bytes) (t .bytes) (v .value) (t .type) (v .accepted) (t .accepted);
-      type-conformance = conform-call;
-      least-type = λ v scratch room h k. least-call v scratch room ∙ passed (wanted (v .bytes)) 14 scratch room (enc (leastType (v .value))) h k;
-      common-supertype = λ a b scratch room h k. super-call a b scratch room ∙ passed (length (a .bytes) + length (b .bytes)) 14 scratch room (enc (supertype (a .type) (b .type))) h k;
-      reduced-form = λ t room k. reduced-call t room ∙ ap (λ q. pick q (done (enc (reducedForm (t .type)))) (refused 18)) (le-leb (length (enc (reducedForm (t .type)))) room k);
+      value-conformance = value-compared;
+      type-conformance = types-compared;
+      least-type = least-due;
+      common-supertype = bound-due supertype;
+      common-subtype = bound-due subtype;
+      reduced-form = reduced-due;
       least-room = least-long;
       supertype-room = λ a b. omega (arith, document .supertype-length (a .type) (b .type) (accepted-type a .well), long-type a .0, long-type b .0);
+      subtype-room = λ a b. omega (arith, document .subtype-length (a .type) (b .type) (accepted-type a .well), long-type a .0, long-type b .0);
       reduced-room = λ t. omega (arith, size-reduce fixed (t .type), length-enc (t .type), length-enc (reducedForm (t .type)), long-type t .0);
     }

@@ -1,20 +1,25 @@
 -- The vote: the third demand's statements over bytes, in its own order. A value or type is accepted where its reader has an answer; a type of any size is
--- what `readAnyType` answers: the same rules with no limit on length or level. Beside each statement stands what the calls answer.
+-- what `readAnyType` answers: the same rules with no limit on length or level (statement 0). Beside each statement stands what the calls answer.
+--
+-- The calls are definitions here: `types.isConformant`, `values.isConformant`, `leastTypeCall`, `commonSupertype`, `commonSubtype`, `reducedCall`, each an answer or
+-- the number of a refusal. The contracts of `types::is_conformant`, `values::is_conformant`, `infer::least_type`, `bounds::common_supertype`, `bounds::common_subtype` and
+-- `bounds::reduced`, and of the C functions over them in `feel`, equate what the code answers and writes with these definitions, for all inputs.
 -- Assumes nothing.
-use Prim.Native.Nat.{ℕ, _+_, _*_, _≤_}
+use Prim.Native.Nat.{ℕ, _+_, _*_, _<_, _≤_}
 use mathlib.Core.Path.{_≡_}
 use mathlib.Core.Bool.{Bool, true}
-use mathlib.Core.Logic.{_↔_}
+use mathlib.Core.Logic.{_↔_, _⊎_}
 use mathlib.Core.List.{List}
 use lib.ListN.{length}
-use Rattle.form.specs.Outcome.{done}
+use Rattle.form.specs.Limits.{mostBytes, typeLevels}
+use Rattle.form.specs.Outcome.{done, refused}
 use Rattle.form.specs.Trees.{Ty, Val}
-use Rattle.form.specs.Form.{Bytes, enc}
+use Rattle.form.specs.Form.{Bytes, enc, level}
 use Rattle.form.specs.Read.{readType, readValue, readAnyType}
-use Rattle.order.specs.Document.{conformsTo, reducedForm, supertype}
+use Rattle.order.specs.Document.{conformsTo, reducedForm, supertype, subtype, eqTy}
 use Rattle.order.specs.Inferred.{valueConformsTo, isData, leastType}
 use Rattle.types.specs.Calls as types
-use Rattle.bounds.specs.Calls.{commonSupertype, reducedCall}
+use Rattle.bounds.specs.Calls.{commonSupertype, commonSubtype, reducedCall}
 use Rattle.values.specs.Calls as values
 use Rattle.infer.specs.Calls.{leastTypeCall}
 
@@ -58,19 +63,81 @@ pub record SupertypeAnswered (a b answer : List ℕ) : Type 0 where
   pub room : ℕ
   pub answered : commonSupertype a b scratch room ≡ done answer
 
+pub record SubtypeAnswered (a b answer : List ℕ) : Type 0 where
+  pub scratch : ℕ
+  pub room : ℕ
+  pub answered : commonSubtype a b scratch room ≡ done answer
+
 pub record ReducedAnswered (t answer : List ℕ) : Type 0 where
   pub room : ℕ
   pub answered : reducedCall t room ≡ done answer
 
--- a type of any size to which both conform, and which conforms to every type, of any size, to which both conform
+-- ---- when an answer is due, and which: the arguments are accepted, the scratch is as long as document 01 wants it, the output has room
+pub record TypesCompared (a b : List ℕ) (yes : Bool) : Type 0 where
+  pub first : Ty
+  pub second : Ty
+  pub first-read : readType a ≡ done first
+  pub second-read : readType b ≡ done second
+  pub is : yes ≡ conformsTo first second
+
+pub record ValueCompared (v t : List ℕ) (yes : Bool) : Type 0 where
+  pub value : Val
+  pub type : Ty
+  pub value-read : readValue v ≡ done value
+  pub type-read : readType t ≡ done type
+  pub is : yes ≡ valueConformsTo value type
+
+pub record LeastDue (v : List ℕ) (scratch room : ℕ) (answer : List ℕ) : Type 0 where
+  pub value : Val
+  pub read : readValue v ≡ done value
+  pub data-only : isData value ≡ true
+  pub scratch-suffices : 4 * length v ≤ scratch
+  pub room-suffices : length (enc (leastType value)) ≤ room
+  pub is : answer ≡ enc (leastType value)
+
+-- of two types: `of` is the supertype or the subtype
+pub record BoundDue (of : Ty → Ty → Ty) (a b : List ℕ) (scratch room : ℕ) (answer : List ℕ) : Type 0 where
+  pub first : Ty
+  pub second : Ty
+  pub first-read : readType a ≡ done first
+  pub second-read : readType b ≡ done second
+  pub scratch-suffices : length a + length b ≤ scratch
+  pub room-suffices : length (enc (of first second)) ≤ room
+  pub is : answer ≡ enc (of first second)
+
+pub record ReducedDue (t : List ℕ) (room : ℕ) (answer : List ℕ) : Type 0 where
+  pub type : Ty
+  pub read : readType t ≡ done type
+  pub room-suffices : length (enc (reducedForm type)) ≤ room
+  pub is : answer ≡ enc (reducedForm type)
+
+-- ---- bounds among types of any size
+-- a type of any size to which both conform, and which conforms to every type, of any size, to which both conform; it is its own reduced form
 pub record LeastUpperBound (a b : AcceptedType) (s : List ℕ) : Type 0 where
   pub bound : AnyType
   pub is : bound .bytes ≡ s
   pub first : conformsTo (a .type) (bound .type) ≡ true
   pub second : conformsTo (b .type) (bound .type) ≡ true
   pub least : (t : AnyType) → conformsTo (a .type) (t .type) ≡ true → conformsTo (b .type) (t .type) ≡ true → conformsTo (bound .type) (t .type) ≡ true
+  pub reduced : reducedForm (bound .type) ≡ bound .type
+
+-- a type of any size that conforms to both, and to which every type, of any size, conforms that conforms to both; it is its own reduced form
+pub record GreatestLowerBound (a b : AcceptedType) (s : List ℕ) : Type 0 where
+  pub bound : AnyType
+  pub is : bound .bytes ≡ s
+  pub first : conformsTo (bound .type) (a .type) ≡ true
+  pub second : conformsTo (bound .type) (b .type) ≡ true
+  pub greatest : (t : AnyType) → conformsTo (t .type) (a .type) ≡ true → conformsTo (t .type) (b .type) ≡ true → conformsTo (t .type) (bound .type) ≡ true
+  pub reduced : reducedForm (bound .type) ≡ bound .type
 
 pub record Vote : Type 0 where
+  -- 0. An accepted type is exactly a type of any size within the limits on level and length; no bytes are no type of any size. The reader of any size
+  -- refuses for 7, 8 or 10 only: never for length or level.
+  pub accepted-any : (s : List ℕ) → Bytes s → (t : Ty) → (readType s ≡ done t) ↔ ((readAnyType s ≡ done t) × ((level t ≤ typeLevels) × (length s ≤ mostBytes)))
+  pub any-some : (s : List ℕ) (t : Ty) → readAnyType s ≡ done t → 0 < length s
+  pub any-numbers : (s : List ℕ) (n : ℕ) → readAnyType s ≡ refused n → (n ≡ 7) ⊎ ((n ≡ 8) ⊎ (n ≡ 10))
+  -- Type equality is byte equality.
+  pub type-equality : (a b : AnyType) → (eqTy (a .type) (b .type) ≡ true) ↔ (a .bytes ≡ b .bytes)
   -- 1. The least types of two accepted data values are equal exactly when no type, of any size, has one of the two conforming to it and the other not.
   pub equal-least-types : (v w : DataValue)
       → (enc (leastType (v .value)) ≡ enc (leastType (w .value))) ↔ ((t : AnyType) → valueConformsTo (v .value) (t .type) ≡ valueConformsTo (w .value) (t .type))
@@ -79,33 +146,37 @@ pub record Vote : Type 0 where
       → (a ≡ b) ↔ ((t : AnyType) → valueConformsTo (v .value) (t .type) ≡ valueConformsTo (w .value) (t .type))
   -- 2. A data value conforms to a type, of any size, exactly when its least type does.
   pub by-least-type : (v : DataValue) (t : AnyType) → valueConformsTo (v .value) (t .type) ≡ conformsTo (leastType (v .value)) (t .type)
-  -- What the call for the least type answers is an accepted type, the least type; and of an accepted type the two calls for conformance,
+  -- What the call for the least type answers is an accepted type, the least type, and reduced; and of an accepted type the two calls for conformance,
   -- one asked of the value and the other of that answer, answer the same.
   pub answer-accepted : (v : DataValue) (a : List ℕ) → LeastAnswered (v .bytes) a → readType a ≡ done (leastType (v .value))
+  pub least-reduced : (v : DataValue) → reducedForm (leastType (v .value)) ≡ leastType (v .value)
   pub by-answer : (v : DataValue) (a : List ℕ) → LeastAnswered (v .bytes) a → (t : AcceptedType)
       → values.isConformant (v .bytes) (t .bytes) ≡ types.isConformant a (t .bytes)
   -- 3. The common supertype of two accepted types is one to which both conform, and it conforms to every type, of any size, to which both conform.
   pub supertype-bound : (a b : AcceptedType) → LeastUpperBound a b (enc (supertype (a .type) (b .type)))
   -- So it is for what the call for the common supertype answers.
   pub answer-bound : (a b : AcceptedType) (s : List ℕ) → SupertypeAnswered (a .bytes) (b .bytes) s → LeastUpperBound a b s
+  -- The common subtype conforms to both, and every type, of any size, that conforms to both conforms to it.
+  pub subtype-bound : (a b : AcceptedType) → GreatestLowerBound a b (enc (subtype (a .type) (b .type)))
+  pub answer-below : (a b : AcceptedType) (s : List ℕ) → SubtypeAnswered (a .bytes) (b .bytes) s → GreatestLowerBound a b s
   -- 4. Two types, of any size, each conform to the other exactly when their reduced forms are equal.
   pub each-other : (a b : AnyType)
       → ((conformsTo (a .type) (b .type) ≡ true) × (conformsTo (b .type) (a .type) ≡ true)) ↔ (enc (reducedForm (a .type)) ≡ enc (reducedForm (b .type)))
   -- For accepted types: the call for conformance says yes both ways exactly when the call for the reduced form answers the same of both.
   pub each-other-answers : (a b : AcceptedType) (x y : List ℕ) → ReducedAnswered (a .bytes) x → ReducedAnswered (b .bytes) y
       → ((types.isConformant (a .bytes) (b .bytes) ≡ done true) × (types.isConformant (b .bytes) (a .bytes) ≡ done true)) ↔ (x ≡ y)
-  -- 5. The calls answer exactly these wherever no refusal is due: the arguments are accepted, the scratch is as long as document 01 wants it, and the
-  -- output has room for the answer.
-  pub value-conformance : (v : AcceptedValue) (t : AcceptedType) → values.isConformant (v .bytes) (t .bytes) ≡ done (valueConformsTo (v .value) (t .type))
-  pub type-conformance : (a b : AcceptedType) → types.isConformant (a .bytes) (b .bytes) ≡ done (conformsTo (a .type) (b .type))
-  pub least-type : (v : DataValue) (scratch room : ℕ) → 4 * length (v .bytes) ≤ scratch → length (enc (leastType (v .value))) ≤ room
-      → leastTypeCall (v .bytes) scratch room ≡ done (enc (leastType (v .value)))
-  pub common-supertype : (a b : AcceptedType) (scratch room : ℕ) → length (a .bytes) + length (b .bytes) ≤ scratch
-      → length (enc (supertype (a .type) (b .type))) ≤ room
-      → commonSupertype (a .bytes) (b .bytes) scratch room ≡ done (enc (supertype (a .type) (b .type)))
-  pub reduced-form : (t : AcceptedType) (room : ℕ) → length (enc (reducedForm (t .type))) ≤ room
-      → reducedCall (t .bytes) room ≡ done (enc (reducedForm (t .type)))
+  -- 5. The calls answer exactly these, exactly where no refusal is due: the arguments are accepted (and the value is data), the scratch is as long as
+  -- document 01 wants it, and the output has room for the answer. All bytes, scratch and room are meant.
+  pub value-conformance : (v t : List ℕ) (yes : Bool) → (values.isConformant v t ≡ done yes) ↔ ValueCompared v t yes
+  pub type-conformance : (a b : List ℕ) (yes : Bool) → (types.isConformant a b ≡ done yes) ↔ TypesCompared a b yes
+  pub least-type : (v : List ℕ) (scratch room : ℕ) (answer : List ℕ) → (leastTypeCall v scratch room ≡ done answer) ↔ LeastDue v scratch room answer
+  pub common-supertype : (a b : List ℕ) (scratch room : ℕ) (answer : List ℕ)
+      → (commonSupertype a b scratch room ≡ done answer) ↔ BoundDue supertype a b scratch room answer
+  pub common-subtype : (a b : List ℕ) (scratch room : ℕ) (answer : List ℕ)
+      → (commonSubtype a b scratch room ≡ done answer) ↔ BoundDue subtype a b scratch room answer
+  pub reduced-form : (t : List ℕ) (room : ℕ) (answer : List ℕ) → (reducedCall t room ≡ done answer) ↔ ReducedDue t room answer
   -- Room that always suffices.
   pub least-room : (v : DataValue) → length (enc (leastType (v .value))) ≤ length (v .bytes)
   pub supertype-room : (a b : AcceptedType) → length (enc (supertype (a .type) (b .type))) ≤ length (a .bytes) + length (b .bytes)
+  pub subtype-room : (a b : AcceptedType) → length (enc (subtype (a .type) (b .type))) ≤ length (a .bytes) + length (b .bytes)
   pub reduced-room : (t : AcceptedType) → length (enc (reducedForm (t .type))) ≤ length (t .bytes)
