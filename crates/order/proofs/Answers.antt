@@ -19,11 +19,11 @@ asc-weaken no-fields j k h w = tt
 asc-weaken (field n t fs) j k h w = (omega (arith, w .0), w .1, w .2)
 
 -- what is found in a well-formed context is well formed
-AscOption : Option Ty → Type 0
+unfoldable pub AscOption : Option Ty → Type 0
 AscOption none = Unit {0}
 AscOption (some t) = Asc t
 
-asc-look : (n : ℕ) (fs : Fields) (k : ℕ) → AscFields fs k → AscOption (look n fs)
+pub asc-look : (n : ℕ) (fs : Fields) (k : ℕ) → AscFields fs k → AscOption (look n fs)
 unfolding Asc look AscOption
 asc-look n no-fields k w = tt
 asc-look n (field m t fs) k w = step (eqb n m) (w .1) (asc-look n fs (suc m) (w .2))

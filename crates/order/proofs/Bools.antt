@@ -33,6 +33,10 @@ and-comm true false = refl
 and-comm false true = refl
 and-comm false false = refl
 
+pub and-mix : (a b c d : Bool) → (a && b) && (c && d) ≡ (a && c) && (b && d)
+and-mix true b c d = and-swap b c d
+and-mix false b c d = refl
+
 -- a test that implies another
 pub and-implied : (a b : Bool) → (b ≡ true → a ≡ true) → b ≡ a && b
 and-implied true b h = refl
@@ -54,6 +58,10 @@ function-tests false b i x y = refl
 pub or-trans : (i x y z : Bool) → i || x ≡ true → i || y ≡ true → (x ≡ true → y ≡ true → z ≡ true) → i || z ≡ true
 or-trans true x y z p q h = refl
 or-trans false x y z p q h = h p q
+
+pub or-cases : {P : Type 0} (x y : Bool) → x || y ≡ true → (x ≡ true → P) → (y ≡ true → P) → P
+or-cases true y e f g = f refl
+or-cases false y e f g = g e
 
 pub found-cond : {A : Type 0} (q : Bool) (a : A) (o : Option A) (f : A → Bool) → found (cond q (some a) o) f ≡ cond q (f a) (found o f)
 found-cond true a o f = refl

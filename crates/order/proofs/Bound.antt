@@ -13,7 +13,7 @@ use Rattle.order.proofs.Simple.{and-left, and-right, and-both, scmp-ref
 use Rattle.form.specs.Trees.{Ty, leaf, built, Built, list, range, context, function, Fields, no-fields, field, Tys, no-params, param}
 use Rattle.order.specs.Types.{look, found, all-fields, empty, same-count, ignores, cmp, cmp-built, has, within, cmps, le, reduce, reduce-built, reduce-fields, reduce-tys, keep, place, bound, bound-built, common, merge, bounds, sup, sub}
 use Rattle.order.specs.Ascending.{Asc, AscBuilt, AscFields, AscTys}
-use Rattle.order.proofs.Bools.{and-false, and-same, and-assoc, and-swap, and-comm, and-implied, not-both, function-tests, found-and, found-none, found-some}
+use Rattle.order.proofs.Bools.{and-false, and-same, and-assoc, and-swap, and-comm, and-mix, and-implied, not-both, function-tests, found-and, found-none, found-some}
 use Rattle.order.proofs.Conform.{has-look}
 
 -- which of the four built kinds
@@ -23,16 +23,12 @@ kind (range a) = 1
 kind (context fs) = 2
 kind (function ps r) = 3
 
-mix : (a b c d : Bool) → (a && b) && (c && d) ≡ (a && c) && (b && d)
-mix true b c d = and-swap b c d
-mix false b c d = refl
-
-all-and : (f g h : ℕ → Ty → Bool) (hs : Fields) → ((n : ℕ) (t : Ty) → f n t ≡ g n t && h n t) → all-fields f hs ≡ all-fields g hs && all-fields h hs
+pub all-and : (f g h : ℕ → Ty → Bool) (hs : Fields) → ((n : ℕ) (t : Ty) → f n t ≡ g n t && h n t) → all-fields f hs ≡ all-fields g hs && all-fields h hs
 unfolding all-fields
 all-and f g h no-fields e = refl
 all-and f g h (field n t hs) e =
     ap₂ _&&_ (e n t) (all-and f g h hs e)
-    ∙ mix (g n t) (h n t) (all-fields g hs) (all-fields h hs)
+    ∙ and-mix (g n t) (h n t) (all-fields g hs) (all-fields h hs)
 
 module _ (O : Order) where
   pub cmp-kind : (d : Dir) (x z : Built) → cmp-built O d x z ≡ true → kind x ≡ kind z
@@ -307,4 +303,4 @@ module _ (O : Order) (L : Laws O) where
     key-tys d (param a ps) no-params cs h = absurd (false≢true h)
     key-tys d (param a ps) (param b qs) no-params h = refl
     key-tys d (param a ps) (param b qs) (param c cs) h =
-        ap₂ _&&_ (key d a b c) (key-tys d ps qs cs h) ∙ mix (cmp O d a c) (cmp O d b c) (cmps O d ps cs) (cmps O d qs cs)
+        ap₂ _&&_ (key d a b c) (key-tys d ps qs cs h) ∙ and-mix (cmp O d a c) (cmp O d b c) (cmps O d ps cs) (cmps O d qs cs)

@@ -284,7 +284,7 @@ module _ (O : Order) (L : Laws O) where
         (ap (λ q. cond q (cmp O up a a) (has O fs n a)) (eq-eqb n n refl) ∙ cmp-refl up a (w .1))
         (has-skip O fs (suc n) n a fs (w .2) (omega arith) ∙ has-refl fs (suc n) (w .2))
 
-    cmps-refl : (d : Dir) (ps : Tys) → AscTys ps → cmps O d ps ps ≡ true
+    pub cmps-refl : (d : Dir) (ps : Tys) → AscTys ps → cmps O d ps ps ≡ true
     cmps-refl d no-params w = refl
     cmps-refl d (param a ps) w = and-both (cmp O d a a) (cmps O d ps ps) (cmp-refl d a (w .0)) (cmps-refl d ps (w .1))
 
@@ -303,7 +303,7 @@ module _ (O : Order) (L : Laws O) where
   has-up (field m a fs) n t u h e =
       cond-up (eqb n m) (cmp O up a t) (cmp O up a u) (has O fs n t) (has O fs n u) (h a) (λ p. has-up fs n t u h p) e
 
-  all-imply : (f g : ℕ → Ty → Bool) (hs : Fields) → ((n : ℕ) (t : Ty) → f n t ≡ true → g n t ≡ true) → all-fields f hs ≡ true → all-fields g hs ≡ true
+  pub all-imply : (f g : ℕ → Ty → Bool) (hs : Fields) → ((n : ℕ) (t : Ty) → f n t ≡ true → g n t ≡ true) → all-fields f hs ≡ true → all-fields g hs ≡ true
   unfolding all-fields
   all-imply f g no-fields h e = refl
   all-imply f g (field n t hs) h e =

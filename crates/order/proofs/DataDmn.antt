@@ -4,6 +4,7 @@ use Prim.Native.Nat.{ℕ, _<_}
 use native.Mathlib.Omega.{arith}
 use mathlib.Core.Path.{_≡_, refl, _∙_}
 use mathlib.Core.Bool.{Bool, true, false, _&&_, false≢true}
+use mathlib.Core.Logic.{inl}
 use Rattle.form.specs.Trees.{null, Ty, leaf, built, Built, list, range, context, function, Fields, no-fields, field, Tys, no-params, param, Val, v-leaf, v-range, v-list, v-context, v-function, v-built-in, v-type, v-irrelevant, Vals, no-items, item, Entries, no-entries, entry}
 use Rattle.form.specs.Form.{countTys}
 use Rattle.order.specs.Order.{fixed}
@@ -13,7 +14,7 @@ use Rattle.order.specs.Inferred.{valueConformsTo, isData, leastType}
 use Rattle.order.specs.Dmn.{dmnConformsTo, Some, Parameters, ParametersBuilt, ParametersFields, ParametersTys}
 use Rattle.order.proofs.Simple.{fixed-laws}
 use Rattle.order.proofs.Holds.{Holds, HoldsBuilt, HoldsFields, HoldsTys, holds-sup}
-use Rattle.order.proofs.Dmn.{agrees-with-dmn}
+use Rattle.order.proofs.Dmn.{agrees-either}
 use Rattle.order.proofs.Least.{conforms-least}
 
 -- any name; at least one parameter
@@ -78,4 +79,4 @@ mutual
   plain-entries (entry n v es) h = let d = and-both (isData v) (hold-data fixed es) h in (tt, plain v (d .0), plain-entries es (d .1))
 
 pub data-is-dmn : (v : Val) (t : Ty) → isData v ≡ true → valueConformsTo v t ≡ dmnConformsTo (leastType v) t
-data-is-dmn v t h = conforms-least fixed fixed-laws v t h ∙ agrees-with-dmn (leastType v) t (parameters (leastType v) (plain v h))
+data-is-dmn v t h = conforms-least fixed fixed-laws v t h ∙ agrees-either (leastType v) t (inl (parameters (leastType v) (plain v h)))

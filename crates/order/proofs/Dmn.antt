@@ -1,71 +1,279 @@
--- Where every function has a parameter, document 01's conformance is DMN's.
+-- DMN's conformance of types is document 01's together with that of the results where two functions without parameters meet. Idea: one walk over
+-- both relations, in both directions at once; everything else follows from its equation.
 -- Assumes nothing.
 use Prim.Native.Nat.{ℕ}
-use mathlib.Core.Path.{_≡_, refl, ap, ap₂}
-use mathlib.Core.Bool.{Bool, true, false, cond, not, _&&_, _||_}
+use mathlib.Core.Path.{_≡_, refl, sym, _∙_, ap, ap₂}
+use mathlib.Core.Bool.{Bool, true, false, cond, _&&_, _||_, false≢true}
 use mathlib.Core.Option.{Option, none, some}
+use mathlib.Core.Logic.{_↔_, _⊎_, inl, inr}
 use lib.Dec.{eqb}
-use Rattle.form.specs.Trees.{Ty, leaf, built, Built, list, range, context, function, Fields, no-fields, field, Tys, no-params, param}
-use Rattle.order.specs.Order.{Dir, up, down, flip, pick, fixed, flat-order}
-use Rattle.order.specs.Types.{look, found, all-fields, ignores, cmp, cmp-built, has, within, cmps}
-use Rattle.order.specs.Document.{conformsTo}
-use Rattle.order.specs.Dmn.{dmnConformsTo, Some, Parameters, ParametersBuilt, ParametersFields, ParametersTys}
-use Rattle.order.proofs.Bools.{found-ext}
-use Rattle.order.proofs.Conform.{all-ext}
+use Rattle.form.specs.Trees.{any, Ty, leaf, built, Built, list, range, context, function, Fields, no-fields, field, Tys, no-params, param}
+use Rattle.order.specs.Order.{Dir, up, down, flip, pick, fixed}
+use Rattle.order.specs.Types.{look, found, all-fields, empty, ignores, cmp, cmp-built, has, within, cmps, reduce, reduce-built, reduce-fields, reduce-tys}
+use Rattle.order.specs.Document.{conformsTo, reducedForm}
+use Rattle.order.specs.Dmn.{strictOrder, dmnConformsTo, if-found, results, results-built, results-has, results-within, results-tys, resultsConform, Some, Parameters, ParametersBuilt, ParametersFields, ParametersTys}
+use Rattle.order.proofs.Simple.{fixed-laws, and-left, and-both}
+use Rattle.order.proofs.Bools.{and-true, and-mix}
+use Rattle.order.proofs.Conform.{cmp-flip}
+use Rattle.order.proofs.Bound.{all-and}
+use Rattle.order.proofs.Laws.{le-reduce-left, le-reduce-right}
 
-looked-at : (ps : Tys) → Some ps → ignores fixed ps ≡ ignores (flat-order true) ps
-looked-at no-params h = absurd h
-looked-at (param t ps) h = refl
+-- ---- one equation
+same-test : (x : Bool) → x ≡ x && true
+same-test x = sym (and-true x)
 
-context-agrees : (d : Dir) (fs gs : Fields) → ((n : ℕ) (t : Ty) → has fixed fs n t ≡ has (flat-order true) fs n t) → within fixed fs gs ≡ within (flat-order true) fs gs
-    → pick d (all-fields (λ n t. has fixed fs n t) gs) (within fixed fs gs) ≡ pick d (all-fields (λ n t. has (flat-order true) fs n t) gs) (within (flat-order true) fs gs)
-context-agrees up fs gs h k = all-ext (λ n t. has fixed fs n t) (λ n t. has (flat-order true) fs n t) gs h
-context-agrees down fs gs h k = k
+-- what is found conforms by DMN when it conforms here and the results within do
+found-if : (o : Option Ty) (f g h : Ty → Bool) → ((b : Ty) → f b ≡ g b && h b) → found o f ≡ found o g && if-found o h
+found-if none f g h e = refl
+found-if (some b) f g h e = e b
+
+context-splits : (d : Dir) (fs gs : Fields) → ((n : ℕ) (t : Ty) → has strictOrder fs n t ≡ has fixed fs n t && results-has fs n t)
+    → within strictOrder fs gs ≡ within fixed fs gs && results-within fs gs
+    → pick d (all-fields (λ n t. has strictOrder fs n t) gs) (within strictOrder fs gs)
+    ≡ pick d (all-fields (λ n t. has fixed fs n t) gs) (within fixed fs gs) && pick d (all-fields (λ n t. results-has fs n t) gs) (results-within fs gs)
+context-splits up fs gs h k = all-and (λ n t. has strictOrder fs n t) (λ n t. has fixed fs n t) (λ n t. results-has fs n t) gs h
+context-splits down fs gs h k = k
+
+entry-splits : (q x y z u v w : Bool) → x ≡ y && z → u ≡ v && w → cond q x u ≡ cond q y v && cond q z w
+entry-splits true x y z u v w h k = h
+entry-splits false x y z u v w h k = k
+
+-- two function types: whether their parameters conform (p by DMN, a here, b inside), and the same of their results
+function-splits : (d : Dir) (ps qs : Tys) (b x y z : Bool) → cmps strictOrder d ps qs ≡ cmps fixed d ps qs && b → x ≡ y && z
+    → cmps strictOrder d ps qs && x ≡ (cmps fixed d ps qs && (empty ps || y)) && (b && cond (empty ps && empty qs) x z)
+unfolding cmp
+function-splits d no-params no-params b x y z h k = ap (λ e. e && x) h
+function-splits d no-params (param u qs) b x y z h k = refl
+function-splits d (param t ps) no-params b x y z h k = refl
+function-splits d (param t ps) (param u qs) b x y z h k = ap₂ _&&_ h k ∙ and-mix (cmps fixed d (param t ps) (param u qs)) b y z
 
 mutual
-  unfolding cmp Parameters
+  unfolding cmp results
 
-  cmp-agrees : (d : Dir) (a b : Ty) → Parameters a → cmp fixed d a b ≡ cmp (flat-order true) d a b
-  cmp-agrees up (leaf s) (leaf t) p = refl
-  cmp-agrees down (leaf s) (leaf t) p = refl
-  cmp-agrees up (leaf s) (built y) p = refl
-  cmp-agrees down (leaf s) (built y) p = refl
-  cmp-agrees up (built x) (leaf t) p = refl
-  cmp-agrees down (built x) (leaf t) p = refl
-  cmp-agrees d (built x) (built y) p = built-agrees d x y p
+  cmp-splits : (d : Dir) (a b : Ty) → cmp strictOrder d a b ≡ cmp fixed d a b && results d a b
+  cmp-splits up (leaf s) (leaf t) = same-test (cmp fixed up (leaf s) (leaf t))
+  cmp-splits down (leaf s) (leaf t) = same-test (cmp fixed down (leaf s) (leaf t))
+  cmp-splits up (leaf s) (built y) = same-test (cmp fixed up (leaf s) (built y))
+  cmp-splits down (leaf s) (built y) = same-test (cmp fixed down (leaf s) (built y))
+  cmp-splits up (built x) (leaf t) = same-test (cmp fixed up (built x) (leaf t))
+  cmp-splits down (built x) (leaf t) = same-test (cmp fixed down (built x) (leaf t))
+  cmp-splits d (built x) (built y) = built-splits d x y
 
-  built-agrees : (d : Dir) (x y : Built) → ParametersBuilt x → cmp-built fixed d x y ≡ cmp-built (flat-order true) d x y
-  built-agrees d (list a) (list b) p = cmp-agrees d a b p
-  built-agrees d (list a) (range b) p = refl
-  built-agrees d (list a) (context gs) p = refl
-  built-agrees d (list a) (function qs s) p = refl
-  built-agrees d (range a) (list b) p = refl
-  built-agrees d (range a) (range b) p = cmp-agrees d a b p
-  built-agrees d (range a) (context gs) p = refl
-  built-agrees d (range a) (function qs s) p = refl
-  built-agrees d (context fs) (list b) p = refl
-  built-agrees d (context fs) (range b) p = refl
-  built-agrees d (context fs) (context gs) p = context-agrees d fs gs (λ n t. has-agrees fs n t p) (within-agrees fs gs p)
-  built-agrees d (context fs) (function qs s) p = refl
-  built-agrees d (function ps r) (list b) p = refl
-  built-agrees d (function ps r) (range b) p = refl
-  built-agrees d (function ps r) (context gs) p = refl
-  built-agrees d (function ps r) (function qs s) p = ap₂ _&&_ (cmps-agrees (flip d) ps qs (p .1 .0)) (ap₂ _||_ (looked-at ps (p .0)) (cmp-agrees d r s (p .1 .1)))
+  built-splits : (d : Dir) (x y : Built) → cmp-built strictOrder d x y ≡ cmp-built fixed d x y && results-built d x y
+  built-splits d (list a) (list b) = cmp-splits d a b
+  built-splits d (list a) (range b) = refl
+  built-splits d (list a) (context gs) = refl
+  built-splits d (list a) (function qs s) = refl
+  built-splits d (range a) (list b) = refl
+  built-splits d (range a) (range b) = cmp-splits d a b
+  built-splits d (range a) (context gs) = refl
+  built-splits d (range a) (function qs s) = refl
+  built-splits d (context fs) (list b) = refl
+  built-splits d (context fs) (range b) = refl
+  built-splits d (context fs) (context gs) = context-splits d fs gs (λ n t. has-splits fs n t) (within-splits fs gs)
+  built-splits d (context fs) (function qs s) = refl
+  built-splits d (function ps r) (list b) = refl
+  built-splits d (function ps r) (range b) = refl
+  built-splits d (function ps r) (context gs) = refl
+  built-splits d (function ps r) (function qs s) =
+      function-splits (flip d) ps qs (results-tys (flip d) ps qs) (cmp strictOrder d r s) (cmp fixed d r s) (results d r s) (cmps-splits (flip d) ps qs) (cmp-splits d r s)
 
-  has-agrees : (fs : Fields) (n : ℕ) (t : Ty) → ParametersFields fs → has fixed fs n t ≡ has (flat-order true) fs n t
-  has-agrees no-fields n t p = refl
-  has-agrees (field m a fs) n t p = ap₂ (cond (eqb n m)) (cmp-agrees up a t (p .0)) (has-agrees fs n t (p .1))
+  has-splits : (fs : Fields) (n : ℕ) (t : Ty) → has strictOrder fs n t ≡ has fixed fs n t && results-has fs n t
+  has-splits no-fields n t = refl
+  has-splits (field m a fs) n t = entry-splits (eqb n m) _ _ _ _ _ _ (cmp-splits up a t) (has-splits fs n t)
 
-  within-agrees : (fs gs : Fields) → ParametersFields fs → within fixed fs gs ≡ within (flat-order true) fs gs
-  within-agrees no-fields gs p = refl
-  within-agrees (field n a fs) gs p = ap₂ _&&_ (found-ext (look n gs) (λ b. cmp fixed down a b) (λ b. cmp (flat-order true) down a b) (λ b. cmp-agrees down a b (p .0))) (within-agrees fs gs (p .1))
+  within-splits : (fs gs : Fields) → within strictOrder fs gs ≡ within fixed fs gs && results-within fs gs
+  within-splits no-fields gs = refl
+  within-splits (field n a fs) gs =
+      ap₂ _&&_ (found-if (look n gs) (λ b. cmp strictOrder down a b) (λ b. cmp fixed down a b) (λ b. results down a b) (λ b. cmp-splits down a b)) (within-splits fs gs)
+      ∙ and-mix (found (look n gs) (λ b. cmp fixed down a b)) (if-found (look n gs) (λ b. results down a b)) (within fixed fs gs) (results-within fs gs)
 
-  cmps-agrees : (d : Dir) (ps qs : Tys) → ParametersTys ps → cmps fixed d ps qs ≡ cmps (flat-order true) d ps qs
-  cmps-agrees d no-params no-params p = refl
-  cmps-agrees d no-params (param b qs) p = refl
-  cmps-agrees d (param a ps) no-params p = refl
-  cmps-agrees d (param a ps) (param b qs) p = ap₂ _&&_ (cmp-agrees d a b (p .0)) (cmps-agrees d ps qs (p .1))
+  cmps-splits : (d : Dir) (ps qs : Tys) → cmps strictOrder d ps qs ≡ cmps fixed d ps qs && results-tys d ps qs
+  cmps-splits d no-params no-params = refl
+  cmps-splits d no-params (param b qs) = refl
+  cmps-splits d (param a ps) no-params = refl
+  cmps-splits d (param a ps) (param b qs) =
+      ap₂ _&&_ (cmp-splits d a b) (cmps-splits d ps qs) ∙ and-mix (cmp fixed d a b) (results d a b) (cmps fixed d ps qs) (results-tys d ps qs)
 
--- it is enough that the first type has no function without parameters
-pub agrees-with-dmn : (a b : Ty) → Parameters a → conformsTo a b ≡ dmnConformsTo a b
-agrees-with-dmn a b p = cmp-agrees up a b p
+pub dmn-is : (a b : Ty) → dmnConformsTo a b ≡ conformsTo a b && resultsConform a b
+dmn-is a b = cmp-splits up a b
+
+-- what conforms by DMN conforms here
+pub dmn-here : (a b : Ty) → dmnConformsTo a b ≡ true → conformsTo a b ≡ true
+dmn-here a b h = and-left (conformsTo a b) (resultsConform a b) (sym (dmn-is a b) ∙ h)
+
+-- the two agree exactly where the results conform, if the types conform at all
+pub agree-exactly : (a b : Ty) → (conformsTo a b ≡ dmnConformsTo a b) ↔ (conformsTo a b ≡ true → resultsConform a b ≡ true)
+agree-exactly a b = let e = implied (conformsTo a b) (resultsConform a b) in (λ h. e .0 (h ∙ dmn-is a b), λ h. e .1 h ∙ sym (dmn-is a b))
+  where
+    implied : (c r : Bool) → (c ≡ c && r) ↔ (c ≡ true → r ≡ true)
+    implied true r = (λ h g. sym h, λ h. sym (h refl))
+    implied false r = (λ h g. absurd (false≢true g), λ h. refl)
+
+-- ---- where one of the two types has no function without parameters
+all-true : (f : ℕ → Ty → Bool) (gs : Fields) → ((n : ℕ) (t : Ty) → f n t ≡ true) → all-fields f gs ≡ true
+unfolding all-fields
+all-true f no-fields h = refl
+all-true f (field n t gs) h = and-both (f n t) (all-fields f gs) (h n t) (all-true f gs h)
+
+results-context : (d : Dir) (fs gs : Fields) → ((n : ℕ) (t : Ty) → results-has fs n t ≡ true) → results-within fs gs ≡ true
+    → pick d (all-fields (λ n t. results-has fs n t) gs) (results-within fs gs) ≡ true
+results-context up fs gs h k = all-true (λ n t. results-has fs n t) gs h
+results-context down fs gs h k = k
+
+if-found-true : (o : Option Ty) (f : Ty → Bool) → ((b : Ty) → f b ≡ true) → if-found o f ≡ true
+if-found-true none f h = refl
+if-found-true (some b) f h = h b
+
+cond-true : (q x y : Bool) → x ≡ true → y ≡ true → cond q x y ≡ true
+cond-true true x y h k = h
+cond-true false x y h k = k
+
+results-looked : (ps qs : Tys) (x y : Bool) → Some ps → y ≡ true → cond (empty ps && empty qs) x y ≡ true
+results-looked no-params qs x y p h = absurd p
+results-looked (param t ps) qs x y p h = h
+
+mutual
+  unfolding results Parameters
+
+  results-parameters : (d : Dir) (a b : Ty) → Parameters a → results d a b ≡ true
+  results-parameters d (leaf s) b p = refl
+  results-parameters d (built x) (leaf t) p = refl
+  results-parameters d (built x) (built y) p = built-parameters d x y p
+
+  built-parameters : (d : Dir) (x y : Built) → ParametersBuilt x → results-built d x y ≡ true
+  built-parameters d (list a) (list b) p = results-parameters d a b p
+  built-parameters d (list a) (range b) p = refl
+  built-parameters d (list a) (context gs) p = refl
+  built-parameters d (list a) (function qs s) p = refl
+  built-parameters d (range a) (list b) p = refl
+  built-parameters d (range a) (range b) p = results-parameters d a b p
+  built-parameters d (range a) (context gs) p = refl
+  built-parameters d (range a) (function qs s) p = refl
+  built-parameters d (context fs) (list b) p = refl
+  built-parameters d (context fs) (range b) p = refl
+  built-parameters d (context fs) (context gs) p = results-context d fs gs (λ n t. has-parameters fs n t p) (within-parameters fs gs p)
+  built-parameters d (context fs) (function qs s) p = refl
+  built-parameters d (function ps r) (list b) p = refl
+  built-parameters d (function ps r) (range b) p = refl
+  built-parameters d (function ps r) (context gs) p = refl
+  built-parameters d (function ps r) (function qs s) p =
+      and-both (results-tys (flip d) ps qs) (cond (empty ps && empty qs) (cmp strictOrder d r s) (results d r s)) (tys-parameters (flip d) ps qs (p .1 .0))
+      (results-looked ps qs (cmp strictOrder d r s) (results d r s) (p .0) (results-parameters d r s (p .1 .1)))
+
+  has-parameters : (fs : Fields) (n : ℕ) (t : Ty) → ParametersFields fs → results-has fs n t ≡ true
+  has-parameters no-fields n t p = refl
+  has-parameters (field m a fs) n t p = cond-true (eqb n m) (results up a t) (results-has fs n t) (results-parameters up a t (p .0)) (has-parameters fs n t (p .1))
+
+  within-parameters : (fs gs : Fields) → ParametersFields fs → results-within fs gs ≡ true
+  within-parameters no-fields gs p = refl
+  within-parameters (field n a fs) gs p =
+      and-both (if-found (look n gs) (λ b. results down a b)) (results-within fs gs)
+      (if-found-true (look n gs) (λ b. results down a b) (λ b. results-parameters down a b (p .0))) (within-parameters fs gs (p .1))
+
+  tys-parameters : (d : Dir) (ps qs : Tys) → ParametersTys ps → results-tys d ps qs ≡ true
+  tys-parameters d no-params qs p = refl
+  tys-parameters d (param a ps) no-params p = refl
+  tys-parameters d (param a ps) (param b qs) p =
+      and-both (results d a b) (results-tys d ps qs) (results-parameters d a b (p .0)) (tys-parameters d ps qs (p .1))
+
+cmp-agrees : (d : Dir) (a b : Ty) → Parameters a → cmp fixed d a b ≡ cmp strictOrder d a b
+cmp-agrees d a b p = sym (cmp-splits d a b ∙ ap (λ q. cmp fixed d a b && q) (results-parameters d a b p) ∙ and-true (cmp fixed d a b))
+
+-- read from the other side for the second type
+pub agrees-either : (a b : Ty) → Parameters a ⊎ Parameters b → conformsTo a b ≡ dmnConformsTo a b
+agrees-either a b (inl p) = cmp-agrees up a b p
+agrees-either a b (inr p) = cmp-flip fixed down a b ∙ cmp-agrees down b a p ∙ sym (cmp-flip strictOrder down a b)
+
+-- ---- reduced forms
+-- the results of functions without parameters are Any there
+all-reduced : (f : ℕ → Ty → Bool) (gs : Fields) → ((n : ℕ) (t : Ty) → f n (reduce fixed t) ≡ true) → all-fields f (reduce-fields fixed gs) ≡ true
+unfolding all-fields reduce
+all-reduced f no-fields h = refl
+all-reduced f (field n t gs) h = and-both (f n (reduce fixed t)) (all-fields f (reduce-fields fixed gs)) (h n t) (all-reduced f gs h)
+
+look-reduced : (n : ℕ) (gs : Fields) (f : Ty → Bool) → ((t : Ty) → f (reduce fixed t) ≡ true) → if-found (look n (reduce-fields fixed gs)) f ≡ true
+unfolding look reduce
+look-reduced n no-fields f h = refl
+look-reduced n (field m t gs) f h = step (eqb n m) (look-reduced n gs f h)
+  where
+    step : (q : Bool) → if-found (look n (reduce-fields fixed gs)) f ≡ true → if-found (cond q (some (reduce fixed t)) (look n (reduce-fields fixed gs))) f ≡ true
+    step true k = h t
+    step false k = k
+
+context-reduced : (d : Dir) (fs gs : Fields) → ((n : ℕ) (t : Ty) → results-has fs n (reduce fixed t) ≡ true) → results-within fs (reduce-fields fixed gs) ≡ true
+    → pick d (all-fields (λ n t. results-has fs n t) (reduce-fields fixed gs)) (results-within fs (reduce-fields fixed gs)) ≡ true
+context-reduced up fs gs h k = all-reduced (λ n t. results-has fs n t) gs h
+context-reduced down fs gs h k = k
+
+results-leaf : (d : Dir) (a : Ty) → results d a (leaf any) ≡ true
+unfolding results
+results-leaf d (leaf s) = refl
+results-leaf d (built x) = refl
+
+any-any : (d : Dir) → cmp strictOrder d (leaf any) (leaf any) ≡ true
+unfolding cmp
+any-any up = refl
+any-any down = refl
+
+result-reduced : (d : Dir) (ps qs : Tys) (r s : Ty) → results d (reduce fixed r) (reduce fixed s) ≡ true
+    → cond (empty (reduce-tys fixed ps) && empty (reduce-tys fixed qs))
+    (cmp strictOrder d (cond (ignores fixed ps) (leaf any) (reduce fixed r)) (cond (ignores fixed qs) (leaf any) (reduce fixed s)))
+    (results d (cond (ignores fixed ps) (leaf any) (reduce fixed r)) (cond (ignores fixed qs) (leaf any) (reduce fixed s))) ≡ true
+unfolding results reduce
+result-reduced d no-params no-params r s h = any-any d
+result-reduced d no-params (param b qs) r s h = refl
+result-reduced d (param a ps) no-params r s h = results-leaf d (reduce fixed r)
+result-reduced d (param a ps) (param b qs) r s h = h
+
+mutual
+  unfolding results reduce
+
+  results-reduced : (d : Dir) (a b : Ty) → results d (reduce fixed a) (reduce fixed b) ≡ true
+  results-reduced d (leaf s) b = refl
+  results-reduced d (built x) (leaf t) = refl
+  results-reduced d (built x) (built y) = built-reduced d x y
+
+  built-reduced : (d : Dir) (x y : Built) → results-built d (reduce-built fixed x) (reduce-built fixed y) ≡ true
+  built-reduced d (list a) (list b) = results-reduced d a b
+  built-reduced d (list a) (range b) = refl
+  built-reduced d (list a) (context gs) = refl
+  built-reduced d (list a) (function qs s) = refl
+  built-reduced d (range a) (list b) = refl
+  built-reduced d (range a) (range b) = results-reduced d a b
+  built-reduced d (range a) (context gs) = refl
+  built-reduced d (range a) (function qs s) = refl
+  built-reduced d (context fs) (list b) = refl
+  built-reduced d (context fs) (range b) = refl
+  built-reduced d (context fs) (context gs) = context-reduced d (reduce-fields fixed fs) gs (λ n t. has-reduced fs n t) (within-reduced fs gs)
+  built-reduced d (context fs) (function qs s) = refl
+  built-reduced d (function ps r) (list b) = refl
+  built-reduced d (function ps r) (range b) = refl
+  built-reduced d (function ps r) (context gs) = refl
+  built-reduced d (function ps r) (function qs s) =
+      and-both (results-tys (flip d) (reduce-tys fixed ps) (reduce-tys fixed qs)) _ (tys-reduced (flip d) ps qs)
+      (result-reduced d ps qs r s (results-reduced d r s))
+
+  has-reduced : (fs : Fields) (n : ℕ) (t : Ty) → results-has (reduce-fields fixed fs) n (reduce fixed t) ≡ true
+  has-reduced no-fields n t = refl
+  has-reduced (field m a fs) n t =
+      cond-true (eqb n m) (results up (reduce fixed a) (reduce fixed t)) (results-has (reduce-fields fixed fs) n (reduce fixed t)) (results-reduced up a t) (has-reduced fs n t)
+
+  within-reduced : (fs gs : Fields) → results-within (reduce-fields fixed fs) (reduce-fields fixed gs) ≡ true
+  within-reduced no-fields gs = refl
+  within-reduced (field n a fs) gs =
+      and-both (if-found (look n (reduce-fields fixed gs)) (λ b. results down (reduce fixed a) b)) (results-within (reduce-fields fixed fs) (reduce-fields fixed gs))
+      (look-reduced n gs (λ b. results down (reduce fixed a) b) (λ t. results-reduced down a t)) (within-reduced fs gs)
+
+  tys-reduced : (d : Dir) (ps qs : Tys) → results-tys d (reduce-tys fixed ps) (reduce-tys fixed qs) ≡ true
+  tys-reduced d no-params qs = refl
+  tys-reduced d (param a ps) no-params = refl
+  tys-reduced d (param a ps) (param b qs) =
+      and-both (results d (reduce fixed a) (reduce fixed b)) (results-tys d (reduce-tys fixed ps) (reduce-tys fixed qs)) (results-reduced d a b) (tys-reduced d ps qs)
+
+-- here types are compared as DMN compares their reduced forms
+pub reduced-is-dmn : (a b : Ty) → conformsTo a b ≡ dmnConformsTo (reducedForm a) (reducedForm b)
+reduced-is-dmn a b =
+    sym (le-reduce-left fixed fixed-laws a b) ∙ sym (le-reduce-right fixed fixed-laws (reducedForm a) b)
+    ∙ sym (dmn-is (reducedForm a) (reducedForm b) ∙ ap (λ q. conformsTo (reducedForm a) (reducedForm b) && q) (results-reduced up a b)
+    ∙ and-true (conformsTo (reducedForm a) (reducedForm b)))

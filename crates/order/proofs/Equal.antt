@@ -1,4 +1,4 @@
--- Type equality as a test.
+-- Type equality as a test: it says that the two trees are equal, and, of well-formed types, that their bytes are.
 -- Assumes nothing.
 use mathlib.Core.Path.{_≡_, refl, sym, _∙_, ap, ap₂}
 use mathlib.Core.Bool.{Bool, true, false, _&&_, false≢true}
@@ -6,6 +6,8 @@ use mathlib.Core.Logic.{_↔_}
 use lib.Dec.{eqb}
 use borrow.Author.Tests.{eqb-true, eq-eqb}
 use Rattle.form.specs.Trees.{code, Ty, leaf, built, Built, list, range, context, function, Fields, no-fields, field, Tys, no-params, param}
+use Rattle.form.specs.Form.{enc, Wf}
+use Rattle.form.proofs.Types.{enc-same}
 use Rattle.order.specs.Document.{eqTy, eqBuilt, eqFields, eqTys}
 use Rattle.order.proofs.Simple.{same-eq, and-left, and-right, and-both}
 
@@ -79,3 +81,7 @@ mutual
 
 pub eq-ty-iff : (a b : Ty) → (eqTy a b ≡ true) ↔ (a ≡ b)
 eq-ty-iff a b = (eq-ty-same a b, λ e. ap (λ x. eqTy a x) (sym e) ∙ eq-ty-self a)
+
+-- type equality is byte equality
+pub eq-bytes : (t u : Ty) → Wf t → Wf u → (eqTy t u ≡ true) ↔ (enc t ≡ enc u)
+eq-bytes t u v w = (λ h. ap enc (eq-ty-same t u h), λ h. eq-ty-iff t u .1 (enc-same t u v w h))

@@ -7,7 +7,7 @@ use mathlib.Core.Path.{_≡_, refl, sym, _∙_, ap, ap₂}
 use mathlib.Core.Bool.{Bool, true, false, cond, _&&_, false≢true}
 use mathlib.Core.Logic.{_↔_}
 use lib.Dec.{eqb}
-use Rattle.form.specs.Trees.{null, Ty, leaf, built, list, range, context, function, Fields, no-fields, field, Tys, no-params, param, Params, no-parameters, parameter, Val, v-leaf, v-range, v-list, v-context, v-function, v-built-in, v-type, v-irrelevant, Vals, no-items, item, Entries, no-entries, entry}
+use Rattle.form.specs.Trees.{any, null, Ty, leaf, built, list, range, context, function, Fields, no-fields, field, Tys, no-params, param, Params, no-parameters, parameter, Val, v-leaf, v-range, v-list, v-context, v-function, v-built-in, v-type, v-irrelevant, Vals, no-items, item, Entries, no-entries, entry}
 use Rattle.form.specs.Form.{Wf, WfParams, WfV, WfVals, WfEntries}
 use Rattle.order.specs.Order.{up, Order, Laws}
 use Rattle.order.specs.Types.{all-fields, cmp, cmps, has, le, reduce, reduce-fields, bound, sup}
@@ -136,6 +136,12 @@ module _ (O : Order) (L : Laws O) where
   unfolding cmp
   le-null (leaf s) = L .null-least s
   le-null (built y) = L .null-least null
+
+  -- everything conforms to Any
+  pub le-any : (t : Ty) → le O t (leaf any) ≡ true
+  unfolding cmp
+  le-any (leaf s) = L .any-greatest s
+  le-any (built x) = L .any-greatest any
 
   definition-strict : (b : Bool) (x y : Bool) → b ≡ true → cond b x y ≡ x
   definition-strict b x y e = ap (λ q. cond q x y) e

@@ -16,4 +16,6 @@ pub mod Least
 pub mod LeastSize
 pub mod TypeOf
 pub mod DataDmn
+pub mod Inferred
+pub mod Definitions
 pub mod ValueTheorems

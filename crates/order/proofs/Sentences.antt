@@ -12,17 +12,13 @@ use Rattle.form.specs.Trees.{Simple, any, null, decode}
 use Rattle.order.specs.Order.{up, down, flip, Order, Laws, fixed}
 use Rattle.order.proofs.Simple.{flat-codes}
 use Rattle.form.specs.Trees.{Ty, leaf, built, Built, list, range, context, function, Fields, no-fields, field, Tys, no-params, param}
-use Rattle.order.specs.Types.{look, found, all-fields, same-count, ignores, empty, cmp, cmps, le, reduce, reduce-built, reduce-fields, reduce-tys, keep, bound, bound-built, common, merge, bounds, sup, sub}
+use Rattle.order.specs.Types.{look, found, all-fields, same-count, ignores, empty, cmp, le, les, reduce, reduce-built, reduce-fields, reduce-tys, keep, bound, bound-built, common, merge, bounds, sup, sub}
 use Rattle.order.specs.Ascending.{AscFields, Asc}
 use Rattle.order.proofs.Conform.{has-look, flip-tys, all-ext, look-below}
 use Rattle.order.proofs.Answers.{merge-first, merge-second, merge-both}
 
 module _ (O : Order) where
   -- CONFORMANCE
-  -- each parameter of the first ≤ that of the second, and the counts are equal
-  abbrev pub les : Tys → Tys → Bool
-  les ps qs = cmps O up ps qs
-
   pub le-simple : (s t : Simple) → le O (leaf s) (leaf t) ≡ O .sle s t
   unfolding cmp
   le-simple s t = refl
@@ -49,7 +45,7 @@ module _ (O : Order) where
   le-contexts fs gs = all-ext _ (λ n t. found (look n fs) (λ a. le O a t)) gs (λ n t. has-look O fs n t)
 
   -- equal counts, each parameter of B ≤ that of A, result of A ≤ that of B; without parameters the result is not looked at
-  pub le-functions : (ps qs : Tys) (r s : Ty) → le O (built (function ps r)) (built (function qs s)) ≡ les qs ps && (ignores O ps || le O r s)
+  pub le-functions : (ps qs : Tys) (r s : Ty) → le O (built (function ps r)) (built (function qs s)) ≡ les O qs ps && (ignores O ps || le O r s)
   unfolding cmp
   le-functions ps qs r s = ap (λ x. x && (ignores O ps || le O r s)) (flip-tys O up ps qs)
 

@@ -10,15 +10,12 @@ use Rattle.form.specs.Trees.{Ty}
 use Rattle.form.specs.Form.{enc, level, Wf}
 use Rattle.order.specs.Order.{Order, Laws, fixed, flat-order}
 use Rattle.order.specs.Types.{le, reduce, sup, sub}
-use Rattle.order.specs.Document.{conformsTo, reducedForm, supertype, subtype}
-use Rattle.order.specs.Dmn.{dmnConformsTo, Parameters}
 use Rattle.order.proofs.Simple.{fixed-laws}
 use Rattle.order.proofs.Answers.{asc-sup, asc-sub}
 use Rattle.order.proofs.Laws as laws
 use Rattle.order.proofs.Size.{length-enc, size-sup, size-sub, level-sup, level-sub}
 use Rattle.order.proofs.WellFormed.{asc-of, wf-sup, wf-sub}
 use Rattle.order.proofs.Reduced.{wf-reduce}
-use Rattle.order.proofs.Dmn.{agrees-with-dmn}
 
 pub record Theorems (O : Order) : Type 0 where
   -- conformance is reflexive and transitive
@@ -73,7 +70,3 @@ theorems O L = record {
 -- document 01's relation
 pub document : Theorems fixed
 document = theorems fixed fixed-laws
-
--- with no function without parameters in either type, document 01's conformance and DMN's agree
-pub document-is-dmn : (a b : Ty) → Parameters a → Parameters b → conformsTo a b ≡ dmnConformsTo a b
-document-is-dmn a b p q = agrees-with-dmn a b p

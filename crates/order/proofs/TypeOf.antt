@@ -57,7 +57,7 @@ mutual
   asc-list no-items q h = tt
   asc-list (item v vs) q h = asc-or-any q (typeOf v) (asc-type-of v (h .0))
 
-  asc-entry-types : (es : Entries) (k : ℕ) → WfEntries es k → AscFields (entry-types es) k
+  pub asc-entry-types : (es : Entries) (k : ℕ) → WfEntries es k → AscFields (entry-types es) k
   asc-entry-types no-entries k h = tt
   asc-entry-types (entry n v es) k h = (h .0, asc-type-of v (h .1 .1 .0), rw add-one at (asc-entry-types es (n + 1) (h .1 .1 .1)))
 

@@ -1,12 +1,75 @@
--- FEEL's own definition of conformance (DMN): the result of a function counts, also where there are no parameters.
+-- FEEL's own definition of conformance (DMN): the result of a function counts, also where there are no parameters. And where that differs from
+-- document 01's relation: at the results of two functions without parameters.
 -- Assumes nothing.
-use mathlib.Core.Bool.{Bool, true}
-use Rattle.form.specs.Trees.{Ty, leaf, built, Built, list, range, context, function, Fields, no-fields, field, Tys, no-params, param}
-use Rattle.order.specs.Order.{flat-order}
-use Rattle.order.specs.Types.{le}
+use Prim.Native.Nat.{ℕ}
+use mathlib.Core.Bool.{Bool, true, cond, _&&_}
+use mathlib.Core.Option.{Option, none, some}
+use lib.Dec.{eqb}
+use Rattle.form.specs.Trees.{Ty, leaf, built, Built, list, range, context, function, Fields, no-fields, field, Tys, no-params, param, Params}
+use Rattle.order.specs.Order.{Dir, up, down, flip, pick, Order, flat-order}
+use Rattle.order.specs.Types.{look, all-fields, empty, cmp, le}
+use Rattle.order.specs.Values.{types-of}
+
+-- the ten simple types as in document 01, every function judged by its result
+abbrev pub strictOrder : Order
+strictOrder = flat-order true
 
 abbrev pub dmnConformsTo : Ty → Ty → Bool
-dmnConformsTo a b = le (flat-order true) a b
+dmnConformsTo a b = le strictOrder a b
+
+-- the test, where there is something to test
+abbrev pub if-found {ℓ} : {A : Type ℓ} → Option A → (A → Bool) → Bool
+if-found none f = true
+if-found (some a) f = f a
+
+-- In a comparison of two types, where two functions without parameters meet: DMN's conformance of their results. Every other place only looks
+-- further inside, and says true where nothing is inside. (`results up a b` is for a ≤ b, and `results down a b` for b ≤ a.)
+unfoldable mutual
+  pub results : Dir → Ty → Ty → Bool
+  results d (leaf s) b = true
+  results d (built x) (leaf t) = true
+  results d (built x) (built y) = results-built d x y
+
+  pub results-built : Dir → Built → Built → Bool
+  results-built d (list a) (list b) = results d a b
+  results-built d (list a) (range b) = true
+  results-built d (list a) (context gs) = true
+  results-built d (list a) (function qs s) = true
+  results-built d (range a) (list b) = true
+  results-built d (range a) (range b) = results d a b
+  results-built d (range a) (context gs) = true
+  results-built d (range a) (function qs s) = true
+  results-built d (context fs) (list b) = true
+  results-built d (context fs) (range b) = true
+  results-built d (context fs) (context gs) = pick d (all-fields (λ n t. results-has fs n t) gs) (results-within fs gs)
+  results-built d (context fs) (function qs s) = true
+  results-built d (function ps r) (list b) = true
+  results-built d (function ps r) (range b) = true
+  results-built d (function ps r) (context gs) = true
+  results-built d (function ps r) (function qs s) = results-tys (flip d) ps qs && cond (empty ps && empty qs) (cmp strictOrder d r s) (results d r s)
+
+  -- a name of the second context, where the first has it
+  pub results-has : Fields → ℕ → Ty → Bool
+  results-has no-fields n t = true
+  results-has (field m a fs) n t = cond (eqb n m) (results up a t) (results-has fs n t)
+
+  -- each name of the first context, where the second has it
+  pub results-within : Fields → Fields → Bool
+  results-within no-fields gs = true
+  results-within (field n a fs) gs = if-found (look n gs) (λ b. results down a b) && results-within fs gs
+
+  pub results-tys : Dir → Tys → Tys → Bool
+  results-tys d no-params qs = true
+  results-tys d (param a ps) no-params = true
+  results-tys d (param a ps) (param b qs) = results d a b && results-tys d ps qs
+
+-- where two functions without parameters meet, the result of the first conforms to that of the second by DMN
+abbrev pub resultsConform : Ty → Ty → Bool
+resultsConform a b = results up a b
+
+-- a function definition by DMN: as its function type
+abbrev pub definitionType : Params → Ty → Ty
+definitionType ps r = built (function (types-of ps) r)
 
 -- every function, at every depth, has a parameter
 abbrev pub Some : Tys → Type 0

@@ -82,6 +82,10 @@ module _ (O : Order) where
   abbrev pub le : Ty → Ty → Bool
   le a b = cmp up a b
 
+  -- equal counts, and each parameter of the first ≤ that of the second
+  abbrev pub les : Tys → Tys → Bool
+  les ps qs = cmps up ps qs
+
   -- Reduced form: the result of every function type without parameters becomes Any (strict: nothing changes).
   unfoldable mutual
     pub reduce : Ty → Ty

@@ -13,12 +13,12 @@ use Rattle.form.specs.Trees.{Simple, any, null, Ty, leaf, built, list, range, c
 use Rattle.form.specs.Form.{countTys}
 use Rattle.form.proofs.ExactTypes.{decode-code, code-small}
 use Rattle.order.specs.Order.{fixed, flat}
-use Rattle.order.specs.Types.{le, cmp, empty}
+use Rattle.order.specs.Types.{le, les, cmp, empty}
 use Rattle.order.specs.Size.{size}
 use Rattle.order.specs.Document.{eqTy}
 use Rattle.order.proofs.Equal.{eq-ty-same}
 use Rattle.order.proofs.Simple.{fixed-laws}
-use Rattle.order.proofs.Sentences.{les, le-functions}
+use Rattle.order.proofs.Sentences.{le-functions}
 use Rattle.types.specs.At.{Sig, sig, cons, funOf, sigAt}
 use Rattle.types.specs.Conform.{le-sig}
 use Rattle.types.proofs.Reading.{cmd, parameter, result}

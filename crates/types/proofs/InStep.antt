@@ -10,9 +10,8 @@ use lib.Seq.{drop-drop}
 use mathlib.Core.Option.{some}
 use Rattle.form.specs.Trees.{Ty}
 use Rattle.order.specs.Order.{fixed}
-use Rattle.order.specs.Types.{le, cmp}
+use Rattle.order.specs.Types.{le, les, cmp}
 use Rattle.order.specs.Size.{size}
-use Rattle.order.proofs.Sentences.{les}
 use Rattle.order.proofs.Bools.{and-assoc}
 use Rattle.types.specs.At.{typeAt, Sig, sig, cons, sigAt}
 use Rattle.types.specs.Conform.{le-sig}
