@@ -1,2 +1,3 @@
 pub mod Vote
-pub mod Dmn
+pub mod Agreement
+pub mod Examples

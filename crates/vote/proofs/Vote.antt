@@ -25,7 +25,7 @@ use Rattle.form.proofs.Values.{value-exact}
 use Rattle.order.specs.Order.{fixed}
 use Rattle.order.specs.Document.{conformsTo, reducedForm, supertype, subtype, eqTy}
 use Rattle.order.specs.Inferred.{valueConformsTo, isData, leastType}
-use Rattle.order.proofs.Dmn.{eq-bytes}
+use Rattle.order.proofs.Equal.{eq-bytes}
 use Rattle.order.proofs.Size.{length-enc, size-reduce}
 use Rattle.order.proofs.Theorems.{document}
 use Rattle.order.proofs.ValueTheorems.{document-values}
@@ -37,19 +37,22 @@ use Rattle.vote.specs.Vote.{DataValue, AcceptedType, AnyType, LeastAnswe
 use Rattle.vote.specs.Vote.{LeastUpperBound, GreatestLowerBound, Vote}
 
 -- ---- what was accepted
-accepted-value : (v : DataValue) → Accepted encV WfV levelV valueLevels (v .bytes) (v .value)
+pub accepted-value : (v : DataValue) → Accepted encV WfV levelV valueLevels (v .bytes) (v .value)
 accepted-value v = value-exact (v .bytes) (v .are-bytes) (v .value) .0 (v .accepted)
 
 accepted-type : (t : AcceptedType) → Accepted enc Wf level typeLevels (t .bytes) (t .type)
 accepted-type t = type-exact (t .bytes) (t .are-bytes) (t .type) .0 (t .accepted)
 
-long-value : (v : DataValue) → (length (v .bytes) ≡ length (encV (v .value))) × (length (v .bytes) ≤ mostBytes)
+pub long-value : (v : DataValue) → (length (v .bytes) ≡ length (encV (v .value))) × (length (v .bytes) ≤ mostBytes)
 long-value v = let a = accepted-value v in (ap length (a .bytes), a .short)
 
 long-type : (t : AcceptedType) → (length (t .bytes) ≡ length (enc (t .type))) × (length (t .bytes) ≤ mostBytes)
 long-type t = let a = accepted-type t in (ap length (a .bytes), a .short)
 
-wf-any : (t : AnyType) → Wf (t .type)
+pub wf-accepted : (t : AcceptedType) → Wf (t .type)
+wf-accepted t = accepted-type t .well
+
+pub wf-any : (t : AnyType) → Wf (t .type)
 wf-any t = any-exact (t .bytes) (t .are-bytes) (t .type) .0 (t .written) .1
 
 -- an accepted type is one of any size
@@ -61,7 +64,7 @@ abbrev any-of : (t : Ty) → Wf t → AnyType
 any-of t w = record { bytes = enc t; are-bytes = bytes-enc t w; type = t; written = any-exact (enc t) (bytes-enc t w) t .1 (refl, w) }
 
 -- ---- the trees
-short : (v : DataValue) → length (encV (v .value)) < 65536
+pub short : (v : DataValue) → length (encV (v .value)) < 65536
 short v = let l = long-value v in omega (arith, l .0, l .1)
 
 wf-least : (v : DataValue) → Wf (leastType (v .value))
@@ -129,32 +132,30 @@ each a b =
     )
 
 -- ---- the calls: an answer is due exactly where every line of the definition is passed
-types-compared : (a b : List ℕ) (yes : Bool) → (types.isConformant a b ≡ done yes) ↔ TypesCompared a b yes
-unfolding types.isConformant
-types-compared a b yes = (
+types-compared : (a b : List ℕ) (verdict : Bool) → (types.isConformant a b ≡ done verdict) ↔ TypesCompared a b verdict
+unfolding types.isConformant _>>=_
+types-compared a b verdict = (
   λ e.
-      bind-done (readType a) _ yes e (λ s p f.
-      bind-done (readType b) _ yes f (λ t q g.
+      bind-done (readType a) _ verdict e (λ s p f.
+      bind-done (readType b) _ verdict f (λ t q g.
       record { first = s; second = t; first-read = p; second-read = q; is = sym (done-same g) })),
   back,
 )
   where
-    back : TypesCompared a b yes → types.isConformant a b ≡ done yes
-    unfolding _>>=_
+    back : TypesCompared a b verdict → types.isConformant a b ≡ done verdict
     back C = rw (C .first-read, C .second-read) (ap done (sym (C .is)))
 
-value-compared : (v t : List ℕ) (yes : Bool) → (values.isConformant v t ≡ done yes) ↔ ValueCompared v t yes
-unfolding values.isConformant
-value-compared v t yes = (
+value-compared : (v t : List ℕ) (verdict : Bool) → (values.isConformant v t ≡ done verdict) ↔ ValueCompared v t verdict
+unfolding values.isConformant _>>=_
+value-compared v t verdict = (
   λ e.
-      bind-done (readValue v) _ yes e (λ w p f.
-      bind-done (readType t) _ yes f (λ u q g.
+      bind-done (readValue v) _ verdict e (λ w p f.
+      bind-done (readType t) _ verdict f (λ u q g.
       record { value = w; type = u; value-read = p; type-read = q; is = sym (done-same g) })),
   back,
 )
   where
-    back : ValueCompared v t yes → values.isConformant v t ≡ done yes
-    unfolding _>>=_
+    back : ValueCompared v t verdict → values.isConformant v t ≡ done verdict
     back C = rw (C .value-read, C .type-read) (ap done (sym (C .is)))
 
 -- a check that is passed and an answer that fits
@@ -163,7 +164,7 @@ unfolding _>>_
 passed n m scratch room x y h k e = rw (le-leb n scratch h, le-leb (length x) room k) (ap done (sym e))
 
 least-due : (v : List ℕ) (scratch room : ℕ) (a : List ℕ) → (leastTypeCall v scratch room ≡ done a) ↔ LeastDue v scratch room a
-unfolding leastTypeCall
+unfolding leastTypeCall _>>=_ _>>_
 least-due v scratch room a = (
   λ e.
       bind-done (readValue v) _ a e (λ w p f.
@@ -175,10 +176,10 @@ least-due v scratch room a = (
 )
   where
     back : LeastDue v scratch room a → leastTypeCall v scratch room ≡ done a
-    unfolding _>>=_ _>>_
     back D = rw (D .read, D .data-only) (passed (wanted v) 14 scratch room (enc (leastType (D .value))) a (D .scratch-suffices) (D .room-suffices) (D .is))
 
 bound-due : (of : Ty → Ty → Ty) (a b : List ℕ) (scratch room : ℕ) (s : List ℕ) → (combined of a b scratch room ≡ done s) ↔ BoundDue of a b scratch room s
+unfolding _>>=_
 bound-due of a b scratch room s = (
   λ e.
       bind-done (readType a) _ s e (λ t p f.
@@ -190,11 +191,11 @@ bound-due of a b scratch room s = (
 )
   where
     back : BoundDue of a b scratch room s → combined of a b scratch room ≡ done s
-    unfolding _>>=_
     back D = rw (D .first-read, D .second-read)
         (passed (length a + length b) 14 scratch room (enc (of (D .first) (D .second))) s (D .scratch-suffices) (D .room-suffices) (D .is))
 
 reduced-due : (t : List ℕ) (room : ℕ) (a : List ℕ) → (reducedCall t room ≡ done a) ↔ ReducedDue t room a
+unfolding _>>=_
 reduced-due t room a = (
   λ e.
       bind-done (readType t) _ a e (λ u p f.
@@ -204,7 +205,6 @@ reduced-due t room a = (
 )
   where
     back : ReducedDue t room a → reducedCall t room ≡ done a
-    unfolding _>>=_
     back D = rw (D .read, le-leb (length (enc (reducedForm (D .type)))) room (D .room-suffices)) (ap done (sym (D .is)))
 
 -- ---- and of what was accepted
@@ -213,7 +213,7 @@ conform-call a b =
     types-compared (a .bytes) (b .bytes) (conformsTo (a .type) (b .type)) .1
     (record { first = a .type; second = b .type; first-read = a .accepted; second-read = b .accepted; is = refl })
 
-held-call : (v : DataValue) (t : AcceptedType) → values.isConformant (v .bytes) (t .bytes) ≡ done (valueConformsTo (v .value) (t .type))
+pub held-call : (v : DataValue) (t : AcceptedType) → values.isConformant (v .bytes) (t .bytes) ≡ done (valueConformsTo (v .value) (t .type))
 held-call v t =
     value-compared (v .bytes) (t .bytes) (valueConformsTo (v .value) (t .type)) .1
     (record { value = v .value; type = t .type; value-read = v .accepted; type-read = t .accepted; is = refl })

@@ -73,19 +73,19 @@ pub record ReducedAnswered (t answer : List ℕ) : Type 0 where
   pub answered : reducedCall t room ≡ done answer
 
 -- ---- when an answer is due, and which: the arguments are accepted, the scratch is as long as document 01 wants it, the output has room
-pub record TypesCompared (a b : List ℕ) (yes : Bool) : Type 0 where
+pub record TypesCompared (a b : List ℕ) (verdict : Bool) : Type 0 where
   pub first : Ty
   pub second : Ty
   pub first-read : readType a ≡ done first
   pub second-read : readType b ≡ done second
-  pub is : yes ≡ conformsTo first second
+  pub is : verdict ≡ conformsTo first second
 
-pub record ValueCompared (v t : List ℕ) (yes : Bool) : Type 0 where
+pub record ValueCompared (v t : List ℕ) (verdict : Bool) : Type 0 where
   pub value : Val
   pub type : Ty
   pub value-read : readValue v ≡ done value
   pub type-read : readType t ≡ done type
-  pub is : yes ≡ valueConformsTo value type
+  pub is : verdict ≡ valueConformsTo value type
 
 pub record LeastDue (v : List ℕ) (scratch room : ℕ) (answer : List ℕ) : Type 0 where
   pub value : Val
@@ -167,8 +167,8 @@ pub record Vote : Type 0 where
       → ((types.isConformant (a .bytes) (b .bytes) ≡ done true) × (types.isConformant (b .bytes) (a .bytes) ≡ done true)) ↔ (x ≡ y)
   -- 5. The calls answer exactly these, exactly where no refusal is due: the arguments are accepted (and the value is data), the scratch is as long as
   -- document 01 wants it, and the output has room for the answer. All bytes, scratch and room are meant.
-  pub value-conformance : (v t : List ℕ) (yes : Bool) → (values.isConformant v t ≡ done yes) ↔ ValueCompared v t yes
-  pub type-conformance : (a b : List ℕ) (yes : Bool) → (types.isConformant a b ≡ done yes) ↔ TypesCompared a b yes
+  pub value-conformance : (v t : List ℕ) (verdict : Bool) → (values.isConformant v t ≡ done verdict) ↔ ValueCompared v t verdict
+  pub type-conformance : (a b : List ℕ) (verdict : Bool) → (types.isConformant a b ≡ done verdict) ↔ TypesCompared a b verdict
   pub least-type : (v : List ℕ) (scratch room : ℕ) (answer : List ℕ) → (leastTypeCall v scratch room ≡ done answer) ↔ LeastDue v scratch room answer
   pub common-supertype : (a b : List ℕ) (scratch room : ℕ) (answer : List ℕ)
       → (commonSupertype a b scratch room ≡ done answer) ↔ BoundDue supertype a b scratch room answer

@@ -1,0 +1,27 @@
+-- The examples hold: each row by computing it, example 12 by the law of crate `context`.
+-- Assumes nothing.
+use mathlib.Core.Path.{_≡_, refl}
+use Rattle.form.specs.Limits.{mostBytes}
+use Rattle.form.specs.Outcome.{done, refused, _>>=_, _>>_}
+use Rattle.form.specs.Form.{bytes, num, countFields, countTys, countVals, countEntries, enc, encLeaf, encV, level, levelV}
+use Rattle.form.specs.Layout.{kindOf}
+use Rattle.form.specs.Read.{front, andThen, orElse, operand, readRun, named, readNamed, readFlag, readKey, counted, readFunction, readRange, signature, readDefinition}
+use Rattle.form.specs.Read.{stepType, stepT, readT, stepValue, stepV, readV, numberOf, all, readWhole, checkValue, checkType}
+use Rattle.order.specs.Types.{cmp, reduce, bound, look, place, same-count, all-fields}
+use Rattle.order.specs.Document.{eqTy}
+use Rattle.order.specs.Values.{least, is-data, conforms}
+use Rattle.order.specs.Inferred.{typeOf}
+use Rattle.types.specs.Calls as types
+use Rattle.values.specs.Calls as values
+use Rattle.infer.specs.Calls.{leastTypeCall, typeOfCall}
+use Rattle.retrieval.specs.Retrieve.{retrieve}
+use Rattle.retrieval.specs.Calls.{getValueCheckedCall}
+use Rattle.coercion.specs.Calls.{coercedCall}
+use Rattle.vote.specs.Examples.{Holds, All, one, null, yes, pair, full, part, inferred, least-of, nested, times, longest, lists, longest-type, table}
+
+pub examples : All table
+unfolding Holds All one null yes pair full part inferred least-of nested times longest lists longest-type table bytes num countFields countTys enc level levelV kindOf
+    front andThen orElse operand readRun named readNamed readFlag readKey counted readFunction readRange signature readDefinition stepType stepT readT stepValue stepV readV
+    numberOf all readWhole checkValue checkType cmp reduce bound look place same-count all-fields eqTy least is-data conforms typeOf types.isConformant leastTypeCall typeOfCall
+    values.isConformant getValueCheckedCall coercedCall retrieve encV encLeaf countVals countEntries _>>=_ _>>_
+examples = (refl, (refl, (refl, (refl, (refl, (refl, (refl, (refl, (refl, (refl, (refl, (refl, (refl, (refl, (refl, (refl, (refl, (refl, (refl, (refl, (refl, (create-every, (apply-every, (refl, (refl, (refl, (refl, (refl, (refl, (refl, (refl, tt)))))))))))))))))))))))))))))))
