@@ -1,4 +1,4 @@
--- What is proved of coercion: when it fails, that coercing again changes nothing, and that on data values it is DMN's implicit conversion.
+-- What is stated of coercion holds. Idea: the last two rules end in one of three ways (`End`), and each statement is read off the way.
 -- Assumes nothing.
 use mathlib.Core.Path.{_≡_, refl, sym, ap, _∙_}
 use mathlib.Core.Bool.{Bool, true, false, cond, _&&_, _||_, false≢true}
@@ -14,55 +14,8 @@ use Rattle.order.proofs.DataDmn.{data-is-dmn}
 use Rattle.ranges.specs.Ranges.{bifType}
 use Rattle.order.specs.Document.{conformsTo}
 use Rattle.coercion.specs.Coerce.{failed, single, unchanged, item-conforms, first-item, innerConforms, converted, coerced}
-use Rattle.coercion.specs.Dmn.{dmn-from, dmn-to, dmn-converted, dmnCoerced}
-
--- a rule of the last two applies
-abbrev pub converts : Val → Ty → Bool
-converts (v-leaf l) t = innerConforms (v-leaf l) t
-converts (v-range i j v w) t = innerConforms (v-range i j v w) t
-converts (v-list vs) t = item-conforms vs t
-converts (v-context es) t = innerConforms (v-context es) t
-converts (v-function ps b r) t = innerConforms (v-function ps b r) t
-converts (v-built-in b) t = innerConforms (v-built-in b) t
-converts (v-type a) t = innerConforms (v-type a) t
-converts v-irrelevant t = innerConforms v-irrelevant t
-
--- one of the rules applies
-abbrev pub applies : Val → Ty → Bool
-applies v t = unchanged v t || converts v t
-
--- Null, and a one-item list of Null
-abbrev is-nil-leaf : Leaf → Bool
-is-nil-leaf (l-null x) = true
-is-nil-leaf (l-boolean x) = false
-is-nil-leaf (l-number x) = false
-is-nil-leaf (l-string x) = false
-is-nil-leaf (l-temporal k x) = false
-
-abbrev pub is-nil : Val → Bool
-is-nil (v-leaf l) = is-nil-leaf l
-is-nil (v-range i j v w) = false
-is-nil (v-list vs) = false
-is-nil (v-context es) = false
-is-nil (v-function ps b r) = false
-is-nil (v-built-in b) = false
-is-nil (v-type a) = false
-is-nil v-irrelevant = false
-
-abbrev one-nil : Vals → Bool
-one-nil no-items = false
-one-nil (item v no-items) = is-nil v
-one-nil (item v (item w vs)) = false
-
-abbrev pub is-one-nil : Val → Bool
-is-one-nil (v-leaf l) = false
-is-one-nil (v-range i j v w) = false
-is-one-nil (v-list vs) = one-nil vs
-is-one-nil (v-context es) = false
-is-one-nil (v-function ps b r) = false
-is-one-nil (v-built-in b) = false
-is-one-nil (v-type a) = false
-is-one-nil v-irrelevant = false
+use Rattle.coercion.specs.Dmn.{dmn-from, dmn-to, dmn-converted}
+use Rattle.coercion.specs.Coercion.{converts, is-nil-leaf, is-nil, one-nil, is-one-nil, Coercion}
 
 -- a value that is not Null is not the null of a failed coercion
 not-failed : (v : Val) → is-nil v ≡ false → v ≡ failed → ⊥
@@ -165,18 +118,6 @@ end-again : (v : Val) (t : Ty) (w : Val) (q : Bool) → End v t w q → coerced 
 end-again v t w q fails = again failed t (same-if failed t (nil-leaf (l-null 1) t refl))
 end-again v t w q (item-of x p c) = again x t (same-if x t c)
 end-again v t w q (list-of u p c) = again (single v) t (ap (valueConformsTo (single v)) p ∙ single-conforms v u c)
-
--- ---- data values: DMN's rules
-pub record Coercion : Type 0 where
-  -- but for Null and a one-item list of Null: null with trace 1 exactly when none of the rules applies
-  pub fails-exactly : (v : Val) (t : Ty) → is-nil v ≡ false → is-one-nil v ≡ false → (coerced v t ≡ failed) ↔ (applies v t ≡ false)
-  -- for those two a rule always applies
-  pub nil-applies : (v : Val) (t : Ty) → is-nil v ≡ true → applies v t ≡ true
-  pub one-nil-applies : (v : Val) (t : Ty) → is-one-nil v ≡ true → applies v t ≡ true
-  -- coercing a coerced value changes nothing
-  pub coerced-again : (v : Val) (t : Ty) → coerced (coerced v t) t ≡ coerced v t
-  -- on data values it is DMN's implicit conversion, by types
-  pub data-is-dmn-coercion : (v : Val) (t : Ty) → isData v ≡ true → coerced v t ≡ dmnCoerced v t
 
 again-by : (v w : Val) (t : Ty) (q : Bool) → unchanged v t ≡ q → coerced w t ≡ w → coerced (cond q v w) t ≡ cond q v w
 again-by v w t true e h = again v t e

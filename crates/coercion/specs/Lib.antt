@@ -1,3 +1,4 @@
 pub mod Coerce
 pub mod Dmn
+pub mod Coercion
 pub mod Calls

@@ -13,9 +13,11 @@ enum Want {
     Yes,
     No,
     Bytes(&'static str),
+    Command(u32),
+    Unknown,
     Refused(u8),
 }
-use Want::{Bytes, Level, No, Refused, Yes};
+use Want::{Bytes, Command, Level, No, Refused, Unknown, Yes};
 
 /// A call, its arguments in hexadecimal, and its answer. A digit string with `*n` behind a bracket is
 /// repeated: `[2A]*31 22`.
@@ -106,6 +108,317 @@ const SHORT: &[(Row, usize, usize)] = &[
     (("type_common_supertype", &["22", "22"], Refused(18)), 2, 0),
     (("type_reduced", &["2D 00 22"], Refused(18)), 0, 2),
     (("type_reduced", &["2D 00 22"], Bytes("2D 00 20")), 0, 3),
+];
+
+/// The room of the output stands behind the answer.
+const TEXTS: &[(Row, usize)] = &[
+    (("names_from_str", &["41 6E 79"], Command(0x20)), ROOM),
+    (
+        ("names_from_str", &["62 6F 6F 6C 65 61 6E"], Command(0x21)),
+        ROOM,
+    ),
+    (
+        ("names_from_str", &["6E 75 6D 62 65 72"], Command(0x22)),
+        ROOM,
+    ),
+    (
+        ("names_from_str", &["73 74 72 69 6E 67"], Command(0x23)),
+        ROOM,
+    ),
+    (("names_from_str", &["64 61 74 65"], Command(0x24)), ROOM),
+    (("names_from_str", &["74 69 6D 65"], Command(0x25)), ROOM),
+    (
+        (
+            "names_from_str",
+            &["64 61 74 65 20 61 6E 64 20 74 69 6D 65"],
+            Command(0x26),
+        ),
+        ROOM,
+    ),
+    (
+        (
+            "names_from_str",
+            &["64 61 79 73 20 61 6E 64 20 74 69 6D 65 20 64 75 72 61 74 69 6F 6E"],
+            Command(0x27),
+        ),
+        ROOM,
+    ),
+    (
+        (
+            "names_from_str",
+            &["79 65 61 72 73 20 61 6E 64 20 6D 6F 6E 74 68 73 20 64 75 72 61 74 69 6F 6E"],
+            Command(0x28),
+        ),
+        ROOM,
+    ),
+    (("names_from_str", &["4E 75 6C 6C"], Command(0x29)), ROOM),
+    // "any", " Any" and the empty text are unknown
+    (("names_from_str", &["61 6E 79"], Unknown), ROOM),
+    (("names_from_str", &["20 41 6E 79"], Unknown), ROOM),
+    (("names_from_str", &[""], Unknown), ROOM),
+    // "date and time", and "Date"
+    (
+        (
+            "names_is_built_in_type_name",
+            &["64 61 74 65 20 61 6E 64 20 74 69 6D 65"],
+            Yes,
+        ),
+        ROOM,
+    ),
+    (("names_is_built_in_type_name", &["44 61 74 65"], No), ROOM),
+    // a type without a name, over the empty table
+    (
+        (
+            "names_display",
+            &["26", "00 00"],
+            Bytes("64 61 74 65 20 61 6E 64 20 74 69 6D 65"),
+        ),
+        13,
+    ),
+    // "list<number>"
+    (
+        (
+            "names_display",
+            &["2A 22", "00 00"],
+            Bytes("6C 69 73 74 3C 6E 75 6D 62 65 72 3E"),
+        ),
+        100,
+    ),
+    // "range<date>"
+    (
+        (
+            "names_display",
+            &["2B 24", "00 00"],
+            Bytes("72 61 6E 67 65 3C 64 61 74 65 3E"),
+        ),
+        100,
+    ),
+    // over the table "age", "first name"
+    (
+        (
+            "names_display",
+            &[
+                "2C 02 00 00 00 22 01 00 23",
+                "02 00 03 61 67 65 0A 66 69 72 73 74 20 6E 61 6D 65",
+            ],
+            Bytes(
+                "63 6F 6E 74 65 78 74 3C 61 67 65 3A 20 6E 75 6D 62 65 72 2C 20 66 69 72 73 74 20 6E 61 6D 65 3A 20 73 74 72 69 6E 67 3E",
+            ),
+        ),
+        100,
+    ),
+    // "context<>"
+    (
+        (
+            "names_display",
+            &[
+                "2C 00 00",
+                "02 00 03 61 67 65 0A 66 69 72 73 74 20 6E 61 6D 65",
+            ],
+            Bytes("63 6F 6E 74 65 78 74 3C 3E"),
+        ),
+        100,
+    ),
+    // "function<number, string>->boolean"
+    (
+        (
+            "names_display",
+            &["2D 02 22 23 21", "00 00"],
+            Bytes(
+                "66 75 6E 63 74 69 6F 6E 3C 6E 75 6D 62 65 72 2C 20 73 74 72 69 6E 67 3E 2D 3E 62 6F 6F 6C 65 61 6E",
+            ),
+        ),
+        100,
+    ),
+    // "function<>->list<Any>"
+    (
+        (
+            "names_display",
+            &["2D 00 2A 20", "00 00"],
+            Bytes("66 75 6E 63 74 69 6F 6E 3C 3E 2D 3E 6C 69 73 74 3C 41 6E 79 3E"),
+        ),
+        100,
+    ),
+    // "list<context<first name: function<Null>->Any>>"
+    (
+        (
+            "names_display",
+            &[
+                "2A 2C 01 00 01 00 2D 01 29 20",
+                "02 00 03 61 67 65 0A 66 69 72 73 74 20 6E 61 6D 65",
+            ],
+            Bytes(
+                "6C 69 73 74 3C 63 6F 6E 74 65 78 74 3C 66 69 72 73 74 20 6E 61 6D 65 3A 20 66 75 6E 63 74 69 6F 6E 3C 4E 75 6C 6C 3E 2D 3E 41 6E 79 3E 3E",
+            ),
+        ),
+        100,
+    ),
+    // the text has 40 bytes
+    (
+        (
+            "names_display",
+            &[
+                "2C 02 00 00 00 22 01 00 23",
+                "02 00 03 61 67 65 0A 66 69 72 73 74 20 6E 61 6D 65",
+            ],
+            Bytes(
+                "63 6F 6E 74 65 78 74 3C 61 67 65 3A 20 6E 75 6D 62 65 72 2C 20 66 69 72 73 74 20 6E 61 6D 65 3A 20 73 74 72 69 6E 67 3E",
+            ),
+        ),
+        40,
+    ),
+    (
+        (
+            "names_display",
+            &[
+                "2C 02 00 00 00 22 01 00 23",
+                "02 00 03 61 67 65 0A 66 69 72 73 74 20 6E 61 6D 65",
+            ],
+            Refused(18),
+        ),
+        39,
+    ),
+    // name 2 is not in the table; before the room
+    (
+        (
+            "names_display",
+            &[
+                "2C 01 00 02 00 22",
+                "02 00 03 61 67 65 0A 66 69 72 73 74 20 6E 61 6D 65",
+            ],
+            Refused(20),
+        ),
+        0,
+    ),
+    // the type before the table
+    (("names_display", &["2A", "00"], Refused(7)), 0),
+    // malformed tables: one byte, no byte, a text that is missing, a byte left over
+    (("names_display", &["22", "00"], Refused(19)), 100),
+    (("names_display", &["22", ""], Refused(19)), 100),
+    (("names_display", &["22", "01 00"], Refused(19)), 100),
+    (
+        ("names_display", &["22", "01 00 03 61 62"], Refused(19)),
+        100,
+    ),
+    (
+        ("names_display", &["22", "01 00 01 61 00"], Refused(19)),
+        100,
+    ),
+    // first or last byte 20; a byte below 20, a byte above 7E
+    (
+        ("names_display", &["22", "01 00 02 20 61"], Refused(19)),
+        100,
+    ),
+    (
+        ("names_display", &["22", "01 00 02 61 20"], Refused(19)),
+        100,
+    ),
+    (
+        ("names_display", &["22", "01 00 03 61 1F 62"], Refused(19)),
+        100,
+    ),
+    (
+        ("names_display", &["22", "01 00 02 61 7F"], Refused(19)),
+        100,
+    ),
+    // not strictly ascending
+    (
+        ("names_display", &["22", "02 00 01 61 01 61"], Refused(19)),
+        100,
+    ),
+    (
+        (
+            "names_display",
+            &["22", "02 00 02 61 62 01 61"],
+            Refused(19),
+        ),
+        100,
+    ),
+    // a proper beginning is below, and the empty text is below every other
+    (
+        (
+            "names_display",
+            &["22", "04 00 00 01 61 02 61 62 01 62"],
+            Bytes("6E 75 6D 62 65 72"),
+        ),
+        100,
+    ),
+    // parts "", "b"
+    (("names_name_new", &["02 00 01 62"], Bytes("20 62")), 100),
+    // "first name"
+    (
+        (
+            "names_name_new",
+            &["02 05 66 69 72 73 74 04 6E 61 6D 65"],
+            Bytes("66 69 72 73 74 20 6E 61 6D 65"),
+        ),
+        100,
+    ),
+    // "a", ".", "b"
+    (
+        (
+            "names_name_new",
+            &["03 01 61 01 2E 01 62"],
+            Bytes("61 2E 62"),
+        ),
+        100,
+    ),
+    // "."
+    (("names_name_new", &["01 01 2E"], Bytes("2E")), 100),
+    // "a", "+", "-", "b", "c"
+    (
+        (
+            "names_name_new",
+            &["05 01 61 01 2B 01 2D 01 62 01 63"],
+            Bytes("61 2B 2D 62 20 63"),
+        ),
+        100,
+    ),
+    // parts are trimmed, a mark as well; blanks inside stay
+    (
+        (
+            "names_name_new",
+            &["03 05 20 61 20 62 09 04 0D 0A 2A 20 02 0B 63"],
+            Bytes("61 20 62 2A 63"),
+        ),
+        100,
+    ),
+    // a blank part is empty, and adds nothing
+    (
+        (
+            "names_name_new",
+            &["03 01 61 02 20 20 01 62"],
+            Bytes("61 20 62"),
+        ),
+        100,
+    ),
+    // 00 and 1F are not blank
+    (
+        (
+            "names_name_new",
+            &["03 01 61 01 00 01 1F"],
+            Bytes("61 20 00 20 1F"),
+        ),
+        100,
+    ),
+    // no parts give the empty name
+    (("names_name_new", &["00"], Bytes("")), 0),
+    // no bytes at all; a part that is missing; a byte left over; a byte above 7F
+    (("names_name_new", &[""], Refused(19)), 100),
+    (("names_name_new", &["01"], Refused(19)), 100),
+    (("names_name_new", &["01 01 61 00"], Refused(19)), 100),
+    (("names_name_new", &["01 01 80"], Refused(19)), 100),
+    (("names_name_new", &["02 01 61 01 62"], Refused(18)), 2),
+    // parts of 16,384 bytes, and of one more: 64 parts of blanks
+    (
+        (
+            "names_trim",
+            &["20 09 20 61 20 62 20 0A"],
+            Bytes("61 20 62"),
+        ),
+        ROOM,
+    ),
+    (("names_trim", &["09 0A 0B 0C 0D 20"], Bytes("")), ROOM),
 ];
 
 /// docs/DIFFERENCES.md, row by row.
@@ -245,14 +558,15 @@ fn bytes(text: &str) -> Vec<u8> {
 }
 
 fn ask((name, args, want): &Row, scratch: usize, output: usize) {
-    let call: &Call = CALLS
-        .iter()
-        .find(|call| call.name == *name)
-        .expect("a call");
     let args: Vec<Vec<u8>> = args.iter().map(|text| bytes(text)).collect();
     let args: Vec<&[u8]> = args.iter().map(Vec::as_slice).collect();
+    ask_bytes(name, &args, want, scratch, output);
+}
+
+fn ask_bytes(name: &str, args: &[&[u8]], want: &Want, scratch: usize, output: usize) {
+    let call: &Call = CALLS.iter().find(|call| call.name == name).expect("a call");
     let case = Case {
-        args: &args,
+        args,
         others: None,
         scratch,
         output,
@@ -267,6 +581,8 @@ fn ask((name, args, want): &Row, scratch: usize, output: usize) {
             let written = bytes(text);
             (Answer::given(written.len() as u32), written)
         }
+        Command(c) => (Answer::given(*c), Vec::new()),
+        Unknown => (Answer::none(), Vec::new()),
         Refused(n) => (Answer::refused(*n), Vec::new()),
     };
     assert_eq!(expected.answer, answer, "{name} {args:02X?}");
@@ -284,6 +600,43 @@ fn worked_examples_of_readers_and_bounds() {
     for (row, scratch, output) in SHORT {
         ask(row, *scratch, *output);
     }
+}
+
+/// So many texts of 255 bytes, ascending by their first byte, and a last one of so many bytes.
+fn texts(last: u8) -> Vec<u8> {
+    let mut table = vec![64, 0];
+    for first in 0x21..0x21 + 63 {
+        table.extend([255, first]);
+        table.extend([b'a'; 254]);
+    }
+    table.push(last);
+    table.extend(vec![0x7E; usize::from(last)]);
+    table
+}
+
+/// 63 parts of 255 blanks, and a last one of so many.
+fn blanks(last: u8) -> Vec<u8> {
+    let mut parts = vec![64];
+    for _ in 0..63 {
+        parts.push(255);
+        parts.extend([b' '; 255]);
+    }
+    parts.push(last);
+    parts.extend(vec![b' '; usize::from(last)]);
+    parts
+}
+
+#[test]
+fn worked_examples_of_texts() {
+    for (row, output) in TEXTS {
+        ask(row, ROOM, *output);
+    }
+    // 16,384 bytes, and one more
+    let number = Bytes("6E 75 6D 62 65 72");
+    ask_bytes("names_display", &[&[0x22], &texts(253)], &number, 0, 6);
+    ask_bytes("names_display", &[&[0x22], &texts(254)], &Refused(19), 0, 6);
+    ask_bytes("names_name_new", &[&blanks(254)], &Bytes(""), 0, 0);
+    ask_bytes("names_name_new", &[&blanks(255)], &Refused(19), 0, 0);
 }
 
 #[test]
