@@ -29,8 +29,8 @@ use Rattle.retrieval.specs.Retrieve.{mapped}
 use Rattle.retrieval.proofs.Answering.{behind}
 use Rattle.retrieval.proofs.Contexts.{This, this, size-none}
 use Rattle.paths.specs.Paths.{value-of, entries-of, is-some, isContext, isEmpty, getFirst, given, search, containsDeep, entry-place, place}
-use Rattle.paths.specs.Places.{wholeAt, contextAt, frontAt, Fills, Spot, spot, Piece, piece, extent, found, extentOf, spotIn, Searches, Clear, isFound, lentBytes, lentCode, lentPlace, Lent, Within}
-use Rattle.paths.specs.Places.{pieceBytes, piecePlace, Lends}
+use Rattle.paths.specs.Places.{wholeAt, contextAt, frontAt, Fills, Spot, spot, Piece, piece, extent, found, extentOf, spotIn, Searches, Clear, isFound}
+use Rattle.paths.specs.Places.{lentBytes, lentCode, lentPlace, Lent, Within, pieceBytes, piecePlace, Lends}
 use Rattle.paths.specs.Calls.{mostNames, contextOf, searchDeepCall, getEntryCall, getFirstCall, containsDeepCall, containsEntryCall, isContextCall, isEmptyCall, lenCall}
 use Rattle.paths.specs.declared.Found.{Found}
 use Rattle.paths.specs.declared.Found.the-variants as found-is
@@ -263,7 +263,8 @@ stand-place (done none) = refl
 stand-place (done (some (spot q v))) = refl
 stand-place (refused n) = refl
 
-pub lent : (c : RefT (List ℕ)) (o : Outcome (Option Spot)) (x : Outcome (Option Piece)) (part : RefT (List ℕ)) (code : ℕ) → AllStand (now c) o → x ≡ extentOf o → Lends x c part code → Lent o c part code
+pub lent : (c : RefT (List ℕ)) (o : Outcome (Option Spot)) (x : Outcome (Option Piece)) (part : RefT (List ℕ)) (code : ℕ)
+    → AllStand (now c) o → x ≡ extentOf o → Lends x c part code → Lent o c part code
 lent c o x part code h e L = record {
   bytes = L .bytes ∙ ap (λ z. pieceBytes z (now c)) e ∙ stand-bytes (now c) o h;
   lies = subst (λ (q : ℕ). LiesAt q c part) (ap piecePlace e ∙ stand-place o) (L .lies);

@@ -1,9 +1,9 @@
 -- The questions on a context beside each other. Each call is one function of the entries that were read, so a law on trees is one on calls.
 -- Assumes nothing.
-use Prim.Native.Nat.{ℕ, zero, suc, _+_, _≤_}
+use Prim.Native.Nat.{ℕ, suc, _+_}
 use native.Mathlib.Omega.{arith}
 use mathlib.Core.Path.{_≡_, refl, sym, ap, subst, _∙_}
-use mathlib.Core.Bool.{Bool, true, false, false≢true}
+use mathlib.Core.Bool.{true, false, false≢true}
 use mathlib.Core.Option.{Option, none, some}
 use mathlib.Core.List.{List, [], _∷_}
 use lib.ListN.{length, take, drop}
@@ -18,8 +18,8 @@ use Rattle.order.proofs.LeastSize.{length-encV}
 use Rattle.retrieval.specs.Retrieve.{mapped}
 use Rattle.retrieval.proofs.Contexts.{size-none}
 use Rattle.paths.specs.Paths.{value-of, entries-of, given, is-some, isContext, isEmpty, getFirst, search, containsDeep, entry-place, place}
-use Rattle.paths.specs.Places.{Spot, spot}
-use Rattle.paths.specs.Calls.{contextOf, searchDeepCall, getEntryCall, getFirstCall, containsDeepCall, containsEntryCall, isContextCall, isEmptyCall, lenCall}
+use Rattle.paths.specs.Places.{Spot, spot, spotIn}
+use Rattle.paths.specs.Calls.{contextOf, searchDeepCall, getEntryCall, getFirstCall, containsDeepCall}
 use Rattle.paths.specs.Laws.{holdsContext, StandsAt, Lookups}
 use Rattle.paths.proofs.Whole.{of-context}
 use Rattle.paths.proofs.Finding.{value-first, below-none}
@@ -28,7 +28,8 @@ use Rattle.paths.proofs.Calling.{AllStand, entry-call, stand-deep, stan
 
 -- ---- a call after a call
 -- a question f, asked of the entries or of what g gives of them
-asked : {X Y : Type 0} (o : Outcome Entries) (g : Entries → X) (f : X → Y) (b : Entries → Y) → ((es : Entries) → b es ≡ f (g es)) → (do es ← o; done (b es)) ≡ (do x ← (do es ← o; done (g es)); done (f x))
+asked : {X Y : Type 0} (o : Outcome Entries) (g : Entries → X) (f : X → Y) (b : Entries → Y) → ((es : Entries) → b es ≡ f (g es))
+    → (do es ← o; done (b es)) ≡ (do x ← (do es ← o; done (g es)); done (f x))
 unfolding _>>=_
 asked (done es) g f b h = ap done (h es)
 asked (refused n) g f b h = refl
@@ -38,6 +39,10 @@ unfolding _>>=_
 given-done o es f e = rw e
 
 -- ---- found
+-- the value of a name and its place
+abbrev entrySpot : ℕ → Entries → Option Spot
+entrySpot n es = mapped (spot (entry-place n es + nameWidth)) (value-of n es)
+
 found-is : (q : ℕ) (o : Option Val) → is-some o ≡ is-some (mapped (spot q) o)
 found-is q none = refl
 found-is q (some v) = refl
@@ -82,7 +87,7 @@ first-call c n v es e =
     given-done (contextOf c 0) (entry n v es) (λ fs. done (mapped (spot (3 + nameWidth)) (getFirst fs))) e
     ∙ ap (λ (q : ℕ). done (some (spot q v))) (first-place n v es)
     ∙ ap (λ o. done (mapped (spot (entry-place n (entry n v es) + nameWidth)) o)) (first-tree n v es)
-    ∙ sym (given-done (contextOf c 0) (entry n v es) (λ fs. done (mapped (spot (entry-place n fs + nameWidth)) (value-of n fs))) e)
+    ∙ sym (given-done (contextOf c 0) (entry n v es) (λ fs. done (entrySpot n fs)) e)
 
 -- ---- the empty path
 nowhere-tree : (es : Entries) → (search [] es ≡ none) × (containsDeep [] es ≡ false)
@@ -91,7 +96,7 @@ nowhere-tree es = (refl, refl)
 
 nowhere-call : (c : List ℕ) (es : Entries) → contextOf c 0 ≡ done es → (searchDeepCall c [] ≡ done none) × (containsDeepCall c [] ≡ done false)
 nowhere-call c es e = (
-  given-done (contextOf c 0) es (λ fs. done (mapped (spot (place [] fs)) (search [] fs))) e ∙ ap (λ o. done (mapped (spot (place [] es)) o)) (nowhere-tree es .0),
+  given-done (contextOf c 0) es (λ fs. done (spotIn [] fs)) e ∙ ap (λ o. done (mapped (spot (place [] es)) o)) (nowhere-tree es .0),
   given-done (contextOf c 0) es (λ fs. done (containsDeep [] fs)) e ∙ ap done (nowhere-tree es .1),
 )
 
@@ -106,12 +111,12 @@ lookups = record {
   entry-tree = entry-tree;
   entry-call = λ c n. sym (entry-call c n);
   deep-tree = contains-deep;
-  deep-call = λ c p. asked (contextOf c (length p)) (λ es. mapped (spot (place p es)) (search p es)) is-some (containsDeep p) (λ es. contains-deep p es ∙ found-is (place p es) (search p es));
+  deep-call = λ c p. asked (contextOf c (length p)) (spotIn p) is-some (containsDeep p) (λ es. contains-deep p es ∙ found-is (place p es) (search p es));
   has-tree = λ n es. refl;
-  has-call = λ c n. asked (contextOf c 0) (λ es. mapped (spot (entry-place n es + nameWidth)) (value-of n es)) is-some (λ es. is-some (value-of n es)) (λ es. found-is (entry-place n es + nameWidth) (value-of n es));
+  has-call = λ c n. asked (contextOf c 0) (entrySpot n) is-some (λ es. is-some (value-of n es)) (λ es. found-is (entry-place n es + nameWidth) (value-of n es));
   context-found = context-found;
   found-context = found-context;
-  context-call = λ c n. asked (contextOf c 0) (λ es. mapped (spot (entry-place n es + nameWidth)) (value-of n es)) holdsContext (isContext n) (λ es. holds-is (entry-place n es + nameWidth) (value-of n es));
+  context-call = λ c n. asked (contextOf c 0) (entrySpot n) holdsContext (isContext n) (λ es. holds-is (entry-place n es + nameWidth) (value-of n es));
   empty-tree = empty-tree;
   empty-call = λ c. asked (contextOf c 0) countEntries (λ n. eqb n 0) isEmpty empty-tree;
   first-tree = first-tree;

@@ -116,7 +116,7 @@ isFound (done (some q)) = done true
 isFound (done none) = done false
 isFound (refused n) = refused n
 
--- ---- a part lent to the caller: the whole value's bytes, no bytes where there is none; beside it the refusal's number, or 0
+-- ---- a part of the caller's own bytes: the whole value's, none where there is no value; beside it the refusal's number, or 0
 unfoldable pub lentBytes : Outcome (Option Spot) → List ℕ
 lentBytes (done (some (spot p v))) = encV v
 lentBytes (done none) = []
@@ -126,13 +126,13 @@ abbrev pub lentCode : {X : Type 0} → Outcome X → ℕ
 lentCode (done x) = 0
 lentCode (refused n) = n
 
--- the place where the value stands; the empty part stands at the front
+-- where in them it begins; the empty part at the front
 unfoldable pub lentPlace : Outcome (Option Spot) → ℕ
 lentPlace (done (some (spot p v))) = p
 lentPlace (done none) = 0
 lentPlace (refused n) = 0
 
--- no value has no bytes, and no refusal the number 0
+-- what is owed for the definition o: the bytes, where in c they stand, and the status. No value has no bytes, and no refusal the number 0
 pub record Lent (o : Outcome (Option Spot)) (c part : RefT (List ℕ)) (code : ℕ) : Type 0 where
   pub bytes : now part ≡ lentBytes o
   pub lies : LiesAt (lentPlace o) c part

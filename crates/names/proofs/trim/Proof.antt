@@ -20,4 +20,7 @@ trim-spec =
     (λ c. search needs)
     (λ c κs. search needs)
     (λ c. trimmed-length _ _ _ (c .before .before .before .trim-start .ensures) (c .before .trim-end .ensures))
-    (λ c. trimmed-part _ _ _ (trimmed-place _ _ _ (c .before .before .before .trim-start .ensures) (c .before .trim-end .ensures)) (search needs) (trimmed _ _ _ (c .before .before .before .trim-start .ensures) (c .before .trim-end .ensures))))
+    (λ c.
+    let front = c .before .before .before .trim-start .ensures in
+    let back = c .before .trim-end .ensures in
+    trimmed-part _ _ _ (trimmed-place _ _ _ front back) (search needs) (trimmed _ _ _ front back)))

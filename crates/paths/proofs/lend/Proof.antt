@@ -12,10 +12,10 @@ lend-spec =
     tie.close
     (tie.spec
     (λ c. search needs)
-    (λ c. omega (arith, within-part (c .before .before .before .args .f) (c .before .before .before .args .c .now) (c .before .f .given .0 .0) (c .before .f .given .0 .1 .0) (c .before .f .given .1) (c .before .before .before .pre)))
+    (λ c. omega (arith, within-part _ _ _ _ (c .before .f .given .1) (c .before .before .before .pre)))
     (λ c. search needs)
     (λ c. search needs)
-    (λ c. omega (arith, within-part (c .before .before .before .args .f) (c .before .before .before .args .c .now) (c .before .f .given .0 .0) (c .before .f .given .0 .1 .0) (c .before .f .given .1) (c .before .before .before .pre)))
+    (λ c. omega (arith, within-part _ _ _ _ (c .before .f .given .1) (c .before .before .before .pre)))
     (λ c. search needs)
     (λ c. search needs)
     (λ c. search needs)
