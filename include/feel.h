@@ -32,7 +32,7 @@
  *   16  a value on the way of the path is no context
  *   17  the result would have more than 16,384 bytes or a level over 31
  *   18  output too short for the answer
- *   19  texts: table or parts malformed, or with bytes left over
+ *   19  texts: table or parts malformed, or with bytes left over; more than 16,384 bytes to trim
  *   20  texts: a name's number is not in the table
  */
 #ifndef FEEL_H
@@ -197,7 +197,8 @@ uint64_t feel_names_is_built_in_type_name(const uint8_t *s, size_t s_len);
 /* Name::new: the name made of the parts, each without the blanks at its ends, at the front of out. Answers its length, or 19; 18. */
 uint64_t feel_names_name_new(const uint8_t *parts, size_t parts_len, uint8_t *out, size_t out_len);
 
-/* Name::from: s without the blanks at both its ends, at the front of out; s has any length and any bytes. Answers the length, or 18. */
+/* Name::from: s without the blanks at both its ends, at the front of out; s has any bytes. Answers the length, or 19 where s has more than 16,384
+ * bytes; 18. */
 uint64_t feel_names_trim(const uint8_t *s, size_t s_len, uint8_t *out, size_t out_len);
 
 #ifdef __cplusplus

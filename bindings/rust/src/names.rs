@@ -131,17 +131,21 @@ pub fn name_new_into(parts: &[u8], out: &mut [u8]) -> Result<usize, Refusal> {
     })
 }
 
-/// `Name::from`: `s` without the blanks 09 to 0D and 20 at both its ends. It may have any bytes.
+/// `Name::from`: `s` without the blanks 09 to 0D and 20 at both its ends. It may have any bytes, at
+/// most 16,384 of them: refusal 19.
 ///
 /// ```
-/// assert_eq!(hedvaste::names::trim(b"\ta b \n"), b"a b");
+/// use hedvaste::names;
+/// assert_eq!(names::trim(b"\ta b \n")?, b"a b");
+/// assert_eq!(names::trim(&[0x20; 16_385]).unwrap_err().number(), 19);
+/// # Ok::<(), hedvaste::Refusal>(())
 /// ```
-pub fn trim(s: &[u8]) -> Vec<u8> {
-    // Never longer than `s`, so it is not refused.
-    written(s.len(), |out| trim_into(s, out)).unwrap_or_default()
+pub fn trim(s: &[u8]) -> Result<Vec<u8>, Refusal> {
+    // Never longer than `s`.
+    written(counted(s), |out| trim_into(s, out))
 }
 
-/// [trim] at the front of `out`: its length; refusal 18 is the only one.
+/// [trim] at the front of `out`: its length.
 ///
 /// ```
 /// let mut out = [0; 1];

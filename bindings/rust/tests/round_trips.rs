@@ -132,7 +132,7 @@ fn an_update_is_read_as_a_tree() {
 fn empty_slices_are_lent() {
     assert_eq!(names::from_str(&[]), None);
     assert!(!names::is_built_in_type_name(&[]));
-    assert_eq!(names::trim(&[]), b"");
+    assert_eq!(names::trim(&[]), Ok(vec![]));
     assert_eq!(contexts::contains_deep(&[0x0B, 0, 0], &[]), Ok(false));
     let refused = types::reduced_into(&[0x20], &mut []).unwrap_err();
     assert_eq!(refused.number(), 18);

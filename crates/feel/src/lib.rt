@@ -13,10 +13,9 @@ ghost use Rattle.bounds.specs.Calls.{commonSupertype, commonSubtype, reducedCal
 ghost use Rattle.paths.specs.Places.{found, extentOf};
 ghost use Rattle.paths.specs.Calls.{searchDeepCall, getEntryCall, getFirstCall, containsDeepCall, containsEntryCall, isContextCall, isEmptyCall, lenCall, count};
 ghost use Rattle.context.specs.Calls.{createEntriesCall, applyEntriesCall, zipCall, overwriteCall, moveEntryCall, setEntryCall, removeEntryCall, setNullCall};
-ghost use Rattle.form.specs.Outcome.{done, fits};
+ghost use Rattle.form.specs.Outcome.{done};
 ghost use Rattle.names.specs.Texts.{isBuiltInTypeName};
-ghost use Rattle.names.specs.Names.{trim};
-ghost use Rattle.names.specs.Calls.{displayCall, nameNewCall, fromStrCall, known};
+ghost use Rattle.names.specs.Calls.{displayCall, nameNewCall, trimCall, fromStrCall, known};
 ghost use Rattle.feel.specs.Numbers.{numbered, judged, parted, named, Halves, Exported};
 use form::Checked;
 use form::Verdict;
@@ -519,7 +518,7 @@ pub extern "C" fn feel_names_name_new(parts: &[u8], out: &mut [u8]) -> u64
 // The bytes without the blanks at both ends.
 #[no_mangle]
 pub extern "C" fn feel_names_trim(s: &[u8], out: &mut [u8]) -> u64
-    ensures { λ r. ⌜ Exported (fits (length (now (out .entry))) (trim (now (s .entry)))) (now (out .entry)) (now (out .exit)) r ⌝ }
+    ensures { λ r. ⌜ Exported (trimCall (now (s .entry)) (length (now (out .entry)))) (now (out .entry)) (now (out .exit)) r ⌝ }
 {
-    written_number(retrieval::give(names::trim(s), out))
+    written_number(names::trim_into(s, out))
 }

@@ -8,3 +8,4 @@ pub mod Read
 pub mod Answers
 pub mod Walks
 pub mod ByteForm
+pub mod Parts

@@ -12,6 +12,7 @@ use lib.Dec.{eqb}
 use borrow.Author.Tests.{eq-eqb, ne-eqb, eqb-true, eqb-false}
 use Rattle.form.specs.Trees.{Simple, decode}
 use Rattle.form.proofs.ExactTypes.{code-decode}
+use Rattle.order.proofs.Simple.{and-left, and-right}
 use Rattle.retrieval.specs.Retrieve.{mapped}
 use Rattle.names.specs.Texts.{nameOf, simples, command, sameText, Only, oneNamed, fromStr, isNamed, isBuiltInTypeName, letters, startOf}
 use Rattle.names.specs.Tables.{isRead}
@@ -22,14 +23,6 @@ use Rattle.names.proofs.Letters.{pick, pick-name}
 use Rattle.names.proofs.Tabling.{is-mapped}
 
 -- ---- equal byte for byte
-and-left : (p q : Bool) → p && q ≡ true → p ≡ true
-and-left true q e = refl
-and-left false q e = e
-
-pub and-right : (p q : Bool) → p && q ≡ true → q ≡ true
-and-right true q e = e
-and-right false q e = absurd (false≢true e)
-
 pub same-text : (s t : List ℕ) → sameText s t ≡ true → s ≡ t
 unfolding sameText
 same-text [] [] e = refl

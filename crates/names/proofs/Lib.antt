@@ -12,3 +12,4 @@ pub mod Knowing
 pub mod Naming
 pub mod ShowCalling
 pub mod Theorems
+pub mod Laws

@@ -16,11 +16,12 @@ use Rattle.form.specs.Layout.{kindOf}
 use Rattle.form.specs.Limits.{mostBytes}
 use Rattle.form.specs.Outcome.{done, _>>=_, _>>_}
 use Rattle.form.specs.Read.{front, andThen, orElse, operand, readRun, named, readNamed, counted, readFunction, stepType, stepT, readT, numberOf, all, readWhole}
+use Rattle.order.proofs.Simple.{and-right}
 use Rattle.types.proofs.Reading.{never}
 use Rattle.names.specs.Texts.{nameOf, simples, sameText, oneNamed, fromStr, isBuiltInTypeName, nth, join, text, textBuilt, textsOfFields, textsOfTys}
 use Rattle.names.specs.Tables.{printable, tidy, lessText, inTable, readTexts, countedTexts, readTable, isRead}
 use Rattle.names.specs.Calls.{displayCall}
-use Rattle.names.proofs.Knowing.{and-right, same-text, named-cons, named-read}
+use Rattle.names.proofs.Knowing.{same-text, named-cons, named-read}
 use Rattle.names.proofs.Tabling.{less-nil, less-begin, some-same, provided-got, end-none, read-zero, read-nil, texts-got}
 
 -- ---- the names of the simple types

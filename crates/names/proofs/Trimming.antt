@@ -1,17 +1,26 @@
--- The loops of trim, and the marks, the spaces and what a part adds to a name.
+-- The loops of trim, where its part stands, trim with an output, and the marks and the spaces of a name.
 -- Assumes nothing.
 use Prim.Native.Nat.{ℕ, suc, _+_, _-_, _<_, _≤_}
 use native.Mathlib.Omega.{arith}
 use native.Mathlib.Numerals.{add-one}
-use mathlib.Core.Path.{_≡_, refl, sym, ap, _∙_}
+use mathlib.Core.Path.{_≡_, refl, sym, ap, subst, _∙_}
 use mathlib.Core.Bool.{Bool, true, false, cond, not, _&&_}
 use mathlib.Core.List.{List, [], _∷_, _++_}
-use lib.ListN.{length, take, drop, getD, drop-of-length-le}
+use lib.ListN.{length, take, drop, getD, drop-of-length-le, length-drop}
 use lib.Seq.{take-all, take-suc, drop-cons, length-take-le}
-use lib.Dec.{eqb}
+use lib.Dec.{leb, eqb}
+use denote.Ref.{RefT, now}
 use borrow.Author.Tests.{le-leb, lt-leb, ne-eqb, lt-ltb, eqb-true, eqb-false, not-true, not-false}
+use Rattle.form.specs.Limits.{mostBytes}
+use Rattle.form.specs.Outcome.{refused, _>>_, fits}
+use Rattle.form.specs.Answers.{Built}
+use Rattle.form.specs.Parts.{LiesAt}
+use Rattle.form.specs.declared.Written.{Written}
+use Rattle.form.specs.declared.Written.the-variants as written-is
 use Rattle.form.proofs.Runs.{rest}
-use Rattle.names.specs.Names.{blank, trimStart, keep, trimEnd, trim, isMark, isEmpty, parted}
+use Rattle.bounds.proofs.Outcomes.{built-refused}
+use Rattle.names.specs.Names.{blank, trimStart, keep, trimEnd, trim, frontBlanks, Trimmed, isMark, isEmpty, parted}
+use Rattle.names.specs.Calls.{trimCall}
 
 -- ---- blanks
 pub blank-low : (b : ℕ) → 0x09 ≤ b → b ≤ 0x0D → true ≡ blank b
@@ -27,11 +36,11 @@ pub blank-above : (b : ℕ) → 0x0D < b → (b ≡ 0x20 → ⊥) → false ≡ 
 blank-above b h d = rw (lt-leb b 0x0D h, le-leb 0x09 b (omega arith), ne-eqb b 0x20 d)
 
 -- ---- at the front
-start-more : (b : ℕ) (s : List ℕ) → blank b ≡ true → trimStart (b ∷ s) ≡ trimStart s
+pub start-more : (b : ℕ) (s : List ℕ) → blank b ≡ true → trimStart (b ∷ s) ≡ trimStart s
 unfolding trimStart
 start-more b s h = ap (λ q. cond q (trimStart s) (b ∷ s)) h
 
-start-kept : (b : ℕ) (s : List ℕ) → blank b ≡ false → trimStart (b ∷ s) ≡ b ∷ s
+pub start-kept : (b : ℕ) (s : List ℕ) → blank b ≡ false → trimStart (b ∷ s) ≡ b ∷ s
 unfolding trimStart
 start-kept b s h = ap (λ q. cond q (trimStart s) (b ∷ s)) h
 
@@ -118,6 +127,29 @@ module _ (s : List ℕ) (from to : ℕ) (f : (from ≤ length s) × (drop from s
   pub trimmed : take to (take (length s - from) (drop from s)) ≡ trim s
   trimmed = t .1 ∙ ap trimEnd (rest s from ∙ f .1)
 
+  pub trimmed-place : from ≡ frontBlanks s
+  trimmed-place = omega (arith, f .0, sym (length-drop from s) ∙ ap length (f .1))
+
+pub trimmed-part : (s r : RefT (List ℕ)) (p : ℕ) → p ≡ frontBlanks (now s) → LiesAt p s r → now r ≡ trim (now s) → Trimmed s r
+trimmed-part s r p e l b = record { bytes = b; lies = subst (λ (q : ℕ). LiesAt q s r) e l }
+
+-- ---- with an output
+module _ (s : List ℕ) (room : ℕ) where
+  call-long : mostBytes < length s → trimCall s room ≡ refused 19
+  unfolding trimCall _>>_
+  call-long h = rw (lt-leb (length s) mostBytes h)
+
+  call-short : length s ≤ mostBytes → trimCall s room ≡ fits room (trim s)
+  unfolding trimCall _>>_
+  call-short h = rw (le-leb (length s) mostBytes h)
+
+module _ (s old : List ℕ) where
+  pub trim-long : mostBytes < length s → Built (trimCall s (length old)) old old (written-is.Refused 19)
+  trim-long h = built-refused (trimCall s (length old)) 19 old (call-long s (length old) h)
+
+  pub trim-given : length s ≤ mostBytes → (t new : List ℕ) (r : Written) → t ≡ trim s → Built (fits (length old) t) old new r → Built (trimCall s (length old)) old new r
+  trim-given h t new r e b = subst (λ o. Built o old new r) (ap (fits (length old)) e ∙ sym (call-short s (length old) h)) b
+
 -- ---- marks
 one-byte : (s : List ℕ) → length s ≡ 1 → isMark (getD s 0 0 ∷ []) ≡ isMark s
 one-byte [] h = absurd (omega arith)
@@ -170,7 +202,7 @@ module _ (s : List ℕ) (one : length s ≡ 1) where
 pub parted-first : (i : ℕ) (p : Bool) (s : List ℕ) → i ≡ 0 → false ≡ parted i p s
 parted-first i p s e = sym (ap (λ (k : ℕ). parted k p s) e)
 
-behind-first : (i : ℕ) (p : Bool) (s : List ℕ) → (i ≡ 0 → ⊥) → (not p && (not (isMark s) && not (isEmpty s))) ≡ parted i p s
+pub behind-first : (i : ℕ) (p : Bool) (s : List ℕ) → (i ≡ 0 → ⊥) → (not p && (not (isMark s) && not (isEmpty s))) ≡ parted i p s
 behind-first i p s d = sym (ap (λ q. q && (not p && (not (isMark s) && not (isEmpty s)))) (lt-ltb 0 i (omega arith)))
 
 pub parted-after : (i : ℕ) (p : Bool) (s : List ℕ) → (i ≡ 0 → ⊥) → p ≡ true → false ≡ parted i p s

@@ -3,11 +3,14 @@
 use Prim.Native.Nat.{ℕ}
 use mathlib.Core.Option.{Option, none, some}
 use mathlib.Core.List.{List}
-use Rattle.form.specs.Outcome.{Outcome, _>>=_, orRefuse, fits}
+use lib.ListN.{length}
+use lib.Dec.{leb}
+use Rattle.form.specs.Limits.{mostBytes}
+use Rattle.form.specs.Outcome.{Outcome, _>>=_, _>>_, check, orRefuse, fits}
 use Rattle.form.specs.Read.{readType}
 use Rattle.retrieval.specs.Retrieve.{mapped}
 use Rattle.names.specs.Texts.{command, fromStr, text}
-use Rattle.names.specs.Names.{nameNew}
+use Rattle.names.specs.Names.{trim, nameNew}
 use Rattle.names.specs.Tables.{readTable, readParts}
 use Rattle.names.specs.declared.Known.{Known}
 use Rattle.names.specs.declared.Known.the-variants as known-is
@@ -25,6 +28,12 @@ unfoldable pub nameNewCall : List ℕ → ℕ → Outcome (List ℕ)
 nameNewCall parts room = do
   ps ← orRefuse 19 (readParts parts)
   fits room (nameNew ps)
+
+-- Name::from with an output: at most 16,384 bytes, as the parts of a name
+unfoldable pub trimCall : List ℕ → ℕ → Outcome (List ℕ)
+trimCall s room = do
+  check 19 (leb (length s) mostBytes)
+  fits room (trim s)
 
 -- FeelType::from_str: the command of the type; none is unknown
 abbrev pub fromStrCall : List ℕ → Option ℕ

@@ -1,9 +1,13 @@
 -- Names: `Name::from`, which trims, and `Name::new` over parts.
 -- Assumes nothing.
-use Prim.Native.Nat.{ℕ, suc}
+use Prim.Native.Nat.{ℕ, suc, _-_}
+use mathlib.Core.Path.{_≡_}
 use mathlib.Core.Bool.{Bool, true, false, cond, not, _&&_, _||_}
 use mathlib.Core.List.{List, [], _∷_, _++_}
+use lib.ListN.{length}
 use lib.Dec.{leb, ltb, eqb}
+use denote.Ref.{RefT, now}
+use Rattle.form.specs.Parts.{LiesAt}
 
 -- ---- trim
 -- 09 to 0D and 20
@@ -26,6 +30,15 @@ trimEnd (b ∷ s) = keep b (trimEnd s)
 -- `Name::from`
 abbrev pub trim : List ℕ → List ℕ
 trim s = trimEnd (trimStart s)
+
+-- how many blanks stand at the front
+abbrev pub frontBlanks : List ℕ → ℕ
+frontBlanks s = length s - length (trimStart s)
+
+-- what trim hands back: a part of the caller's own bytes, behind the blanks at the front
+pub record Trimmed (s r : RefT (List ℕ)) : Type 0 where
+  pub bytes : now r ≡ trim (now s)
+  pub lies : LiesAt (frontBlanks (now s)) s r
 
 -- ---- Name::new
 -- matches!(part, "." | "/" | "-" | "'" | "+" | "*")

@@ -10,10 +10,10 @@ ghost use Rattle.types.specs.At.{typeAt, fieldsAt, sigAt, Ok};
 ghost use Rattle.retrieval.specs.Filling.{fill, puts};
 ghost use Rattle.retrieval.specs.Retrieve.{mapped};
 ghost use Rattle.names.specs.Texts.{nameOf, sameText, Only, isBuiltInTypeName, startOf, arrow};
-ghost use Rattle.names.specs.Names.{blank, trimStart, trimEnd, trim, isMark, parted, added, nameNew};
+ghost use Rattle.names.specs.Names.{blank, trimStart, trimEnd, trim, Trimmed, isMark, parted, added, nameNew};
 ghost use Rattle.names.specs.Tables.{printable, tidy, plain, lessText, readTable, readParts, isRead};
 ghost use Rattle.names.specs.Writing.{gap, label, Locates, Marked, ofTypes, ofInner, ofFields, ofSigs, Shows, Accepted, Writes};
-ghost use Rattle.names.specs.Calls.{displayCall, nameNewCall, fromStrCall, known};
+ghost use Rattle.names.specs.Calls.{displayCall, nameNewCall, trimCall, fromStrCall, known};
 use form::Checked;
 use form::MOST_BYTES;
 use form::NAME_WIDTH;
@@ -197,12 +197,22 @@ fn trim_end(s: &[u8]) -> usize
 
 // `Name::from`: the caller's own bytes without the blanks at both ends. It refuses nothing.
 pub fn trim<'a>(s: &'a [u8]) -> &'a [u8]
-    ensures { λ r. ⌜ now r ≡ trim (now (s .entry)) ⌝ }
+    ensures { λ r. ⌜ Trimmed (s .entry) r ⌝ }
 {
     let from = trim_start(s);
     let rest = &s[from..];
     let to = trim_end(rest);
     &rest[..to]
+}
+
+// `trim` at the front of the output. Refusals 19 (more than 16,384 bytes), 18.
+pub fn trim_into(s: &[u8], out: &mut [u8]) -> Written
+    ensures { λ r. ⌜ Built (trimCall (now (s .entry)) (length (now (out .entry)))) (now (out .entry)) (now (out .exit)) r ⌝ }
+{
+    if MOST_BYTES < s.len() {
+        return Written::Refused(19);
+    }
+    retrieval::give(trim(s), out)
 }
 
 // ---- the table of texts, and the parts of a name

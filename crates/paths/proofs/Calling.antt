@@ -8,6 +8,7 @@ use mathlib.Core.Option.{Option, none, some}
 use mathlib.Core.List.{List, [], _∷_}
 use lib.ListN.{length, getD, take, drop}
 use lib.Dec.{ltb, leb, eqb}
+use denote.Ref.{RefT, now}
 use borrow.Author.Tests.{le-leb, lt-leb}
 use Rattle.form.specs.Limits.{nameWidth, mostBytes, valueLevels, valueRefusals}
 use Rattle.form.specs.Trees.{Val, Entries, no-entries, entry}
@@ -15,6 +16,7 @@ use Rattle.form.specs.Form.{numAt, Bytes, encV, countEntries}
 use Rattle.form.specs.Outcome.{Outcome, done, refused, _>>=_, _>>_, pick, check, orRefuse}
 use Rattle.form.specs.Read.{Got, got, bad, readV, numberOf, all, readWhole, readValue}
 use Rattle.form.specs.Faults.{Shape, Names, Level}
+use Rattle.form.specs.Parts.{LiesAt}
 use Rattle.form.proofs.Accepted.{refused-done, whole-got}
 use Rattle.order.specs.Size.{size-entries}
 use Rattle.order.proofs.LeastSize.{length-encV}
@@ -27,8 +29,8 @@ use Rattle.retrieval.specs.Retrieve.{mapped}
 use Rattle.retrieval.proofs.Answering.{behind}
 use Rattle.retrieval.proofs.Contexts.{This, this, size-none}
 use Rattle.paths.specs.Paths.{value-of, entries-of, is-some, isContext, isEmpty, getFirst, given, search, containsDeep, entry-place, place}
-use Rattle.paths.specs.Places.{wholeAt, contextAt, frontAt, Fills, Spot, spot, Piece, piece, extent, found, extentOf, spotIn, Searches, Clear, isFound, lentBytes, lentCode, Lent, Within}
-use Rattle.paths.specs.Places.{pieceBytes, Lends}
+use Rattle.paths.specs.Places.{wholeAt, contextAt, frontAt, Fills, Spot, spot, Piece, piece, extent, found, extentOf, spotIn, Searches, Clear, isFound}
+use Rattle.paths.specs.Places.{lentBytes, lentCode, lentPlace, Lent, Within, pieceBytes, piecePlace, Lends}
 use Rattle.paths.specs.Calls.{mostNames, contextOf, searchDeepCall, getEntryCall, getFirstCall, containsDeepCall, containsEntryCall, isContextCall, isEmptyCall, lenCall}
 use Rattle.paths.specs.declared.Found.{Found}
 use Rattle.paths.specs.declared.Found.the-variants as found-is
@@ -44,10 +46,17 @@ clear-part f k p n e h = subst (λ z. Clear k (found z)) e h
 pub within-part : (f : Found) (c : List ℕ) (p n : ℕ) → f ≡ found-is.Part p n → Within (found f) c → p + n ≤ length c
 within-part f c p n e h = subst (λ z. Within (found z) c) e h
 
-pub lends-part : (f : Found) (c : List ℕ) (p n : ℕ) → f ≡ found-is.Part p n → Lends (found f) c (take (p + n - p) (drop p c)) 0
-lends-part f c p n e =
+pub lends-part : (f : Found) (c r : RefT (List ℕ)) (p n : ℕ) → f ≡ found-is.Part p n → LiesAt p c r → now r ≡ take (p + n - p) (drop p (now c)) → Lends (found f) c r 0
+lends-part f c r p n e l b =
     let z : p + n - p ≡ n = omega arith in
-    record { bytes = ap (λ (k : ℕ). take k (drop p c)) z ∙ sym (ap (λ g. pieceBytes (found g) c) e); status = sym (ap (λ g. lentCode (found g)) e) }
+    record {
+      bytes = b ∙ ap (λ (k : ℕ). take k (drop p (now c))) z ∙ sym (ap (λ g. pieceBytes (found g) (now c)) e);
+      lies = subst (λ g. LiesAt (piecePlace (found g)) c r) (sym e) l;
+      status = sym (ap (λ g. lentCode (found g)) e);
+    }
+
+pub lends-empty : (f g : Found) (c r : RefT (List ℕ)) → f ≡ g → Lends (found g) c r (lentCode (found g)) → Lends (found f) c r (lentCode (found g))
+lends-empty f g c r e h = subst (λ z. Lends (found z) c r (lentCode (found g))) (sym e) h
 
 -- ---- the context of a call
 -- no refusal has the number 0
@@ -193,11 +202,11 @@ module _ (c : List ℕ) (O : Opened c 0) where
         ap (λ (j : ℕ). done (some (piece 5 j))) z ∙ sym (ap (λ x. done (mapped extent (firstSpot x))) (A .is)) ∙ part-done (contextOf c 0) (O .es) firstSpot (O .is)
 
 -- ---- a part that is lent
-abbrev Standing : List ℕ → Option Spot → Type 0
+abbrev pub Standing : List ℕ → Option Spot → Type 0
 Standing c none = Unit {0}
 Standing c (some (spot q v)) = Stands c q v
 
-abbrev AllStand : List ℕ → Outcome (Option Spot) → Type 0
+abbrev pub AllStand : List ℕ → Outcome (Option Spot) → Type 0
 AllStand c (done o) = Standing c o
 AllStand c (refused n) = Unit {0}
 
@@ -248,8 +257,19 @@ unfolding extentOf _>>=_
 stand-code (done s) = refl
 stand-code (refused n) = refl
 
-pub lent : (c : List ℕ) (o : Outcome (Option Spot)) (x : Outcome (Option Piece)) (part : List ℕ) (code : ℕ) → AllStand c o → x ≡ extentOf o → Lends x c part code → Lent o part code
-lent c o x part code h e L = record { bytes = L .bytes ∙ ap (λ z. pieceBytes z c) e ∙ stand-bytes c o h; status = L .status ∙ ap lentCode e ∙ stand-code o }
+stand-place : (o : Outcome (Option Spot)) → piecePlace (extentOf o) ≡ lentPlace o
+unfolding extentOf _>>=_ lentPlace
+stand-place (done none) = refl
+stand-place (done (some (spot q v))) = refl
+stand-place (refused n) = refl
+
+pub lent : (c : RefT (List ℕ)) (o : Outcome (Option Spot)) (x : Outcome (Option Piece)) (part : RefT (List ℕ)) (code : ℕ)
+    → AllStand (now c) o → x ≡ extentOf o → Lends x c part code → Lent o c part code
+lent c o x part code h e L = record {
+  bytes = L .bytes ∙ ap (λ z. pieceBytes z (now c)) e ∙ stand-bytes (now c) o h;
+  lies = subst (λ (q : ℕ). LiesAt q c part) (ap piecePlace e ∙ stand-place o) (L .lies);
+  status = L .status ∙ ap lentCode e ∙ stand-code o;
+}
 
 -- ---- whether a part is found
 found-some : (o : Outcome Entries) (q : Entries → ℕ) (g : Entries → Option Val) (b : Entries → Bool) → ((es : Entries) → b es ≡ is-some (g es))

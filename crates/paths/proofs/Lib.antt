@@ -3,3 +3,4 @@ pub mod Finding
 pub mod Splitting
 pub mod Searching
 pub mod Calling
+pub mod Laws

@@ -1,3 +1,4 @@
 pub mod Paths
 pub mod Places
 pub mod Calls
+pub mod Laws

@@ -7,10 +7,12 @@ use mathlib.Core.Option.{Option, none, some}
 use mathlib.Core.List.{List, []}
 use lib.ListN.{length, take, drop}
 use lib.Dec.{eqb}
+use denote.Ref.{RefT, now}
 use Rattle.form.specs.Limits.{nameWidth}
 use Rattle.form.specs.Trees.{Val, Entries}
 use Rattle.form.specs.Form.{encV}
 use Rattle.form.specs.Outcome.{Outcome, done, refused, pick, _>>=_}
+use Rattle.form.specs.Parts.{LiesAt}
 use Rattle.form.specs.Read.{Got, got, bad, readV}
 use Rattle.order.specs.Size.{size-val, size-entries}
 use Rattle.values.specs.At.{valueAt, sizeAtV}
@@ -114,7 +116,7 @@ isFound (done (some q)) = done true
 isFound (done none) = done false
 isFound (refused n) = refused n
 
--- ---- a part lent to the caller: the whole value's bytes, no bytes where there is none; beside it the refusal's number, or 0
+-- ---- a part of the caller's own bytes: the whole value's, none where there is no value; beside it the refusal's number, or 0
 unfoldable pub lentBytes : Outcome (Option Spot) → List ℕ
 lentBytes (done (some (spot p v))) = encV v
 lentBytes (done none) = []
@@ -124,9 +126,16 @@ abbrev pub lentCode : {X : Type 0} → Outcome X → ℕ
 lentCode (done x) = 0
 lentCode (refused n) = n
 
--- no value has no bytes, and no refusal the number 0
-pub record Lent (o : Outcome (Option Spot)) (part : List ℕ) (code : ℕ) : Type 0 where
-  pub bytes : part ≡ lentBytes o
+-- where in them it begins; the empty part at the front
+unfoldable pub lentPlace : Outcome (Option Spot) → ℕ
+lentPlace (done (some (spot p v))) = p
+lentPlace (done none) = 0
+lentPlace (refused n) = 0
+
+-- what is owed for the definition o: the bytes, where in c they stand, and the status. No value has no bytes, and no refusal the number 0
+pub record Lent (o : Outcome (Option Spot)) (c part : RefT (List ℕ)) (code : ℕ) : Type 0 where
+  pub bytes : now part ≡ lentBytes o
+  pub lies : LiesAt (lentPlace o) c part
   pub status : code ≡ lentCode o
 
 -- the same of a piece of c
@@ -140,6 +149,12 @@ pieceBytes (done (some (piece p n))) c = take n (drop p c)
 pieceBytes (done none) c = []
 pieceBytes (refused n) c = []
 
-pub record Lends (o : Outcome (Option Piece)) (c part : List ℕ) (code : ℕ) : Type 0 where
-  pub bytes : part ≡ pieceBytes o c
+abbrev pub piecePlace : Outcome (Option Piece) → ℕ
+piecePlace (done (some (piece p n))) = p
+piecePlace (done none) = 0
+piecePlace (refused n) = 0
+
+pub record Lends (o : Outcome (Option Piece)) (c part : RefT (List ℕ)) (code : ℕ) : Type 0 where
+  pub bytes : now part ≡ pieceBytes o (now c)
+  pub lies : LiesAt (piecePlace o) c part
   pub status : code ≡ lentCode o

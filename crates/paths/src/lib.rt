@@ -210,7 +210,7 @@ pub fn first_place(c: &[u8]) -> Found
 // The part of the caller's own bytes that was found, empty where there is none; the refusal's number, or 0, goes to `status`.
 fn lend<'a>(c: &'a [u8], f: Found, status: &mut u8) -> &'a [u8]
     requires { ⌜ Within (found f) (now c) ⌝ }
-    ensures { λ r. ⌜ Lends (found f) (now (c .entry)) (now r) (now (status .exit)) ⌝ }
+    ensures { λ r. ⌜ Lends (found f) (c .entry) r (now (status .exit)) ⌝ }
 {
     match f {
         Found::Part { place, size } => {
@@ -231,21 +231,21 @@ fn lend<'a>(c: &'a [u8], f: Found, status: &mut u8) -> &'a [u8]
 
 // `FeelContext::search_deep`. Refusals 1 to 5 of the context, 11, 12.
 pub fn search_deep<'a>(c: &'a [u8], path: &[u16], status: &mut u8) -> &'a [u8]
-    ensures { λ r. ⌜ Lent (searchDeepCall (now (c .entry)) (now (path .entry))) (now r) (now (status .exit)) ⌝ }
+    ensures { λ r. ⌜ Lent (searchDeepCall (now (c .entry)) (now (path .entry))) (c .entry) r (now (status .exit)) ⌝ }
 {
     lend(c, search_place(c, path), status)
 }
 
 // `FeelContext::get_entry`. Refusals 1 to 5, 12.
 pub fn get_entry<'a>(c: &'a [u8], name: u16, status: &mut u8) -> &'a [u8]
-    ensures { λ r. ⌜ Lent (getEntryCall (now (c .entry)) name) (now r) (now (status .exit)) ⌝ }
+    ensures { λ r. ⌜ Lent (getEntryCall (now (c .entry)) name) (c .entry) r (now (status .exit)) ⌝ }
 {
     lend(c, entry_place(c, name), status)
 }
 
 // `FeelContext::get_first`. Refusals 1 to 5, 12.
 pub fn get_first<'a>(c: &'a [u8], status: &mut u8) -> &'a [u8]
-    ensures { λ r. ⌜ Lent (getFirstCall (now (c .entry))) (now r) (now (status .exit)) ⌝ }
+    ensures { λ r. ⌜ Lent (getFirstCall (now (c .entry))) (c .entry) r (now (status .exit)) ⌝ }
 {
     lend(c, first_place(c), status)
 }

@@ -146,7 +146,7 @@ fn ask_text(call: usize, s: &[u8], out: &mut [u8]) -> Answer {
         46 => known(names::from_str(s)),
         47 => told(names::is_built_in_type_name(s)),
         48 => wrote(names::name_new(s, out)),
-        _ => wrote(retrieval::give(names::trim(s), out)),
+        _ => wrote(names::trim_into(s, out)),
     }
 }
 

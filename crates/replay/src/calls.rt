@@ -72,8 +72,12 @@ fn wrote(w: form::Written) -> Answer {
     }
 }
 
-// The answer of a call that finds a part: its place and its length in one number, 0 for none.
-fn part_of(f: paths::Found) -> Answer {
+// No line expects this number: those of a line are smaller. A case that is answered so is different.
+const OTHER: usize = 1000000000;
+
+// The answer of a call that finds a part: its place and its length in one number, 0 for none. The other call of the same question lent `part` and
+// left `status`: they must be the bytes at that place of `c` and 0, no bytes and 0, or no bytes and the refusal.
+fn part_of(f: paths::Found, c: &[u8], part: &[u8], status: u8) -> Answer {
     match f {
         paths::Found::Part { place, size } => {
             if place > 65535 {
@@ -82,10 +86,26 @@ fn part_of(f: paths::Found) -> Answer {
             if size > 65535 {
                 return Answer::None;
             }
-            Answer::Accepted(place * 65536 + size)
+            let end = place + size;
+            if c.len() < end {
+                return Answer::Accepted(OTHER);
+            }
+            if status == 0 && check::same(part, &c[place..end]) {
+                Answer::Accepted(place * 65536 + size)
+            } else {
+                Answer::Accepted(OTHER)
+            }
         }
-        paths::Found::None => Answer::Accepted(0),
-        paths::Found::Refused(n) => Answer::Refused(n as usize),
+        paths::Found::None => if status == 0 && part.len() == 0 {
+            Answer::Accepted(0)
+        } else {
+            Answer::Accepted(OTHER)
+        },
+        paths::Found::Refused(n) => if status == n && part.len() == 0 {
+            Answer::Refused(n as usize)
+        } else {
+            Answer::Accepted(OTHER)
+        },
     }
 }
 
@@ -189,10 +209,29 @@ fn ask_byte(call: usize, a: &[u8]) -> Answer {
     }
 }
 
+// The first value, the value of a name, and the value at a path: by its place, and by the part.
+fn find_first(c: &[u8]) -> Answer {
+    let mut status = 255u8;
+    let part = paths::get_first(c, &mut status);
+    part_of(paths::first_place(c), c, part, status)
+}
+
+fn find_entry(c: &[u8], name: u16) -> Answer {
+    let mut status = 255u8;
+    let part = paths::get_entry(c, name, &mut status);
+    part_of(paths::entry_place(c, name), c, part, status)
+}
+
+fn find_deep(c: &[u8], path: &[u16]) -> Answer {
+    let mut status = 255u8;
+    let part = paths::search_deep(c, path, &mut status);
+    part_of(paths::search_place(c, path), c, part, status)
+}
+
 // Runs a question on a context.
 fn ask_context(call: usize, c: &[u8]) -> Answer {
     match call {
-        31 => part_of(paths::first_place(c)),
+        31 => find_first(c),
         35 => judged(paths::is_empty(c)),
         36 => count_of(paths::len(c)),
         _ => Answer::None,
@@ -215,7 +254,7 @@ fn ask_name(call: usize, c: &[u8], a: &[u8]) -> Answer {
     }
     let name = name_at(a, 0);
     match call {
-        29 => part_of(paths::entry_place(c, name)),
+        29 => find_entry(c, name),
         32 => judged(paths::contains_entry(c, name)),
         34 => judged(paths::is_context(c, name)),
         _ => Answer::None,
@@ -231,7 +270,7 @@ fn ask_path(call: usize, c: &[u8], a: &[u8]) -> Answer {
         return Answer::None;
     }
     match call {
-        30 => part_of(paths::search_place(c, &names[0..n])),
+        30 => find_deep(c, &names[0..n]),
         33 => judged(paths::contains_deep(c, &names[0..n])),
         _ => Answer::None,
     }
@@ -299,7 +338,7 @@ fn write_text(call: usize, a: &[u8], b: &[u8], out: &mut [u8]) -> Answer {
     match call {
         45 => wrote(names::display(a, b, out)),
         48 => wrote(names::name_new(a, out)),
-        49 => wrote(retrieval::give(names::trim(a), out)),
+        49 => wrote(names::trim_into(a, out)),
         _ => Answer::None,
     }
 }

@@ -726,5 +726,8 @@ pub unsafe extern "C" fn feel_names_trim(
 ) -> u64 {
     let s = unsafe { from_raw_parts(s, s_len) };
     let out = unsafe { from_raw_parts_mut(out, out_len) };
+    if s.len() > 16_384 {
+        return answer(Err(19));
+    }
     answer(deliver(names::trimmed(s), out))
 }

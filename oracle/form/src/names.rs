@@ -36,9 +36,12 @@ pub fn name_new(parts: &[u8], room: usize) -> Result<Vec<u8>, u8> {
     fitting(String::from(Name::new(&parts)).into_bytes(), room)
 }
 
-/// The bytes of `Name::from`, or the refusal. A byte above 7F stands in the Rust's string as the
-/// letter from U+0180 on in its turn, so it is no blank.
+/// The bytes of `Name::from`, or the refusal: 19 of more than 16,384 bytes. A byte above 7F stands in
+/// the Rust's string as the letter from U+0180 on in its turn, so it is no blank.
 pub fn trim(s: &[u8], room: usize) -> Result<Vec<u8>, u8> {
+    if s.len() > MAX_LENGTH {
+        return Err(19);
+    }
     let letter = |byte: &u8| match byte {
         0x00..=0x7F => char::from(*byte),
         _ => char::from_u32(0x0100 + u32::from(*byte)).expect("a letter"),

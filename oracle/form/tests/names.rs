@@ -254,6 +254,8 @@ fn trim_strips_09_to_0d_and_20() {
     assert_eq!(names::trim(b" \t a b \n", 2), Err(18));
     assert_eq!(names::trim(b"\t\n\x0B\x0C\r ", 0), Ok(vec![]));
     assert_eq!(names::trim(b"", 0), Ok(vec![]));
+    assert_eq!(names::trim(&[b' '; 16_384], 0), Ok(vec![]));
+    assert_eq!(names::trim(&[b' '; 16_385], 0), Err(19));
     // The blanks of other alphabets stay.
     let other = "\u{A0}\u{85}a\u{2003}".as_bytes();
     assert_eq!(names::trim(other, 100), Ok(other.to_vec()));

@@ -2,9 +2,7 @@
 -- Assumes nothing.
 use mathlib.Core.Path.{ap, _∙_}
 use borrow.Author.Needs.{needs}
-use Rattle.form.specs.Outcome.{fits}
 use Rattle.feel.specs.Numbers.{numbered}
-use Rattle.feel.proofs.Restating.{exported-as}
 use Rattle.feel.proofs.feel_names_trim.Statement.{statement}
 use Rattle.feel.proofs.feel_names_trim.Tie as tie
 
@@ -14,6 +12,5 @@ feel-names-trim-spec =
     (tie.spec
     (λ c κs. search needs)
     (λ c κs. search needs)
-    (λ c κs. search needs)
     (λ c. search needs)
-    (λ c. exported-as (ap (fits _) (c .before .before .before .before .before .trim .ensures)) (record { answer = c .written-number .ensures ∙ ap numbered (c .before .before .before .give .ensures .answer); output = c .before .before .before .give .ensures .output })))
+    (λ c. record { answer = c .written-number .ensures ∙ ap numbered (c .before .before .before .trim-into .ensures .answer); output = c .before .before .before .trim-into .ensures .output }))

@@ -13,4 +13,17 @@ use native.Mathlib.Omega.{arith}
 
 pub add-part-spec : {M : Type 1} → statement M
 add-part-spec =
-    tie.close (tie.spec (λ c κs. search needs) (λ c κs. trimmed-room (c .before .before .before .before .args .part .now) _ (c .before .trim .ensures) (c .before .before .before .before .args .at) _ (c .before .before .before .before .pre)) (λ c κs. search needs) (λ c. search needs) (λ c. part-added (c .before .before .before .before .before .before .before .before .args .part .now) _ (c .before .before .before .before .before .trim .ensures) (c .before .before .before .before .before .before .before .before .args .index) (c .before .before .before .before .before .before .before .before .args .prev) (c .before .before .before .before .before .before .before .before .args .at) _ _ (c .before .before .before .before .before .before .before .before .args .out .now) _ (c .before .before .before .put-part .ensures) (c .is-mark .ensures)))
+    tie.close
+    (tie.spec
+    (λ c κs. search needs)
+    (λ c κs.
+    let start = c .before .before .before .before in
+    trimmed-room (start .args .part .now) _ (c .before .trim .ensures .bytes) (start .args .at) _ (start .pre))
+    (λ c κs. search needs)
+    (λ c. search needs)
+    (λ c.
+    let trimmed = c .before .before .before .before .before in
+    let args = trimmed .before .before .before .args in
+    part-added (args .part .now) _ (trimmed .trim .ensures .bytes) (args .index) (args .prev) (args .at) _ _ (args .out .now) _
+    (c .before .before .before .put-part .ensures)
+    (c .is-mark .ensures)))

@@ -7,7 +7,7 @@ use Rattle.names.proofs.trim.Reads as reads
 use Rattle.names.proofs.trim.Lts as lts
 use Rattle.names.proofs.trim_end.Reads as trim-end-reads
 use Rattle.names.proofs.trim_start.Reads as trim-start-reads
-use Rattle.names.proofs.Trimming.{trimmed-length, trimmed}
+use Rattle.names.proofs.Trimming.{trimmed-length, trimmed, trimmed-place, trimmed-part}
 use native.Mathlib.Omega.{arith}
 
 pub trim-spec : {M : Type 1} → statement M
@@ -20,4 +20,7 @@ trim-spec =
     (λ c. search needs)
     (λ c κs. search needs)
     (λ c. trimmed-length _ _ _ (c .before .before .before .trim-start .ensures) (c .before .trim-end .ensures))
-    (λ c. trimmed _ _ _ (c .before .before .before .trim-start .ensures) (c .before .trim-end .ensures)))
+    (λ c.
+    let front = c .before .before .before .trim-start .ensures in
+    let back = c .before .trim-end .ensures in
+    trimmed-part _ _ _ (trimmed-place _ _ _ front back) (search needs) (trimmed _ _ _ front back)))

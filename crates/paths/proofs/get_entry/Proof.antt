@@ -9,4 +9,18 @@ use Rattle.paths.specs.Places.{found}
 use Rattle.paths.specs.Calls.{getEntryCall}
 
 pub get-entry-spec : {M : Type 1} → statement M
-get-entry-spec = tie.close (tie.spec (λ c κs. search needs) (λ c κs. lend-within (c .before .before .before .args .c .now) (getEntryCall (c .before .before .before .args .c .now) (c .before .before .before .args .name)) (found (c .before .entry-place .result)) (stand-entry (c .before .before .before .args .c .now) (c .before .before .before .args .name) (bytes-of (c .before .before .before .args .c .now) (c .before .before .shared-slice-known .given))) (c .before .entry-place .ensures)) (λ c. lent (c .before .before .before .before .args .c .now) (getEntryCall (c .before .before .before .before .args .c .now) (c .before .before .before .before .args .name)) (found (c .before .before .entry-place .result)) _ _ (stand-entry (c .before .before .before .before .args .c .now) (c .before .before .before .before .args .name) (bytes-of (c .before .before .before .before .args .c .now) (c .before .before .before .shared-slice-known .given))) (c .before .before .entry-place .ensures) (c .lend .ensures)))
+get-entry-spec =
+    tie.close
+    (tie.spec
+    (λ c κs. search needs)
+    (λ c κs.
+    let args = c .before .before .before .args in
+    lend-within (args .c .now) (getEntryCall (args .c .now) (args .name)) (found (c .before .entry-place .result))
+    (stand-entry (args .c .now) (args .name) (bytes-of (args .c .now) (c .before .before .shared-slice-known .given)))
+    (c .before .entry-place .ensures))
+    (λ c.
+    let args = c .before .before .before .before .args in
+    lent (args .c) (getEntryCall (args .c .now) (args .name)) (found (c .before .before .entry-place .result)) _ _
+    (stand-entry (args .c .now) (args .name) (bytes-of (args .c .now) (c .before .before .before .shared-slice-known .given)))
+    (c .before .before .entry-place .ensures)
+    (c .lend .ensures)))

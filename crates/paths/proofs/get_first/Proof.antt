@@ -9,4 +9,18 @@ use Rattle.paths.specs.Places.{found}
 use Rattle.paths.specs.Calls.{getFirstCall}
 
 pub get-first-spec : {M : Type 1} → statement M
-get-first-spec = tie.close (tie.spec (λ c κs. search needs) (λ c κs. lend-within (c .before .before .before .args .c .now) (getFirstCall (c .before .before .before .args .c .now)) (found (c .before .first-place .result)) (stand-first (c .before .before .before .args .c .now) (bytes-of (c .before .before .before .args .c .now) (c .before .before .shared-slice-known .given))) (c .before .first-place .ensures)) (λ c. lent (c .before .before .before .before .args .c .now) (getFirstCall (c .before .before .before .before .args .c .now)) (found (c .before .before .first-place .result)) _ _ (stand-first (c .before .before .before .before .args .c .now) (bytes-of (c .before .before .before .before .args .c .now) (c .before .before .before .shared-slice-known .given))) (c .before .before .first-place .ensures) (c .lend .ensures)))
+get-first-spec =
+    tie.close
+    (tie.spec
+    (λ c κs. search needs)
+    (λ c κs.
+    let args = c .before .before .before .args in
+    lend-within (args .c .now) (getFirstCall (args .c .now)) (found (c .before .first-place .result))
+    (stand-first (args .c .now) (bytes-of (args .c .now) (c .before .before .shared-slice-known .given)))
+    (c .before .first-place .ensures))
+    (λ c.
+    let args = c .before .before .before .before .args in
+    lent (args .c) (getFirstCall (args .c .now)) (found (c .before .before .first-place .result)) _ _
+    (stand-first (args .c .now) (bytes-of (args .c .now) (c .before .before .before .shared-slice-known .given)))
+    (c .before .before .first-place .ensures)
+    (c .lend .ensures)))

@@ -9,4 +9,18 @@ use Rattle.paths.specs.Places.{found}
 use Rattle.paths.specs.Calls.{searchDeepCall}
 
 pub search-deep-spec : {M : Type 1} → statement M
-search-deep-spec = tie.close (tie.spec (λ c κs. search needs) (λ c κs. lend-within (c .before .before .before .before .args .c .now) (searchDeepCall (c .before .before .before .before .args .c .now) (c .before .before .before .before .args .path .now)) (found (c .before .search-place .result)) (stand-deep (c .before .before .before .before .args .c .now) (c .before .before .before .before .args .path .now) (bytes-of (c .before .before .before .before .args .c .now) (c .before .before .before .shared-slice-known .given))) (c .before .search-place .ensures)) (λ c. lent (c .before .before .before .before .before .args .c .now) (searchDeepCall (c .before .before .before .before .before .args .c .now) (c .before .before .before .before .before .args .path .now)) (found (c .before .before .search-place .result)) _ _ (stand-deep (c .before .before .before .before .before .args .c .now) (c .before .before .before .before .before .args .path .now) (bytes-of (c .before .before .before .before .before .args .c .now) (c .before .before .before .before .shared-slice-known .given))) (c .before .before .search-place .ensures) (c .lend .ensures)))
+search-deep-spec =
+    tie.close
+    (tie.spec
+    (λ c κs. search needs)
+    (λ c κs.
+    let args = c .before .before .before .before .args in
+    lend-within (args .c .now) (searchDeepCall (args .c .now) (args .path .now)) (found (c .before .search-place .result))
+    (stand-deep (args .c .now) (args .path .now) (bytes-of (args .c .now) (c .before .before .before .shared-slice-known .given)))
+    (c .before .search-place .ensures))
+    (λ c.
+    let args = c .before .before .before .before .before .args in
+    lent (args .c) (searchDeepCall (args .c .now) (args .path .now)) (found (c .before .before .search-place .result)) _ _
+    (stand-deep (args .c .now) (args .path .now) (bytes-of (args .c .now) (c .before .before .before .before .shared-slice-known .given)))
+    (c .before .before .search-place .ensures)
+    (c .lend .ensures)))

@@ -192,7 +192,7 @@ pub const BOUND: [Bound; 49] = [
     ),
     writes(
         "names_trim",
-        |a| bytes(Ok(names::trim(a[0]))),
+        |a| bytes(names::trim(a[0])),
         |a, out| length(names::trim_into(a[0], out)),
     ),
 ];
