@@ -43,7 +43,7 @@ use Rattle.paths.specs.Calls.{mostNames, contextOf}
 use Rattle.paths.proofs.Whole.{whole-is, is-whole, of-context, context-read, read-context, Ctx, ctx-of}
 use Rattle.paths.proofs.Searching.{at-context, WholeContext, whole-context, whole-other, Hit, hit-whole, hit-inside, hit-start, Miss}
 use Rattle.paths.proofs.Calling.{Opened, opened, read-whole}
-use Rattle.paths.proofs.Splitting.{Around, well-context, well-entries, text-context, count-context, around-some}
+use Rattle.paths.proofs.Splitting.{Around, value-level, well-context, well-entries, text-context, count-context, around-some}
 use Rattle.updates.specs.Update.{create, apply, zip, overwrite, remove, moved, moveEntry, setEntry, setNull, removeEntry}
 use Rattle.updates.specs.Writing.{updated, made, Wrote, Small, begun, closed, Updates, merged, Merges}
 use Rattle.context.specs.Calls.{Given, givenOf, Two, twoOf, createEntriesCall, applyEntriesCall, setEntryCall, setNullCall, joinedCall, removeEntryCall, moveEntryCall}
@@ -51,22 +51,23 @@ use Rattle.context.specs.Answering.{Holds, answered, levelOf, depthOf, v
 use Rattle.updates.specs.declared.Made.{Made}
 use Rattle.updates.specs.declared.Made.the-variants as made-is
 use Rattle.updates.proofs.Entering.{Some, wrote-bytes, wrote-not, updates-is}
-use Rattle.updates.proofs.Formed.{Names, well-updated, well-joined, well-removed, level-removed}
+use Rattle.updates.specs.Laws.{Names}
+use Rattle.updates.proofs.Formed.{well-updated, well-joined, well-removed, level-removed}
 use Rattle.updates.proofs.Inserting.{remove-absent}
-use Rattle.updates.proofs.Levels.{level-value, level-updated, level-merged, size-merged}
+use Rattle.updates.proofs.Levels.{level-updated, level-merged, size-merged}
 use Rattle.updates.proofs.Pieces.{length-begun}
 use Rattle.updates.proofs.Updating.{count-less, text-remove}
 
 -- ---- 17 and 18
-result-small : (room : ℕ) (w : Val) → length (encV w) ≤ mostBytes → levelV w ≤ valueLevels → fits room (encV w) ≡ result room w
+pub result-small : (room : ℕ) (w : Val) → length (encV w) ≤ mostBytes → levelV w ≤ valueLevels → fits room (encV w) ≡ result room w
 unfolding _>>_
 result-small room w k l = let e : small w ≡ true = ap₂ _&&_ (le-leb (length (encV w)) mostBytes k) (le-leb (levelV w) valueLevels l) in rw e
 
-result-long : (room : ℕ) (w : Val) → mostBytes < length (encV w) → result room w ≡ refused 17
+pub result-long : (room : ℕ) (w : Val) → mostBytes < length (encV w) → result room w ≡ refused 17
 unfolding _>>_
 result-long room w k = let e : small w ≡ false = ap (λ q. q && leb (levelV w) valueLevels) (lt-leb (length (encV w)) mostBytes k) in rw e
 
-result-deep : (room : ℕ) (w : Val) → length (encV w) ≤ mostBytes → valueLevels < levelV w → result room w ≡ refused 17
+pub result-deep : (room : ℕ) (w : Val) → length (encV w) ≤ mostBytes → valueLevels < levelV w → result room w ≡ refused 17
 unfolding _>>_
 result-deep room w k l = let e : small w ≡ false = ap₂ _&&_ (le-leb (length (encV w)) mostBytes k) (lt-leb (levelV w) valueLevels l) in rw e
 
@@ -546,7 +547,7 @@ module _ (c old : List ℕ) (n : ℕ) (O : Opened c 0) (bc : Bytes c) where
 
     pub part-level : (d : ℕ) → levelV (v-context (O .es)) ≡ d → (x : Val) → wholeAt valueLevels (valueIn c at to) ≡ some x → levelV x ≤ d - 1
     unfolding levelV
-    part-level d e x ex = omega (arith, e, ap levelEntries same-es, ap levelV (some-same (sym part-read ∙ ex)), level-value n (H .x) (H .es) (H .value))
+    part-level d e x ex = omega (arith, e, ap levelEntries same-es, ap levelV (some-same (sym part-read ∙ ex)), value-level n (H .x) (H .es) (H .value))
 
     pub move-done : (parent : ℕ) (new : List ℕ) (a : Written) → ((es : Entries) (x : Val) → contextAt valueLevels (closed count c at to) ≡ some es → wholeAt valueLevels (valueIn c at to) ≡ some x → Built (answered (length old) (updated false (parent ∷ n ∷ []) x es)) old new a) → Built (moveEntryCall c n parent (length old)) old new a
     unfolding _>>=_

@@ -71,7 +71,8 @@ pub record LessEntries (es fs : Entries) : Type 0 where
   pub counted : countEntries fs ≤ countEntries es
   pub well : (k : ℕ) → WfEntries es k → WfEntries fs k
 
-wf-lower : (es : Entries) (j k : ℕ) → k ≤ j → WfEntries es j → WfEntries es k
+-- names that are at least j are at least k
+pub wf-lower : (es : Entries) (j k : ℕ) → k ≤ j → WfEntries es j → WfEntries es k
 unfolding WfV
 wf-lower no-entries j k h w = tt
 wf-lower (entry n v es) j k h w = (omega (arith, w .0), w .1)

@@ -10,6 +10,7 @@ use borrow.Author.Tests.{eq-eqb, ne-eqb, lt-ltb, le-ltb, eqb-true, eqb-false, lt
 use Rattle.form.specs.Limits.{nameEnd}
 use Rattle.form.specs.Trees.{Val, Entries, no-entries, entry}
 use Rattle.form.specs.Form.{countEntries, WfV, WfEntries}
+use Rattle.retrieval.proofs.Theorems.{wf-lower}
 use Rattle.paths.specs.Paths.{value-of}
 use Rattle.paths.proofs.Finding.{value-absent}
 use Rattle.paths.proofs.Splitting.{from-well}
@@ -81,18 +82,13 @@ well-insert n x (entry m v es) k l b w h = by (λ z. well-insert n x es (m + 1) 
     by ih false e true f = let z = ltb-true n m f in (l, (b, (w, (omega arith, h .1))))
     by ih false e false f = let z = ltb-false n m f in let y = eqb-false n m e in (h .0, (h .1 .0, (h .1 .1 .0, ih (omega arith))))
 
-pub well-less : (es : Entries) (k j : ℕ) → j ≤ k → WfEntries es k → WfEntries es j
-unfolding WfEntries
-well-less no-entries k j l h = tt
-well-less (entry m v es) k j l h = (omega (arith, h .0), h .1)
-
 pub well-remove : (n : ℕ) (es : Entries) (k : ℕ) → WfEntries es k → WfEntries (remove n es) k
 unfolding WfEntries remove
 well-remove n no-entries k h = tt
 well-remove n (entry m v es) k h = by (well-remove n es (m + 1) (h .1 .1 .1)) (eqb n m)
   where
     by : WfEntries (remove n es) (m + 1) → (q : Bool) → WfEntries (cond q es (entry m v (remove n es))) k
-    by ih true = well-less es (m + 1) k (omega (arith, h .0)) (h .1 .1 .1)
+    by ih true = wf-lower es (m + 1) k (omega (arith, h .0)) (h .1 .1 .1)
     by ih false = (h .0, (h .1 .0, (h .1 .1 .0, ih)))
 
 -- ---- how many

@@ -14,6 +14,7 @@ use Rattle.order.specs.Size.{size-entries}
 use Rattle.retrieval.proofs.Contexts.{size-next}
 use Rattle.retrieval.proofs.Theorems.{none-some, some-same}
 use Rattle.paths.specs.Paths.{value-of, entries-of, or-empty, context-at, containsEntry}
+use Rattle.paths.proofs.Splitting.{value-level}
 use Rattle.paths.proofs.Whole.{of-context, given-is}
 use Rattle.updates.specs.Update.{insert, create}
 use Rattle.updates.specs.Writing.{updated, merged}
@@ -41,16 +42,6 @@ size-insert n x (entry m v es) = by (size-insert n x es) (eqb n m) (ltb n m)
     by ih false true = omega arith
     by ih false false = omega (arith, size-next n x es, size-next n x (entry m v es), size-next m v es, size-next m v (insert n x es))
 
--- the value of a name is lower than its context
-pub level-value : (n : ℕ) (v : Val) (es : Entries) → value-of n es ≡ some v → levelV v ≤ levelEntries es
-unfolding levelEntries value-of
-level-value n v no-entries e = absurd (none-some e)
-level-value n v (entry m x es) e = by (level-value n v es) (eqb n m) e
-  where
-    by : (value-of n es ≡ some v → levelV v ≤ levelEntries es) → (q : Bool) → cond q (some x) (value-of n es) ≡ some v → levelV v ≤ max (levelV x) (levelEntries es)
-    by ih true h = omega (arith, ap levelV (some-same h))
-    by ih false h = omega (arith, ih h)
-
 -- ---- create_entries and apply_entries: every name of the path adds at most one level to the value's
 level-child : (n : ℕ) (es : Entries) → suc (levelEntries (or-empty (context-at n es))) ≤ max 1 (levelEntries es)
 unfolding levelV levelEntries
@@ -61,7 +52,7 @@ level-child n es = go (context-at n es) refl
     go (some fs) e =
         let G = given-is (value-of n es) entries-of fs e in
         let c : G .0 ≡ v-context fs = of-context (G .0) fs (G .2) in
-        omega (arith, ap levelV c, level-value n (G .0) es (G .1))
+        omega (arith, ap levelV c, value-level n (G .0) es (G .1))
 
 level-created : (p : List ℕ) (x : Val) (es : Entries) → suc (levelEntries (create p x es)) ≤ max (suc (levelEntries es)) (length p + levelV x)
 unfolding levelV create
