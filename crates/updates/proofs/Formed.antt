@@ -1,8 +1,8 @@
 -- The answers are well-formed: names strictly ascending at every level, and every count fits its field.
 -- Assumes nothing.
-use Prim.Native.Nat.{ℕ, suc, _+_, _<_, _≤_, max}
+use Prim.Native.Nat.{ℕ, suc, _<_, _≤_, max}
 use native.Mathlib.Omega.{arith}
-use mathlib.Core.Path.{_≡_, refl, sym, ap, subst, _∙_}
+use mathlib.Core.Path.{_≡_, refl, sym, ap, subst}
 use mathlib.Core.Bool.{Bool, true, false, cond}
 use mathlib.Core.Option.{Option, none, some}
 use mathlib.Core.List.{List, [], _∷_}
@@ -16,10 +16,10 @@ use Rattle.form.specs.Form.{countEntries, levelV, levelEntries, WfV, WfEntries}
 use Rattle.order.specs.Size.{size-val, size-entries}
 use Rattle.retrieval.proofs.Contexts.{size-context, size-next, size-none}
 use Rattle.retrieval.proofs.Theorems.{none-some, some-same}
-use Rattle.paths.specs.Paths.{value-of, entries-of, given, or-empty, context-at}
+use Rattle.paths.specs.Paths.{value-of, entries-of, or-empty, context-at}
 use Rattle.paths.proofs.Splitting.{value-well}
 use Rattle.paths.proofs.Whole.{of-context, given-is}
-use Rattle.updates.specs.Update.{insert, remove, create, apply}
+use Rattle.updates.specs.Update.{insert, remove, create}
 use Rattle.updates.specs.Writing.{updated, merged}
 use Rattle.updates.specs.Laws.{Names}
 use Rattle.updates.proofs.Inserting.{well-insert, well-remove, count-insert}

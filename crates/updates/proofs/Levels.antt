@@ -12,7 +12,7 @@ use Rattle.form.specs.Trees.{Val, v-context, Entries, no-entries, entry}
 use Rattle.form.specs.Form.{levelV, levelEntries}
 use Rattle.order.specs.Size.{size-entries}
 use Rattle.retrieval.proofs.Contexts.{size-next}
-use Rattle.retrieval.proofs.Theorems.{none-some, some-same}
+use Rattle.retrieval.proofs.Theorems.{some-same}
 use Rattle.paths.specs.Paths.{value-of, entries-of, or-empty, context-at, containsEntry}
 use Rattle.paths.proofs.Splitting.{value-level}
 use Rattle.paths.proofs.Whole.{of-context, given-is}
@@ -27,7 +27,8 @@ unfolding levelEntries insert
 level-insert n x no-entries = omega arith
 level-insert n x (entry m v es) = by (level-insert n x es) (eqb n m) (ltb n m)
   where
-    by : levelEntries (insert n x es) ≤ max (levelV x) (levelEntries es) → (q r : Bool) → levelEntries (cond q (entry n x es) (cond r (entry n x (entry m v es)) (entry m v (insert n x es)))) ≤ max (levelV x) (max (levelV v) (levelEntries es))
+    by : levelEntries (insert n x es) ≤ max (levelV x) (levelEntries es) → (q r : Bool)
+        → levelEntries (cond q (entry n x es) (cond r (entry n x (entry m v es)) (entry m v (insert n x es)))) ≤ max (levelV x) (max (levelV v) (levelEntries es))
     by ih true r = omega arith
     by ih false true = omega arith
     by ih false false = omega arith
@@ -37,7 +38,8 @@ unfolding insert
 size-insert n x no-entries = omega arith
 size-insert n x (entry m v es) = by (size-insert n x es) (eqb n m) (ltb n m)
   where
-    by : size-entries (insert n x es) ≤ size-entries (entry n x es) → (q r : Bool) → size-entries (cond q (entry n x es) (cond r (entry n x (entry m v es)) (entry m v (insert n x es)))) ≤ size-entries (entry n x (entry m v es))
+    by : size-entries (insert n x es) ≤ size-entries (entry n x es) → (q r : Bool)
+        → size-entries (cond q (entry n x es) (cond r (entry n x (entry m v es)) (entry m v (insert n x es)))) ≤ size-entries (entry n x (entry m v es))
     by ih true r = omega (arith, size-next n x es, size-next n x (entry m v es), size-next m v es)
     by ih false true = omega arith
     by ih false false = omega (arith, size-next n x es, size-next n x (entry m v es), size-next m v es, size-next m v (insert n x es))

@@ -41,7 +41,8 @@ insert-same n x v es = ap (λ q. cond q (entry n x es) (cond (ltb n n) (entry n 
 insert-first : (n : ℕ) (x : Val) (es : Entries) → From (suc n) es → insert n x es ≡ entry n x es
 unfolding insert From
 insert-first n x no-entries f = refl
-insert-first n x (entry m v es) f = ap₂ (λ q r. cond q (entry n x es) (cond r (entry n x (entry m v es)) (entry m v (insert n x es)))) (ne-eqb n m (λ e. omega (arith, f .0))) (lt-ltb n m (omega (arith, f .0)))
+insert-first n x (entry m v es) f =
+    ap₂ (λ q r. cond q (entry n x es) (cond r (entry n x (entry m v es)) (entry m v (insert n x es)))) (ne-eqb n m (λ e. omega (arith, f .0))) (lt-ltb n m (omega (arith, f .0)))
 
 -- ---- one entry of the other
 abbrev pub merged-one : Bool → ℕ → Val → Entries → Entries

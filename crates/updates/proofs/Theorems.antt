@@ -100,13 +100,15 @@ apply-create [] x es fs e = sym (some-same e)
 apply-create (n ∷ []) x es fs e = sym (some-same e)
 apply-create (n ∷ m ∷ ns) x es fs e = by (value-of n es) (λ gs hs z. apply-create (m ∷ ns) x gs hs z) e
   where
-    on : (o : Option Entries) → ((gs hs : Entries) → apply (m ∷ ns) x gs ≡ some hs → hs ≡ create (m ∷ ns) x gs) → onward n m ns x es o ≡ some fs → fs ≡ insert n (v-context (create (m ∷ ns) x (or-empty o))) es
+    on : (o : Option Entries) → ((gs hs : Entries) → apply (m ∷ ns) x gs ≡ some hs → hs ≡ create (m ∷ ns) x gs) → onward n m ns x es o ≡ some fs
+        → fs ≡ insert n (v-context (create (m ∷ ns) x (or-empty o))) es
     on none ih z = absurd (none-some z)
     on (some gs) ih z =
         let h = mapped-is (λ hs. insert n (v-context hs) es) (apply (m ∷ ns) x gs) fs z in
         h .2 ∙ ap (λ hs. insert n (v-context hs) es) (ih gs (h .0) (h .1))
 
-    by : (o : Option Val) → ((gs hs : Entries) → apply (m ∷ ns) x gs ≡ some hs → hs ≡ create (m ∷ ns) x gs) → onward n m ns x es (on-the-way o) ≡ some fs → fs ≡ insert n (v-context (create (m ∷ ns) x (or-empty (given o entries-of)))) es
+    by : (o : Option Val) → ((gs hs : Entries) → apply (m ∷ ns) x gs ≡ some hs → hs ≡ create (m ∷ ns) x gs) → onward n m ns x es (on-the-way o) ≡ some fs
+        → fs ≡ insert n (v-context (create (m ∷ ns) x (or-empty (given o entries-of)))) es
     by none ih z = on (some no-entries) ih z
     by (some v) ih z = on (entries-of v) ih z
 
@@ -143,7 +145,8 @@ apply-refuses (n ∷ m ∷ ns) x es e = by (value-of n es) refl (λ fs z. apply-
     rest : (fs : Entries) → onward n m ns x es (some fs) ≡ none → apply (m ∷ ns) x fs ≡ none
     rest fs z = mapped-none (λ gs. insert n (v-context gs) es) (apply (m ∷ ns) x fs) z
 
-    on : (v : Val) → value-of n es ≡ some v → (o : Option Entries) → entries-of v ≡ o → ((fs : Entries) → apply (m ∷ ns) x fs ≡ none → Blocked (m ∷ ns) fs) → onward n m ns x es o ≡ none → Blocked (n ∷ m ∷ ns) es
+    on : (v : Val) → value-of n es ≡ some v → (o : Option Entries) → entries-of v ≡ o → ((fs : Entries) → apply (m ∷ ns) x fs ≡ none → Blocked (m ∷ ns) fs)
+        → onward n m ns x es o ≡ none → Blocked (n ∷ m ∷ ns) es
     on v q none r ih z = blocked-here n m ns es v q r
     on v q (some fs) r ih z = blocked-in n (m ∷ ns) fs es (ap (λ (o : Option Val). given o entries-of) q ∙ r) (ih fs (rest fs z))
 
@@ -162,7 +165,8 @@ refuses-at (n ∷ m ∷ ns) r x es v d e h = by (value-of n es) (λ fs z. refuse
     on none ih z = refl
     on (some fs) ih z = ap (mapped (λ gs. insert n (v-context gs) es)) (ih fs z)
 
-    by : (o : Option Val) → ((fs : Entries) → search (m ∷ ns) fs ≡ some v → apply (m ∷ (ns ++ r)) x fs ≡ none) → given (given o entries-of) (λ fs. search (m ∷ ns) fs) ≡ some v → onward n m (ns ++ r) x es (on-the-way o) ≡ none
+    by : (o : Option Val) → ((fs : Entries) → search (m ∷ ns) fs ≡ some v → apply (m ∷ (ns ++ r)) x fs ≡ none)
+        → given (given o entries-of) (λ fs. search (m ∷ ns) fs) ≡ some v → onward n m (ns ++ r) x es (on-the-way o) ≡ none
     by none ih z = absurd (none-some z)
     by (some w) ih z = on (entries-of w) ih z
 
