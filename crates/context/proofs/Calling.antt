@@ -3,7 +3,7 @@
 use Prim.Native.Nat.{ℕ, zero, suc, _+_, _-_, _<_, _≤_, max, min}
 use native.Mathlib.Omega.{arith}
 use mathlib.Core.Path.{_≡_, refl, sym, ap, ap₂, subst, _∙_}
-use mathlib.Core.Bool.{Bool, true, false, _&&_, false≢true}
+use mathlib.Core.Bool.{Bool, true, false, _&&_}
 use mathlib.Core.Option.{Option, none, some}
 use mathlib.Core.List.{List, [], _∷_, _++_, append-assoc, append-nil}
 use lib.ListN.{length, getD, take, drop, length-append, length-take, length-drop}
@@ -13,8 +13,8 @@ use borrow.Author.Tests.{le-leb, lt-leb, leb-true, leb-false}
 use Rattle.form.specs.Limits.{nameWidth, mostBytes, valueLevels}
 use Rattle.form.specs.Trees.{Val, v-context, Entries}
 use Rattle.form.specs.Form.{Bytes, bytes, numAt, countEntries, encLeaf, encV, levelV, levelEntries, WfLeaf, WfV}
-use Rattle.form.specs.Outcome.{Outcome, done, refused, _>>=_, _>>_, check, orRefuse, fits, pick}
-use Rattle.form.specs.Read.{got, readV, readValue, checkValue}
+use Rattle.form.specs.Outcome.{Outcome, done, refused, _>>=_, _>>_, check, orRefuse, fits}
+use Rattle.form.specs.Read.{got, readValue, checkValue}
 use Rattle.form.specs.Answers.{onto, Built, checked}
 use Rattle.form.specs.declared.Checked.{Checked}
 use Rattle.form.specs.declared.Checked.the-variants as checked-is
@@ -33,7 +33,7 @@ use Rattle.values.proofs.Calling as held
 use Rattle.values.proofs.Calling.{value-refused}
 use Rattle.bounds.proofs.Outcomes.{built-refused, built-short, built-wrote}
 use Rattle.retrieval.specs.Retrieve.{mapped, nothing}
-use Rattle.retrieval.specs.Filling.{fill, Filled}
+use Rattle.retrieval.specs.Filling.{fill}
 use Rattle.retrieval.specs.Calls.{small, result}
 use Rattle.retrieval.proofs.Pieces.{length-fill}
 use Rattle.retrieval.proofs.Contexts.{size-context}
@@ -44,30 +44,31 @@ use Rattle.paths.specs.Calls.{mostNames, contextOf}
 use Rattle.paths.proofs.Whole.{whole-is, is-whole, of-context, context-read, read-context, Ctx, ctx-of}
 use Rattle.paths.proofs.Searching.{at-context, WholeContext, whole-context, whole-other, Hit, hit-whole, hit-inside, hit-start, Miss}
 use Rattle.paths.proofs.Calling.{Opened, opened, read-whole}
-use Rattle.paths.proofs.Splitting.{Around, well-context, well-entries, text-context, count-context, around-some}
+use Rattle.paths.proofs.Splitting.{Around, value-level, well-context, well-entries, text-context, count-context, around-some}
 use Rattle.updates.specs.Update.{create, apply, zip, overwrite, remove, moved, moveEntry, setEntry, setNull, removeEntry}
-use Rattle.updates.specs.Writing.{updated, made, Wrote, Small, begun, closed, Updates, merged, Merges}
+use Rattle.updates.specs.Writing.{updated, Wrote, Small, begun, closed, Updates, merged, Merges}
 use Rattle.context.specs.Calls.{Given, givenOf, Two, twoOf, createEntriesCall, applyEntriesCall, setEntryCall, setNullCall, joinedCall, removeEntryCall, moveEntryCall}
 use Rattle.context.specs.Answering.{Holds, answered, levelOf, depthOf, valueIn}
 use Rattle.updates.specs.declared.Made.{Made}
 use Rattle.updates.specs.declared.Made.the-variants as made-is
 use Rattle.updates.proofs.Entering.{Some, wrote-bytes, wrote-not, updates-is}
-use Rattle.updates.proofs.Formed.{Names, well-updated, well-joined, well-removed, level-removed}
+use Rattle.updates.specs.Laws.{Names}
+use Rattle.updates.proofs.Formed.{well-updated, well-joined, well-removed, level-removed}
 use Rattle.updates.proofs.Inserting.{remove-absent}
-use Rattle.updates.proofs.Levels.{level-value, level-updated, level-merged, size-merged}
+use Rattle.updates.proofs.Levels.{level-updated, level-merged, size-merged}
 use Rattle.updates.proofs.Pieces.{length-begun}
 use Rattle.updates.proofs.Updating.{count-less, text-remove}
 
 -- ---- 17 and 18
-result-small : (room : ℕ) (w : Val) → length (encV w) ≤ mostBytes → levelV w ≤ valueLevels → fits room (encV w) ≡ result room w
+pub result-small : (room : ℕ) (w : Val) → length (encV w) ≤ mostBytes → levelV w ≤ valueLevels → fits room (encV w) ≡ result room w
 unfolding _>>_
 result-small room w k l = let e : small w ≡ true = ap₂ _&&_ (le-leb (length (encV w)) mostBytes k) (le-leb (levelV w) valueLevels l) in rw e
 
-result-long : (room : ℕ) (w : Val) → mostBytes < length (encV w) → result room w ≡ refused 17
+pub result-long : (room : ℕ) (w : Val) → mostBytes < length (encV w) → result room w ≡ refused 17
 unfolding _>>_
 result-long room w k = let e : small w ≡ false = ap (λ q. q && leb (levelV w) valueLevels) (lt-leb (length (encV w)) mostBytes k) in rw e
 
-result-deep : (room : ℕ) (w : Val) → length (encV w) ≤ mostBytes → valueLevels < levelV w → result room w ≡ refused 17
+pub result-deep : (room : ℕ) (w : Val) → length (encV w) ≤ mostBytes → valueLevels < levelV w → result room w ≡ refused 17
 unfolding _>>_
 result-deep room w k l = let e : small w ≡ false = ap₂ _&&_ (le-leb (length (encV w)) mostBytes k) (lt-leb (levelV w) valueLevels l) in rw e
 
@@ -144,7 +145,8 @@ none-of : (o : Option Entries) → mapped v-context o ≡ none → o ≡ none
 none-of none e = refl
 none-of (some es) e = absurd (none-some (sym e))
 
-module _ (strict : Bool) (c p v old : List ℕ) (es : Entries) (x : Val) (ec : contextAt valueLevels c ≡ some es) (ex : wholeAt valueLevels v ≡ some x) (bc : Bytes c) (bv : Bytes v) (kc : length c ≤ mostBytes) where
+module _ (strict : Bool) (c p v old : List ℕ) (es : Entries) (x : Val) (ec : contextAt valueLevels c ≡ some es) (ex : wholeAt valueLevels v ≡ some x) (bc : Bytes c)
+    (bv : Bytes v) (kc : length c ≤ mostBytes) where
   abbrev C : Ctx valueLevels c es
   C = ctx-of valueLevels c es ec
 
@@ -163,9 +165,12 @@ module _ (strict : Bool) (c p v old : List ℕ) (es : Entries) (x : Val) (ec : c
 
     pub build-not : r ≡ made-is.NotContext → Built (answered (length old) (updated strict p x es)) old old (written-is.Refused 16)
     unfolding _>>=_
-    build-not e = built-refused (answered (length old) (updated strict p x es)) 16 old (ap (answered (length old)) (none-of (updated strict p x es) (wrote-not (mapped v-context (updated strict p x es)) spare mid m r wrote e .0)))
+    build-not e =
+        built-refused (answered (length old) (updated strict p x es)) 16 old
+        (ap (answered (length old)) (none-of (updated strict p x es) (wrote-not (mapped v-context (updated strict p x es)) spare mid m r wrote e .0)))
 
-    pub build-done : (n : ℕ) → r ≡ made-is.Bytes n → min m mostBytes ≤ length spare → Names p → (new : List ℕ) (a : Written) → ((w : Val) → Holds mid n w → levelV w ≤ max valueLevels (length p + levelV x) → Built (result (length old) w) old new a) → Built (answered (length old) (updated strict p x es)) old new a
+    pub build-done : (n : ℕ) → r ≡ made-is.Bytes n → min m mostBytes ≤ length spare → Names p → (new : List ℕ) (a : Written)
+        → ((w : Val) → Holds mid n w → levelV w ≤ max valueLevels (length p + levelV x) → Built (result (length old) w) old new a) → Built (answered (length old) (updated strict p x es)) old new a
     unfolding _>>=_
     build-done n e k ns new a F = go (mapped-is v-context (updated strict p x es) (S .w) (S .is))
       where
@@ -184,7 +189,8 @@ module _ (strict : Bool) (c p v old : List ℕ) (es : Entries) (x : Val) (ec : c
             subst (λ o. Built (answered (length old) o) old new a) (sym u) (F (v-context fs) H (omega (arith, level-updated strict p x es fs u, context-low c es ec bc)))
 
 -- the spare place holds what was built
-pub build-room : (strict : Bool) (c p v spare mid : List ℕ) (m : ℕ) (r : Made) (n : ℕ) → Ok (contextAt valueLevels c) → Ok (wholeAt valueLevels v) → Updates strict (contextAt valueLevels c) p (wholeAt valueLevels v) spare mid m r → r ≡ made-is.Bytes n → min m mostBytes ≤ length spare → n ≤ mostBytes → n ≤ length mid
+pub build-room : (strict : Bool) (c p v spare mid : List ℕ) (m : ℕ) (r : Made) (n : ℕ) → Ok (contextAt valueLevels c) → Ok (wholeAt valueLevels v)
+    → Updates strict (contextAt valueLevels c) p (wholeAt valueLevels v) spare mid m r → r ≡ made-is.Bytes n → min m mostBytes ≤ length spare → n ≤ mostBytes → n ≤ length mid
 build-room strict c p v spare mid m r n oc ov U e k l =
     let A = ok-got (contextAt valueLevels c) oc in
     let B = ok-got (wholeAt valueLevels v) ov in
@@ -205,7 +211,8 @@ pub ready : (c : List ℕ) (k : ℕ) (v : List ℕ) (r : Checked) (d : ℕ) → 
 unfolding givenOf _>>=_ _>>_
 ready c k v r d e z = go (readValue c) refl (leb k mostNames) refl (readValue v) refl (sym e ∙ ap checked z)
   where
-    last : (self x : Val) → readValue c ≡ done self → leb k mostNames ≡ true → readValue v ≡ done x → (o : Option Entries) → entries-of self ≡ o → levelOf (do es ← orRefuse 12 o; done (record { entries = es; value = x })) ≡ done d → Ready c k v d
+    last : (self x : Val) → readValue c ≡ done self → leb k mostNames ≡ true → readValue v ≡ done x → (o : Option Entries) → entries-of self ≡ o
+        → levelOf (do es ← orRefuse 12 o; done (record { entries = es; value = x })) ≡ done d → Ready c k v d
     last self x rc l rv none q h = absurd (refused-done h)
     last self x rc l rv (some es) q h =
         record {
@@ -267,7 +274,12 @@ module _ {c : List ℕ} {k : ℕ} {v : List ℕ} {d : ℕ} (R : Ready c k v d) (
   ready-level x e = omega (arith, R .deep, ap levelV (some-same (sym ready-value ∙ e)))
 
   pub ready-small : (p : List ℕ) → k ≡ length p → Small c p v
-  ready-small p e = record { bytes-c = value-accepted c bc (v-context (R .given .entries)) (R .read-c) .short; names = omega (arith, R .names); bytes-v = value-accepted v bv (R .given .value) (R .read-v) .short }
+  ready-small p e =
+      record {
+        bytes-c = value-accepted c bc (v-context (R .given .entries)) (R .read-c) .short;
+        names = omega (arith, R .names);
+        bytes-v = value-accepted v bv (R .given .value) (R .read-v) .short;
+      }
 
 create-is : (c p v : List ℕ) (room : ℕ) (g : Given) → givenOf c (length p) v ≡ done g → answered room (updated false p (g .value) (g .entries)) ≡ createEntriesCall c p v room
 unfolding _>>=_
@@ -278,7 +290,8 @@ unfolding _>>=_
 apply-is c p v room g e = rw e
 
 module _ (c p v old new : List ℕ) (d : ℕ) (a : Written) where
-  pub create-done : (R : Ready c (length p) v d) → Built (answered (length old) (updated false p (R .given .value) (R .given .entries))) old new a → Built (createEntriesCall c p v (length old)) old new a
+  pub create-done : (R : Ready c (length p) v d) → Built (answered (length old) (updated false p (R .given .value) (R .given .entries))) old new a
+      → Built (createEntriesCall c p v (length old)) old new a
   create-done R B = subst (λ o. Built o old new a) (create-is c p v (length old) (R .given) (R .is)) B
 
   pub apply-done : (R : Ready c (length p) v d) → Built (answered (length old) (updated true p (R .given .value) (R .given .entries))) old new a → Built (applyEntriesCall c p v (length old)) old new a
@@ -312,7 +325,9 @@ null-given : (c : List ℕ) → givenOf c 0 (0 ∷ 0 ∷ []) ≡ pair (nothing 0
 unfolding givenOf contextOf _>>=_ _>>_
 null-given c = go (readValue c)
   where
-    go : (o : Outcome Val) → (do self ← o; check 11 (leb 0 mostNames); x ← readValue (0 ∷ 0 ∷ []); pair x (orRefuse 12 (entries-of self))) ≡ pair (nothing 0) (do self ← o; check 11 (leb 0 mostNames); orRefuse 12 (entries-of self))
+    go : (o : Outcome Val)
+        → (do self ← o; check 11 (leb 0 mostNames); x ← readValue (0 ∷ 0 ∷ []); pair x (orRefuse 12 (entries-of self)))
+        ≡ pair (nothing 0) (do self ← o; check 11 (leb 0 mostNames); orRefuse 12 (entries-of self))
     go (refused m) = refl
     go (done self) = rw null-read
 
@@ -352,11 +367,13 @@ second-other : (c o : List ℕ) (v w : Val) (es : Entries) → readValue c ≡ d
 unfolding twoOf _>>=_
 second-other c o v w es e f g h = rw (e, f, g, h)
 
-two-done : (c o : List ℕ) (v w : Val) (es gs : Entries) → readValue c ≡ done v → readValue o ≡ done w → entries-of v ≡ some es → entries-of w ≡ some gs → twoOf c o ≡ done (record { entries = es; others = gs })
+two-done : (c o : List ℕ) (v w : Val) (es gs : Entries) → readValue c ≡ done v → readValue o ≡ done w → entries-of v ≡ some es → entries-of w ≡ some gs
+    → twoOf c o ≡ done (record { entries = es; others = gs })
 unfolding twoOf _>>=_
 two-done c o v w es gs e f g h = rw (e, f, g, h)
 
-merges-is : (all : Bool) (x y : Option Entries) (es gs : Entries) (old new : List ℕ) (n : ℕ) → x ≡ some es → y ≡ some gs → Merges all x y old new n → (n ≡ length (encV (v-context (merged all es gs)))) × (new ≡ fill (encV (v-context (merged all es gs))) old)
+merges-is : (all : Bool) (x y : Option Entries) (es gs : Entries) (old new : List ℕ) (n : ℕ) → x ≡ some es → y ≡ some gs → Merges all x y old new n
+    → (n ≡ length (encV (v-context (merged all es gs)))) × (new ≡ fill (encV (v-context (merged all es gs))) old)
 unfolding Merges
 merges-is all x y es gs old new n e f M = rw (e, f) at M
 
@@ -380,7 +397,8 @@ module _ (all : Bool) (c o old : List ℕ) where
         join-context = is-ok (contextAt valueLevels c) (K .es) (K .read)
 
         pub join-others : (getD o 0 0 ≡ 11 → ⊥) → Built (joinedCall all c o (length old)) old old (written-is.Refused 12)
-        join-others f = joined-refused all c o 12 old (second-other c o (A .v) (B .v) (K .es) (A .whole) (B .whole) (ap entries-of (K .is)) (whole-other valueLevels o (B .v) (read-whole o (B .v) (B .whole)) f))
+        join-others f =
+            joined-refused all c o 12 old (second-other c o (A .v) (B .v) (K .es) (A .whole) (B .whole) (ap entries-of (K .is)) (whole-other valueLevels o (B .v) (read-whole o (B .v) (B .whole)) f))
 
         module _ (f : getD o 0 0 ≡ 11) where
           abbrev L : WholeContext valueLevels o (B .v)
@@ -399,12 +417,18 @@ module _ (all : Bool) (c o old : List ℕ) where
             pub join-small : (length c ≤ mostBytes) × (length o ≤ mostBytes)
             join-small = (short-c, short-o)
 
-            pub join-done : (new : List ℕ) (a : Written) → ((es gs : Entries) → contextAt valueLevels c ≡ some es → contextAt valueLevels o ≡ some gs → Built (result (length old) (v-context (merged all es gs))) old new a) → Built (joinedCall all c o (length old)) old new a
+            pub join-done : (new : List ℕ) (a : Written)
+                → ((es gs : Entries) → contextAt valueLevels c ≡ some es → contextAt valueLevels o ≡ some gs → Built (result (length old) (v-context (merged all es gs))) old new a)
+                → Built (joinedCall all c o (length old)) old new a
             join-done new a F =
-                subst (λ q. Built q old new a) (joined-is all c o (length old) (record { entries = K .es; others = L .es }) (two-done c o (A .v) (B .v) (K .es) (L .es) (A .whole) (B .whole) (ap entries-of (K .is)) (ap entries-of (L .is)))) (F (K .es) (L .es) (K .read) (L .read))
+                subst (λ q. Built q old new a)
+                (joined-is all c o (length old) (record { entries = K .es; others = L .es })
+                (two-done c o (A .v) (B .v) (K .es) (L .es) (A .whole) (B .whole) (ap entries-of (K .is)) (ap entries-of (L .is))))
+                (F (K .es) (L .es) (K .read) (L .read))
 
 -- `join_in`
-module _ (all : Bool) (c o : List ℕ) (es gs : Entries) (ec : contextAt valueLevels c ≡ some es) (eo : contextAt valueLevels o ≡ some gs) (spare mid : List ℕ) (n : ℕ) (M : Merges all (contextAt valueLevels c) (contextAt valueLevels o) spare mid n) (k : min (length c + length o) mostBytes ≤ length spare) where
+module _ (all : Bool) (c o : List ℕ) (es gs : Entries) (ec : contextAt valueLevels c ≡ some es) (eo : contextAt valueLevels o ≡ some gs) (spare mid : List ℕ) (n : ℕ)
+    (M : Merges all (contextAt valueLevels c) (contextAt valueLevels o) spare mid n) (k : min (length c + length o) mostBytes ≤ length spare) where
   abbrev both : Val
   both = v-context (merged all es gs)
 
@@ -417,7 +441,8 @@ module _ (all : Bool) (c o : List ℕ) (es gs : Entries) (ec : contextAt valueLe
   merge-inside : n ≤ mostBytes → n ≤ length mid
   merge-inside l = omega (arith, merge-short, k, ap length (wrote-both .1), length-fill (encV both) spare)
 
-  pub merge-done : Bytes c → Bytes o → length c ≤ mostBytes → length o ≤ mostBytes → (old new : List ℕ) (a : Written) → ((w : Val) → Holds mid n w → levelV w ≤ valueLevels → Built (result (length old) w) old new a) → Built (result (length old) both) old new a
+  pub merge-done : Bytes c → Bytes o → length c ≤ mostBytes → length o ≤ mostBytes → (old new : List ℕ) (a : Written)
+      → ((w : Val) → Holds mid n w → levelV w ≤ valueLevels → Built (result (length old) w) old new a) → Built (result (length old) both) old new a
   merge-done bc bo kc ko old new a F =
       let C = ctx-of valueLevels c es ec in
       let D = ctx-of valueLevels o gs eo in
@@ -429,14 +454,16 @@ module _ (all : Bool) (c o : List ℕ) (es gs : Entries) (ec : contextAt valueLe
       } in
       F both H (omega (arith, level-merged all es gs, context-low c es ec bc, context-low o gs eo bo))
 
-pub merge-room : (all : Bool) (c o spare mid : List ℕ) (n : ℕ) → Ok (contextAt valueLevels c) → Ok (contextAt valueLevels o) → Merges all (contextAt valueLevels c) (contextAt valueLevels o) spare mid n → min (length c + length o) mostBytes ≤ length spare → n ≤ mostBytes → n ≤ length mid
+pub merge-room : (all : Bool) (c o spare mid : List ℕ) (n : ℕ) → Ok (contextAt valueLevels c) → Ok (contextAt valueLevels o)
+    → Merges all (contextAt valueLevels c) (contextAt valueLevels o) spare mid n → min (length c + length o) mostBytes ≤ length spare → n ≤ mostBytes → n ≤ length mid
 merge-room all c o spare mid n oc oo M k =
     let A = ok-got (contextAt valueLevels c) oc in
     let B = ok-got (contextAt valueLevels o) oo in
     merge-inside all c o (A .0) (B .0) (A .1) (B .1) spare mid n M k
 
 -- ---- remove_entry and move_entry
-closed-remove : (l n : ℕ) (c : List ℕ) (es : Entries) (at to count : ℕ) → Bytes c → Ctx l c es → Around n c es at to → count ≡ countEntries (remove n es) → closed count c at to ≡ encV (v-context (remove n es))
+closed-remove : (l n : ℕ) (c : List ℕ) (es : Entries) (at to count : ℕ) → Bytes c → Ctx l c es → Around n c es at to → count ≡ countEntries (remove n es)
+    → closed count c at to ≡ encV (v-context (remove n es))
 unfolding closed begun
 closed-remove l n c es at to count b C A e =
     append-assoc (0x0B ∷ bytes 2 count) (take (at - 3) (drop 3 c)) (drop to c)
@@ -453,7 +480,8 @@ module _ (count : ℕ) (c : List ℕ) (at to : ℕ) (old : List ℕ) (l : 3 ≤ 
   pub without-short : length old < length c - (to - at) → Built (fits (length old) (closed count c at to)) old old (written-is.Refused 18)
   without-short s = built-short (fits (length old) (closed count c at to)) (closed count c at to) old refl (omega (arith, length-closed count c at to l h k))
 
-  pub without-done : length c - (to - at) ≤ length old → (new : List ℕ) (n : ℕ) → n ≡ length (closed count c at to) → new ≡ fill (closed count c at to) old → Built (fits (length old) (closed count c at to)) old new (written-is.Bytes n)
+  pub without-done : length c - (to - at) ≤ length old → (new : List ℕ) (n : ℕ) → n ≡ length (closed count c at to) → new ≡ fill (closed count c at to) old
+      → Built (fits (length old) (closed count c at to)) old new (written-is.Bytes n)
   unfolding fill
   without-done s new n e f =
       let z : length (closed count c at to) ≤ length old = omega (arith, length-closed count c at to l h k) in
@@ -491,12 +519,16 @@ module _ (c old : List ℕ) (n : ℕ) (O : Opened c 0) (bc : Bytes c) where
   unfolding _>>=_
   remove-copy at M new a B =
       let z : remove n (O .es) ≡ O .es = remove-absent n (O .es) (ap (value-of n) (ctx-same valueLevels c (O .es) (M .es) (O .ctx) (M .ctx)) ∙ M .value) in
-      subst (λ o. Built o old new a) (copied-is c (O .es) (length old) (O .ctx .read) bc short ∙ ap (λ x. result (length old) (v-context x)) (sym z) ∙ sym (changed c (removeEntry n) (length old) (O .es) (O .is))) B
+      subst (λ o. Built o old new a)
+      (copied-is c (O .es) (length old) (O .ctx .read) bc short ∙ ap (λ x. result (length old) (v-context x)) (sym z) ∙ sym (changed c (removeEntry n) (length old) (O .es) (O .is))) B
 
   pub move-copy : (parent at : ℕ) → Miss valueLevels c n at → (new : List ℕ) (a : Written) → Built (fits (length old) c) old new a → Built (moveEntryCall c n parent (length old)) old new a
   move-copy parent at M new a B =
       let v : value-of n (O .es) ≡ none = ap (value-of n) (ctx-same valueLevels c (O .es) (M .es) (O .ctx) (M .ctx)) ∙ M .value in
-      subst (λ o. Built o old new a) (copied-is c (O .es) (length old) (O .ctx .read) bc short ∙ ap (λ x. result (length old) (v-context (moved n parent (O .es) x))) (sym v) ∙ sym (changed c (moveEntry n parent) (length old) (O .es) (O .is))) B
+      subst (λ o. Built o old new a)
+      (copied-is c (O .es) (length old) (O .ctx .read) bc short ∙ ap (λ x. result (length old) (v-context (moved n parent (O .es) x))) (sym v)
+      ∙ sym (changed c (moveEntry n parent) (length old) (O .es) (O .is)))
+      B
 
   module _ (at to : ℕ) (H : Hit valueLevels c n at to) (count : ℕ) (ec : count + 1 ≡ numAt 2 1 c) where
     abbrev left : Entries
@@ -508,7 +540,8 @@ module _ (c old : List ℕ) (n : ℕ) (O : Opened c 0) (bc : Bytes c) where
     text : closed count c at to ≡ encV (v-context left)
     text =
         closed-remove valueLevels n c (H .es) at to count bc (H .ctx)
-        (subst (λ (z : ℕ). Around n c (H .es) at z) (sym (H .end)) (subst (λ (z : ℕ). Around n c (H .es) z (z + nameWidth + size-val (H .x))) (sym (H .start)) (around-some valueLevels n c (H .es) (H .x) bc (H .ctx) (H .value))))
+        (subst (λ (z : ℕ). Around n c (H .es) at z) (sym (H .end))
+        (subst (λ (z : ℕ). Around n c (H .es) z (z + nameWidth + size-val (H .x))) (sym (H .start)) (around-some valueLevels n c (H .es) (H .x) bc (H .ctx) (H .value))))
         (omega (arith, ec, count-context valueLevels c (H .es) bc (H .ctx), count-less n 0 (H .es) (well-entries valueLevels c (H .es) bc (H .ctx)) (H .x) (H .value)))
 
     closed-short : length (closed count c at to) ≤ length c
@@ -537,7 +570,9 @@ module _ (c old : List ℕ) (n : ℕ) (O : Opened c 0) (bc : Bytes c) where
 
     part-read : wholeAt valueLevels (valueIn c at to) ≡ some (H .x)
     part-read =
-        is-whole valueLevels (valueIn c at to) (H .x) (read-upV (valueLevels - 1) valueLevels (valueIn c at to) (bytes-take (to - (at + nameWidth)) (drop (at + nameWidth) c) (bytes-drop (at + nameWidth) c bc)) (H .x) (length (valueIn c at to)) (omega arith) (whole-is (valueLevels - 1) (valueIn c at to) (H .x) (hit-whole H bc)))
+        is-whole valueLevels (valueIn c at to) (H .x)
+        (read-upV (valueLevels - 1) valueLevels (valueIn c at to) (bytes-take (to - (at + nameWidth)) (drop (at + nameWidth) c) (bytes-drop (at + nameWidth) c bc))
+        (H .x) (length (valueIn c at to)) (omega arith) (whole-is (valueLevels - 1) (valueIn c at to) (H .x) (hit-whole H bc)))
 
     pub rest-ok : Ok (contextAt valueLevels (closed count c at to))
     rest-ok = is-ok (contextAt valueLevels (closed count c at to)) left rest-read
@@ -547,9 +582,12 @@ module _ (c old : List ℕ) (n : ℕ) (O : Opened c 0) (bc : Bytes c) where
 
     pub part-level : (d : ℕ) → levelV (v-context (O .es)) ≡ d → (x : Val) → wholeAt valueLevels (valueIn c at to) ≡ some x → levelV x ≤ d - 1
     unfolding levelV
-    part-level d e x ex = omega (arith, e, ap levelEntries same-es, ap levelV (some-same (sym part-read ∙ ex)), level-value n (H .x) (H .es) (H .value))
+    part-level d e x ex = omega (arith, e, ap levelEntries same-es, ap levelV (some-same (sym part-read ∙ ex)), value-level n (H .x) (H .es) (H .value))
 
-    pub move-done : (parent : ℕ) (new : List ℕ) (a : Written) → ((es : Entries) (x : Val) → contextAt valueLevels (closed count c at to) ≡ some es → wholeAt valueLevels (valueIn c at to) ≡ some x → Built (answered (length old) (updated false (parent ∷ n ∷ []) x es)) old new a) → Built (moveEntryCall c n parent (length old)) old new a
+    pub move-done : (parent : ℕ) (new : List ℕ) (a : Written)
+        → ((es : Entries) (x : Val) → contextAt valueLevels (closed count c at to) ≡ some es → wholeAt valueLevels (valueIn c at to) ≡ some x
+        → Built (answered (length old) (updated false (parent ∷ n ∷ []) x es)) old new a)
+        → Built (moveEntryCall c n parent (length old)) old new a
     unfolding _>>=_
     move-done parent new a F =
         subst (λ o. Built o old new a)
@@ -558,7 +596,8 @@ module _ (c old : List ℕ) (n : ℕ) (O : Opened c 0) (bc : Bytes c) where
         ∙ sym (changed c (moveEntry n parent) (length old) (O .es) (O .is))) (F left (H .x) rest-read part-read)
 
 -- `move_in`: the rest of the context in a spare place
-module _ (count : ℕ) (c : List ℕ) (at to : ℕ) (l : 3 ≤ at) (h : at + nameWidth ≤ to) (k : to ≤ length c) (spare mid : List ℕ) (n : ℕ) (en : n ≡ length (closed count c at to)) (em : mid ≡ fill (closed count c at to) spare) (room : length c ≤ length spare) where
+module _ (count : ℕ) (c : List ℕ) (at to : ℕ) (l : 3 ≤ at) (h : at + nameWidth ≤ to) (k : to ≤ length c) (spare mid : List ℕ) (n : ℕ)
+    (en : n ≡ length (closed count c at to)) (em : mid ≡ fill (closed count c at to) spare) (room : length c ≤ length spare) where
   cut-short : n ≤ length c
   cut-short = omega (arith, en, length-closed count c at to l (omega arith) k)
 
@@ -572,7 +611,12 @@ module _ (count : ℕ) (c : List ℕ) (at to : ℕ) (l : 3 ≤ at) (h : at + nam
   cut-ok o = rw cut-is o
 
   pub cut-small : (p : List ℕ) → Small c p c → Small (take n mid) p (valueIn c at to)
-  cut-small p S = record { bytes-c = omega (arith, S .bytes-c, cut-short, length-take n mid); names = S .names; bytes-v = omega (arith, S .bytes-c, length-take (to - (at + nameWidth)) (drop (at + nameWidth) c), length-drop (at + nameWidth) c) }
+  cut-small p S =
+      record {
+        bytes-c = omega (arith, S .bytes-c, cut-short, length-take n mid);
+        names = S .names;
+        bytes-v = omega (arith, S .bytes-c, length-take (to - (at + nameWidth)) (drop (at + nameWidth) c), length-drop (at + nameWidth) c);
+      }
 
 -- `open`
 pub record Deep (c : List ℕ) (d : ℕ) : Type 0 where

@@ -1,2 +1,3 @@
 pub mod Calls
 pub mod Answering
+pub mod Example12

@@ -112,7 +112,7 @@ unfolding encV
 length-entries es = omega (arith, length-encV (v-context es), length-front 2 (countEntries es) (encEntries es), size-context es)
 
 -- a value of a well-formed context is well-formed, and lower than the context
-value-well : (n k : ℕ) (x : Val) (es : Entries) → WfEntries es k → value-of n es ≡ some x → WfV x
+pub value-well : (n k : ℕ) (x : Val) (es : Entries) → WfEntries es k → value-of n es ≡ some x → WfV x
 unfolding value-of WfEntries
 value-well n k x no-entries w e = absurd (none-some e)
 value-well n k x (entry m v es) w e = go (value-well n (m + 1) x es (w .1 .1 .1)) (eqb n m) e
@@ -121,7 +121,7 @@ value-well n k x (entry m v es) w e = go (value-well n (m + 1) x es (w .1 .1 .1)
     go ih true h = subst WfV (some-same h) (w .1 .1 .0)
     go ih false h = ih h
 
-value-level : (n : ℕ) (x : Val) (es : Entries) → value-of n es ≡ some x → levelV x ≤ levelEntries es
+pub value-level : (n : ℕ) (x : Val) (es : Entries) → value-of n es ≡ some x → levelV x ≤ levelEntries es
 unfolding value-of levelEntries
 value-level n x no-entries e = absurd (none-some e)
 value-level n x (entry m v es) e = go (value-level n x es) (eqb n m) e

@@ -3,3 +3,4 @@ pub mod Questions
 pub mod Keys
 pub mod Ends
 pub mod Builtins
+pub mod Signed

@@ -1,2 +1,3 @@
 pub mod Ranges
 pub mod Calls
+pub mod Signed

@@ -1,6 +1,6 @@
 -- The calls: refusals in their order, and the answer.
 -- Assumes nothing.
-use Prim.Native.Nat.{ℕ, _-_, _<_, _≤_}
+use Prim.Native.Nat.{ℕ, _<_, _≤_}
 use native.Mathlib.Omega.{arith}
 use mathlib.Core.Path.{_≡_, refl, sym, ap, ap₂, _∙_}
 use mathlib.Core.Bool.{true, false, cond, _&&_}
@@ -60,11 +60,11 @@ module _ (t v : List ℕ) (A : Accepted t v) where
   pub value-ok : Ok (valueAt typeLevels v)
   value-ok = is-ok (valueAt typeLevels v) (A .value) value-there
 
-  well : WfV (A .value)
+  pub well : WfV (A .value)
   well = value-accepted v (A .bytes-v) (A .value) (A .read-v) .well
 
   -- a value that was retrieved is not longer
-  retrieved-within : (w : Val) → retrieve (A .value) (A .type) ≡ some w → length (encV w) ≤ length v
+  pub retrieved-within : (w : Val) → retrieve (A .value) (A .type) ≡ some w → length (encV w) ≤ length v
   retrieved-within w e =
       omega (arith, length-encV w, length-encV (A .value), less-val (A .value) (A .type) w e .shorter, ap length (value-accepted v (A .bytes-v) (A .value) (A .read-v) .bytes))
 
@@ -80,11 +80,11 @@ module _ (t v : List ℕ) (A : Accepted t v) where
       let m : levelV w ≤ valueLevels = omega (arith, L .lower, C .low) in
       ap₂ _&&_ (le-leb (length (encV w)) mostBytes n) (le-leb (levelV w) valueLevels m)
 
-  checked-is : (room : ℕ) (w : Val) → retrieve (A .value) (A .type) ≡ some w → getValueCheckedCall t v room ≡ fits room (encV w)
+  pub checked-is : (room : ℕ) (w : Val) → retrieve (A .value) (A .type) ≡ some w → getValueCheckedCall t v room ≡ fits room (encV w)
   unfolding getValueCheckedCall _>>=_ _>>_
   checked-is room w e = rw (A .read-t, A .read-v, e, retrieved-small w e)
 
-  checked-err : (room : ℕ) → retrieve (A .value) (A .type) ≡ none → getValueCheckedCall t v room ≡ refused 15
+  pub checked-err : (room : ℕ) → retrieve (A .value) (A .type) ≡ none → getValueCheckedCall t v room ≡ refused 15
   unfolding getValueCheckedCall _>>=_
   checked-err room e = rw (A .read-t, A .read-v, e)
 
@@ -144,14 +144,14 @@ module _ (t v : List ℕ) (A : Accepted t v) where
       call-done new q d = handed (getValueCheckedCall t v (length old)) (encV (F .w)) spare was old new n q (checked-is (length old) (F .w) (F .is)) (F .out) (F .long) within d
 
   -- ---- `get_conformant_value`
-  conformant-is : (room : ℕ) → getConformantValueCall t v room ≡ result room (getConformantValue (A .type) (A .value))
+  pub conformant-is : (room : ℕ) → getConformantValueCall t v room ≡ result room (getConformantValue (A .type) (A .value))
   unfolding getConformantValueCall _>>=_ _>>_
   conformant-is room = rw (A .read-t, A .read-v)
 
   pub some-type : 0 < length t
   some-type = some-byte typeLevels t (A .type) type-there
 
-  null-type : getD t 0 0 ≡ 0x29 → is-null (A .type) ≡ true
+  pub null-type : getD t 0 0 ≡ 0x29 → is-null (A .type) ≡ true
   null-type e = go (A .type) (cmd-is typeLevels t (A .type) type-there ∙ e)
     where
       go : (u : Ty) → cmd u ≡ 0x29 → is-null u ≡ true
@@ -161,7 +161,7 @@ module _ (t v : List ℕ) (A : Accepted t v) where
       go (built (context fs)) h = absurd (omega arith)
       go (built (function ps r)) h = absurd (omega arith)
 
-  other-type : (getD t 0 0 ≡ 0x29 → ⊥) → is-null (A .type) ≡ false
+  pub other-type : (getD t 0 0 ≡ 0x29 → ⊥) → is-null (A .type) ≡ false
   other-type e = go (A .type) (λ z. e (sym (cmd-is typeLevels t (A .type) type-there) ∙ z))
     where
       go : (u : Ty) → (cmd u ≡ 0x29 → ⊥) → is-null u ≡ false
@@ -172,7 +172,7 @@ module _ (t v : List ℕ) (A : Accepted t v) where
       go (built (function ps r)) h = refl
 
   -- null with a trace is small
-  nothing-is : (room n : ℕ) → result room (nothing n) ≡ fits room (0 ∷ n ∷ [])
+  pub nothing-is : (room n : ℕ) → result room (nothing n) ≡ fits room (0 ∷ n ∷ [])
   unfolding _>>_ encV encLeaf levelV
   nothing-is room n = refl
 

@@ -5,4 +5,7 @@ pub mod Listing
 pub mod Contexts
 pub mod Commands
 pub mod Theorems
+pub mod ByNames
 pub mod Calling
+pub mod Retrieval
+pub mod OverBytes

@@ -11,18 +11,18 @@ use borrow.Author.Tests.{eqb-true, eqb-false, eq-eqb, ne-eqb, ltb-true, ltb-fals
 use Rattle.form.specs.Trees.{Simple, any, boolean, number, string, date, time, dateTime, daysAndTime, yearsAndMonths, null, code, Tys, Ty, leaf, built, list, range, context, function, Fields}
 use Rattle.form.specs.Trees.{no-fields, field, on-date, at-time, at-dateTime, for-daysAndTime, for-yearsAndMonths, Leaf, l-null, l-boolean, l-number, l-string, l-temporal, Val, v-leaf, v-range}
 use Rattle.form.specs.Trees.{v-list, v-context, v-function, v-built-in, v-type, v-irrelevant, Vals, no-items, item, Entries, no-entries, entry}
-use Rattle.form.specs.Form.{levelV, levelVals, levelEntries, countVals, countEntries, WfLeaf, Wf, WfV, WfVals, WfEntries}
+use Rattle.form.specs.Form.{levelV, levelVals, levelEntries, countVals, countEntries, WfLeaf, WfV, WfVals, WfEntries}
 use Rattle.order.specs.Order.{up, fixed, same, flat}
 use Rattle.order.specs.Ascending.{Asc, AscFields}
 use Rattle.order.proofs.Conform.{look-below}
 use Rattle.order.proofs.Simple.{and-both, same-eq}
-use Rattle.order.proofs.WellFormed.{asc-of}
 use Rattle.order.specs.Size.{size-val, size-vals, size-entries}
 use Rattle.order.specs.Types.{look, cmp, cmps, all-fields}
 use Rattle.order.specs.Values.{temporal-type, leaf-type, types-of, to-range, to-function, is-any, conforms, all-conform, has-value}
 use Rattle.order.specs.Inferred.{valueConformsTo}
 use Rattle.retrieval.specs.Retrieve.{mapped, both, copied, retrieve-leaf, by-range, by-function, by-any, by-list, by-context, kept, retrieve, retrieve-items, retrieve-entries, getValueChecked}
 use Rattle.retrieval.specs.Retrieve.{nothing, or-nothing, getConformantValue}
+use Rattle.retrieval.specs.Retrieval.{There}
 
 -- ---- what was retrieved is no longer and no deeper, with as many items, and at most as many entries
 pub none-some : {X : Type 0} {x : X} → none ≡ some x → ⊥
@@ -71,7 +71,8 @@ pub record LessEntries (es fs : Entries) : Type 0 where
   pub counted : countEntries fs ≤ countEntries es
   pub well : (k : ℕ) → WfEntries es k → WfEntries fs k
 
-wf-lower : (es : Entries) (j k : ℕ) → k ≤ j → WfEntries es j → WfEntries es k
+-- names that are at least j are at least k
+pub wf-lower : (es : Entries) (j k : ℕ) → k ≤ j → WfEntries es j → WfEntries es k
 unfolding WfV
 wf-lower no-entries j k h w = tt
 wf-lower (entry n v es) j k h w = (omega (arith, w .0), w .1)
@@ -192,12 +193,6 @@ of-all f (field m t fs) n u h e = let d = both-true (f m t) (all-fields f fs) h 
     go true p a b = ap (λ x. f x u) (eqb-true n m p) ∙ ap (f m) (sym (some-same (sym (ap (λ q. cond q (some t) (look n fs)) p) ∙ e))) ∙ a
     go false p a b = b (sym (ap (λ q. cond q (some t) (look n fs)) p) ∙ e)
 
--- what is found of a value
-pub record There (v : Val) (t : Ty) : Type 0 where
-  pub w : Val
-  pub is : retrieve v t ≡ some w
-  pub conforms-too : valueConformsTo w t ≡ true
-
 pub record ThereItems (vs : Vals) (t : Ty) : Type 0 where
   pub ws : Vals
   pub is : retrieve-items vs t ≡ some ws
@@ -306,7 +301,7 @@ list-there (built (context fs)) vs a ih h = absurd (false≢true h)
 list-there (built (function ps r)) vs a ih h = absurd (false≢true h)
 
 -- ---- contexts
-asc-look : (fs : Fields) (k n : ℕ) (u : Ty) → AscFields fs k → look n fs ≡ some u → Asc u
+pub asc-look : (fs : Fields) (k n : ℕ) (u : Ty) → AscFields fs k → look n fs ≡ some u → Asc u
 unfolding Asc look
 asc-look no-fields k n u a e = absurd (none-some e)
 asc-look (field m t fs) k n u a e = go (eqb n m) e (λ p. asc-look fs (suc m) n u (a .2) p)
@@ -451,21 +446,3 @@ conformant-value v (leaf s) h = go (same s null) refl
     go true e =
         let n = same-eq s null e in
         sym (ap or-nothing (ap (λ x. retrieve v (leaf x)) n ∙ null-there v (sym (ap (λ x. valueConformsTo v (leaf x)) n) ∙ h)))
-
--- ---- in one place
-pub record Retrieval : Type 0 where
-  -- behind conformance there always is a value: 15 is never met; and it conforms
-  pub behind-conformance : (v : Val) (t : Ty) → WfV v → Wf t → valueConformsTo v t ≡ true → There v t
-  -- never longer nor deeper than the value, and well-formed: 17 is never met
-  pub never-longer : (v : Val) (t : Ty) (w : Val) → retrieve v t ≡ some w → size-val w ≤ size-val v
-  pub never-deeper : (v : Val) (t : Ty) (w : Val) → retrieve v t ≡ some w → levelV w ≤ levelV v
-  pub well-formed : (v : Val) (t : Ty) (w : Val) → retrieve v t ≡ some w → WfV v → WfV w
-
-pub retrieval : Retrieval
-retrieval =
-    record {
-      behind-conformance = λ v t w x h. there v t w (asc-of t x) h;
-      never-longer = λ v t w e. less-val v t w e .shorter;
-      never-deeper = λ v t w e. less-val v t w e .lower;
-      well-formed = λ v t w e. less-val v t w e .well;
-    }

@@ -1,8 +1,8 @@
 -- The answers are well-formed: names strictly ascending at every level, and every count fits its field.
 -- Assumes nothing.
-use Prim.Native.Nat.{ℕ, suc, _+_, _<_, _≤_, max}
+use Prim.Native.Nat.{ℕ, suc, _<_, _≤_, max}
 use native.Mathlib.Omega.{arith}
-use mathlib.Core.Path.{_≡_, refl, sym, ap, subst, _∙_}
+use mathlib.Core.Path.{_≡_, refl, sym, ap, subst}
 use mathlib.Core.Bool.{Bool, true, false, cond}
 use mathlib.Core.Option.{Option, none, some}
 use mathlib.Core.List.{List, [], _∷_}
@@ -16,35 +16,24 @@ use Rattle.form.specs.Form.{countEntries, levelV, levelEntries, WfV, WfEntries}
 use Rattle.order.specs.Size.{size-val, size-entries}
 use Rattle.retrieval.proofs.Contexts.{size-context, size-next, size-none}
 use Rattle.retrieval.proofs.Theorems.{none-some, some-same}
-use Rattle.paths.specs.Paths.{value-of, entries-of, given, or-empty, context-at}
+use Rattle.paths.specs.Paths.{value-of, entries-of, or-empty, context-at}
+use Rattle.paths.proofs.Splitting.{value-well}
 use Rattle.paths.proofs.Whole.{of-context, given-is}
-use Rattle.updates.specs.Update.{insert, remove, create, apply}
+use Rattle.updates.specs.Update.{insert, remove, create}
 use Rattle.updates.specs.Writing.{updated, merged}
+use Rattle.updates.specs.Laws.{Names}
 use Rattle.updates.proofs.Inserting.{well-insert, well-remove, count-insert}
 use Rattle.updates.proofs.Entering.{count-size}
 use Rattle.updates.proofs.Merging.{well-merged, count-merged}
 use Rattle.updates.proofs.Theorems.{apply-create}
 
--- ---- a path: every name has 16 bits
-unfoldable pub Names : List ℕ → Type 0
-Names [] = Unit {0}
-Names (n ∷ p) = (n < nameEnd) × Names p
-
+-- ---- a path
 pub names-of : (p : List ℕ) → ((i : ℕ) → Fits w16 (getD p i 0)) → Names p
 unfolding Names
 names-of [] h = tt
 names-of (n ∷ p) h = (h 0 .fits, names-of p (λ (i : ℕ). h (suc i)))
 
 -- ---- the value of a name
-pub value-well : (n k : ℕ) (v : Val) (es : Entries) → WfEntries es k → value-of n es ≡ some v → WfV v
-unfolding WfEntries value-of
-value-well n k v no-entries w e = absurd (none-some e)
-value-well n k v (entry m x es) w e = by (value-well n (m + 1) v es (w .1 .1 .1)) (eqb n m) e
-  where
-    by : (value-of n es ≡ some v → WfV v) → (q : Bool) → cond q (some x) (value-of n es) ≡ some v → WfV v
-    by ih true h = subst WfV (some-same h) (w .1 .1 .0)
-    by ih false h = ih h
-
 pub value-size : (n : ℕ) (v : Val) (es : Entries) → value-of n es ≡ some v → size-val v ≤ size-entries es
 unfolding value-of
 value-size n v no-entries e = absurd (none-some e)

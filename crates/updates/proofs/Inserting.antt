@@ -4,12 +4,13 @@ use Prim.Native.Nat.{ℕ, suc, _+_, _<_, _≤_}
 use native.Mathlib.Omega.{arith}
 use mathlib.Core.Path.{_≡_, refl, sym, ap, _∙_}
 use mathlib.Core.Bool.{Bool, true, false, cond}
-use mathlib.Core.Option.{Option, none, some}
+use mathlib.Core.Option.{none, some}
 use lib.Dec.{eqb, ltb}
-use borrow.Author.Tests.{eq-eqb, ne-eqb, lt-ltb, le-ltb, eqb-true, eqb-false, ltb-true, ltb-false}
+use borrow.Author.Tests.{eq-eqb, ne-eqb, eqb-true, eqb-false, ltb-true, ltb-false}
 use Rattle.form.specs.Limits.{nameEnd}
 use Rattle.form.specs.Trees.{Val, Entries, no-entries, entry}
 use Rattle.form.specs.Form.{countEntries, WfV, WfEntries}
+use Rattle.retrieval.proofs.Theorems.{wf-lower}
 use Rattle.paths.specs.Paths.{value-of}
 use Rattle.paths.proofs.Finding.{value-absent}
 use Rattle.paths.proofs.Splitting.{from-well}
@@ -31,7 +32,8 @@ unfolding value-of insert
 value-insert-other n m x no-entries d = ap (λ q. cond q (some x) none) (ne-eqb n m d)
 value-insert-other n m x (entry k v es) d = by (value-insert-other n m x es d) (eqb m k) refl (ltb m k)
   where
-    by : value-of n (insert m x es) ≡ value-of n es → (q : Bool) → eqb m k ≡ q → (r : Bool) → value-of n (cond q (entry m x es) (cond r (entry m x (entry k v es)) (entry k v (insert m x es)))) ≡ cond (eqb n k) (some v) (value-of n es)
+    by : value-of n (insert m x es) ≡ value-of n es → (q : Bool) → eqb m k ≡ q → (r : Bool)
+        → value-of n (cond q (entry m x es) (cond r (entry m x (entry k v es)) (entry k v (insert m x es)))) ≡ cond (eqb n k) (some v) (value-of n es)
     by ih true e r =
         let o : n ≡ k → ⊥ = λ z. d (z ∙ sym (eqb-true m k e)) in
         ap (λ q. cond q (some x) (value-of n es)) (ne-eqb n m d) ∙ sym (ap (λ q. cond q (some v) (value-of n es)) (ne-eqb n k o))
@@ -76,15 +78,11 @@ unfolding WfEntries insert
 well-insert n x no-entries k l b w h = (l, (b, (w, tt)))
 well-insert n x (entry m v es) k l b w h = by (λ z. well-insert n x es (m + 1) z b w (h .1 .1 .1)) (eqb n m) refl (ltb n m) refl
   where
-    by : (m + 1 ≤ n → WfEntries (insert n x es) (m + 1)) → (q : Bool) → eqb n m ≡ q → (r : Bool) → ltb n m ≡ r → WfEntries (cond q (entry n x es) (cond r (entry n x (entry m v es)) (entry m v (insert n x es)))) k
+    by : (m + 1 ≤ n → WfEntries (insert n x es) (m + 1)) → (q : Bool) → eqb n m ≡ q → (r : Bool) → ltb n m ≡ r
+        → WfEntries (cond q (entry n x es) (cond r (entry n x (entry m v es)) (entry m v (insert n x es)))) k
     by ih true e r f = (l, (b, (w, rw (eqb-true n m e) (h .1 .1 .1))))
     by ih false e true f = let z = ltb-true n m f in (l, (b, (w, (omega arith, h .1))))
     by ih false e false f = let z = ltb-false n m f in let y = eqb-false n m e in (h .0, (h .1 .0, (h .1 .1 .0, ih (omega arith))))
-
-pub well-less : (es : Entries) (k j : ℕ) → j ≤ k → WfEntries es k → WfEntries es j
-unfolding WfEntries
-well-less no-entries k j l h = tt
-well-less (entry m v es) k j l h = (omega (arith, h .0), h .1)
 
 pub well-remove : (n : ℕ) (es : Entries) (k : ℕ) → WfEntries es k → WfEntries (remove n es) k
 unfolding WfEntries remove
@@ -92,7 +90,7 @@ well-remove n no-entries k h = tt
 well-remove n (entry m v es) k h = by (well-remove n es (m + 1) (h .1 .1 .1)) (eqb n m)
   where
     by : WfEntries (remove n es) (m + 1) → (q : Bool) → WfEntries (cond q es (entry m v (remove n es))) k
-    by ih true = well-less es (m + 1) k (omega (arith, h .0)) (h .1 .1 .1)
+    by ih true = wf-lower es (m + 1) k (omega (arith, h .0)) (h .1 .1 .1)
     by ih false = (h .0, (h .1 .0, (h .1 .1 .0, ih)))
 
 -- ---- how many
@@ -101,7 +99,8 @@ unfolding countEntries insert
 count-insert n x no-entries = omega arith
 count-insert n x (entry m v es) = by (count-insert n x es) (eqb n m) (ltb n m)
   where
-    by : countEntries (insert n x es) ≤ countEntries es + 1 → (q r : Bool) → countEntries (cond q (entry n x es) (cond r (entry n x (entry m v es)) (entry m v (insert n x es)))) ≤ suc (countEntries es) + 1
+    by : countEntries (insert n x es) ≤ countEntries es + 1 → (q r : Bool)
+        → countEntries (cond q (entry n x es) (cond r (entry n x (entry m v es)) (entry m v (insert n x es)))) ≤ suc (countEntries es) + 1
     by ih true r = omega arith
     by ih false true = omega arith
     by ih false false = omega arith

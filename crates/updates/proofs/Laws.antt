@@ -1,71 +1,11 @@
--- What is proved of updates, in one place: what stands at every path behind an update, when apply refuses, that results are well-formed, and their levels.
+-- What `ContextUpdates` states of updates holds.
 -- Assumes nothing.
-use Prim.Native.Nat.{ℕ, _+_, _≤_, max}
-use mathlib.Core.Path.{_≡_}
-use mathlib.Core.Bool.{Bool}
-use mathlib.Core.Option.{Option, none, some}
-use mathlib.Core.List.{List, [], _∷_, _++_}
-use lib.ListN.{length}
-use Rattle.form.specs.Limits.{mostBytes}
-use Rattle.form.specs.Trees.{Val, v-context, Entries, no-entries, entry}
-use Rattle.form.specs.Form.{levelV, WfV, WfEntries}
-use Rattle.order.specs.Size.{size-entries}
-use Rattle.retrieval.specs.Retrieve.{nothing}
-use Rattle.paths.specs.Paths.{value-of, entries-of, given, or-empty, search}
-use Rattle.updates.specs.Update.{insert, create, apply, zip, overwrite, moveEntry, setEntry, setNull, removeEntry}
-use Rattle.updates.specs.Writing.{updated, merged}
-use Rattle.updates.proofs.Theorems.{Apart, Blocked, created-found, created-other, created-inside, created-way, apply-create, apply-refuses, refuses-apply, set-create, null-create, move-absent, move-nests, move-found, move-gone, move-other, removed-gone, removed-other}
-use Rattle.updates.proofs.Merging.{or-else, only-if, zip-name, overwrite-name}
-use Rattle.updates.proofs.Formed.{Names, well-updated, well-joined, well-removed, level-removed}
+use Rattle.updates.specs.Laws.{ContextUpdates}
+use Rattle.updates.proofs.Theorems.{created-found, created-other, created-inside, created-way, apply-create, apply-refuses, refuses-apply, set-create, null-create}
+use Rattle.updates.proofs.Theorems.{move-absent, move-nests, move-found, move-gone, move-other, move-parent, move-replaced, move-inside, move-below, removed-gone, removed-other}
+use Rattle.updates.proofs.Merging.{zip-name, overwrite-name}
+use Rattle.updates.proofs.Formed.{well-updated, well-joined, well-removed, level-removed}
 use Rattle.updates.proofs.Levels.{level-updated, level-merged, size-merged}
-
-pub record ContextUpdates : Type 0 where
-  -- create_entries: the value is found at the path
-  pub created-found : (p : List ℕ) (x : Val) (es : Entries) → (p ≡ [] → ⊥) → search p (create p x es) ≡ some x
-  -- every place that is not on the path is as before
-  pub created-other : (q p : List ℕ) (x : Val) (es : Entries) → Apart q p → search q (create p x es) ≡ search q es
-  -- below the path: what stands in the value
-  pub created-inside : (p r : List ℕ) (x : Val) (es : Entries) → (p ≡ [] → ⊥) → (r ≡ [] → ⊥) → search (p ++ r) (create p x es) ≡ given (entries-of x) (λ fs. search r fs)
-  -- on the way: a context; the old one's entries, or none where a non-context is replaced, with the rest of the path created in it
-  pub created-way : (q r : List ℕ) (x : Val) (es : Entries) → (q ≡ [] → ⊥) → (r ≡ [] → ⊥) → search q (create (q ++ r) x es) ≡ some (v-context (create r x (or-empty (given (search q es) entries-of))))
-  -- apply_entries: where it does not refuse, the same
-  pub apply-create : (p : List ℕ) (x : Val) (es fs : Entries) → apply p x es ≡ some fs → fs ≡ create p x es
-  -- 16 only where a value on the way is no context
-  pub apply-refuses : (p : List ℕ) (x : Val) (es : Entries) → apply p x es ≡ none → Blocked p es
-  -- and there always
-  pub refuses-apply : (p : List ℕ) (x : Val) (es : Entries) → Blocked p es → apply p x es ≡ none
-  -- set_entry inserts: a path of one name
-  pub set-create : (n : ℕ) (x : Val) (es : Entries) → setEntry n x es ≡ create (n ∷ []) x es
-  -- set_null: the same with Null of trace 0
-  pub null-create : (n : ℕ) (es : Entries) → setNull n es ≡ create (n ∷ []) (nothing 0) es
-  -- move_entry: an absent name copies
-  pub move-absent : (n parent : ℕ) (es : Entries) → value-of n es ≡ none → moveEntry n parent es ≡ es
-  -- equal names nest
-  pub move-nests : (n k : ℕ) (x : Val) (es : Entries) → WfEntries es k → value-of n es ≡ some x → moveEntry n n es ≡ insert n (v-context (entry n x no-entries)) es
-  -- otherwise the value is found at [parent, name]
-  pub move-found : (n parent : ℕ) (x : Val) (es : Entries) → value-of n es ≡ some x → search (parent ∷ n ∷ []) (moveEntry n parent es) ≡ some x
-  -- a name other than the parent is gone
-  pub move-gone : (n parent k : ℕ) (es : Entries) → WfEntries es k → (n ≡ parent → ⊥) → value-of n (moveEntry n parent es) ≡ none
-  -- every name but these two is as before
-  pub move-other : (m n parent : ℕ) (es : Entries) → (m ≡ n → ⊥) → (m ≡ parent → ⊥) → value-of m (moveEntry n parent es) ≡ value-of m es
-  -- remove_entry: the name is gone
-  pub removed-gone : (n k : ℕ) (es : Entries) → WfEntries es k → value-of n (removeEntry n es) ≡ none
-  -- every other name is as before
-  pub removed-other : (m n : ℕ) (es : Entries) → (m ≡ n → ⊥) → value-of m (removeEntry n es) ≡ value-of m es
-  -- zip: the other's value, where it has one, otherwise one's own
-  pub zip-name : (n : ℕ) (es gs : Entries) (k : ℕ) → WfEntries gs k → value-of n (zip es gs) ≡ or-else (value-of n gs) (value-of n es)
-  -- overwrite: the other's value where both have one; one's own where the other has none
-  pub overwrite-name : (n : ℕ) (es gs : Entries) (k : ℕ) → WfEntries gs k → value-of n (overwrite es gs) ≡ only-if (value-of n gs) (value-of n es)
-  -- the results are well-formed, names strictly ascending at every level, for contexts of at most 16,384 bytes, names of 16 bits and a well-formed value
-  pub created-well : (strict : Bool) (p : List ℕ) (x : Val) (es fs : Entries) → Names p → WfV x → WfEntries es 0 → size-entries es ≤ mostBytes → updated strict p x es ≡ some fs → WfV (v-context fs)
-  pub merged-well : (all : Bool) (es gs : Entries) → WfEntries es 0 → WfEntries gs 0 → size-entries es ≤ mostBytes → size-entries gs ≤ mostBytes → WfV (v-context (merged all es gs))
-  pub removed-well : (n : ℕ) (es : Entries) → WfV (v-context es) → WfV (v-context (removeEntry n es))
-  -- levels: every name of the path adds at most one to the value's; a merge and a removal add none
-  pub updated-level : (strict : Bool) (p : List ℕ) (x : Val) (es fs : Entries) → updated strict p x es ≡ some fs → levelV (v-context fs) ≤ max (levelV (v-context es)) (length p + levelV x)
-  pub merged-level : (all : Bool) (es gs : Entries) → levelV (v-context (merged all es gs)) ≤ max (levelV (v-context es)) (levelV (v-context gs))
-  pub removed-level : (n : ℕ) (es : Entries) → levelV (v-context (removeEntry n es)) ≤ levelV (v-context es)
-  -- a merge is not longer than both together
-  pub merged-short : (all : Bool) (es gs : Entries) → size-entries (merged all es gs) ≤ size-entries es + size-entries gs
 
 pub contextUpdates : ContextUpdates
 contextUpdates =
@@ -84,6 +24,10 @@ contextUpdates =
       move-found = move-found;
       move-gone = move-gone;
       move-other = move-other;
+      move-parent = move-parent;
+      move-replaced = move-replaced;
+      move-inside = move-inside;
+      move-below = move-below;
       removed-gone = removed-gone;
       removed-other = removed-other;
       zip-name = zip-name;

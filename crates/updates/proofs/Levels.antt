@@ -12,8 +12,9 @@ use Rattle.form.specs.Trees.{Val, v-context, Entries, no-entries, entry}
 use Rattle.form.specs.Form.{levelV, levelEntries}
 use Rattle.order.specs.Size.{size-entries}
 use Rattle.retrieval.proofs.Contexts.{size-next}
-use Rattle.retrieval.proofs.Theorems.{none-some, some-same}
+use Rattle.retrieval.proofs.Theorems.{some-same}
 use Rattle.paths.specs.Paths.{value-of, entries-of, or-empty, context-at, containsEntry}
+use Rattle.paths.proofs.Splitting.{value-level}
 use Rattle.paths.proofs.Whole.{of-context, given-is}
 use Rattle.updates.specs.Update.{insert, create}
 use Rattle.updates.specs.Writing.{updated, merged}
@@ -26,7 +27,8 @@ unfolding levelEntries insert
 level-insert n x no-entries = omega arith
 level-insert n x (entry m v es) = by (level-insert n x es) (eqb n m) (ltb n m)
   where
-    by : levelEntries (insert n x es) ≤ max (levelV x) (levelEntries es) → (q r : Bool) → levelEntries (cond q (entry n x es) (cond r (entry n x (entry m v es)) (entry m v (insert n x es)))) ≤ max (levelV x) (max (levelV v) (levelEntries es))
+    by : levelEntries (insert n x es) ≤ max (levelV x) (levelEntries es) → (q r : Bool)
+        → levelEntries (cond q (entry n x es) (cond r (entry n x (entry m v es)) (entry m v (insert n x es)))) ≤ max (levelV x) (max (levelV v) (levelEntries es))
     by ih true r = omega arith
     by ih false true = omega arith
     by ih false false = omega arith
@@ -36,20 +38,11 @@ unfolding insert
 size-insert n x no-entries = omega arith
 size-insert n x (entry m v es) = by (size-insert n x es) (eqb n m) (ltb n m)
   where
-    by : size-entries (insert n x es) ≤ size-entries (entry n x es) → (q r : Bool) → size-entries (cond q (entry n x es) (cond r (entry n x (entry m v es)) (entry m v (insert n x es)))) ≤ size-entries (entry n x (entry m v es))
+    by : size-entries (insert n x es) ≤ size-entries (entry n x es) → (q r : Bool)
+        → size-entries (cond q (entry n x es) (cond r (entry n x (entry m v es)) (entry m v (insert n x es)))) ≤ size-entries (entry n x (entry m v es))
     by ih true r = omega (arith, size-next n x es, size-next n x (entry m v es), size-next m v es)
     by ih false true = omega arith
     by ih false false = omega (arith, size-next n x es, size-next n x (entry m v es), size-next m v es, size-next m v (insert n x es))
-
--- the value of a name is lower than its context
-pub level-value : (n : ℕ) (v : Val) (es : Entries) → value-of n es ≡ some v → levelV v ≤ levelEntries es
-unfolding levelEntries value-of
-level-value n v no-entries e = absurd (none-some e)
-level-value n v (entry m x es) e = by (level-value n v es) (eqb n m) e
-  where
-    by : (value-of n es ≡ some v → levelV v ≤ levelEntries es) → (q : Bool) → cond q (some x) (value-of n es) ≡ some v → levelV v ≤ max (levelV x) (levelEntries es)
-    by ih true h = omega (arith, ap levelV (some-same h))
-    by ih false h = omega (arith, ih h)
 
 -- ---- create_entries and apply_entries: every name of the path adds at most one level to the value's
 level-child : (n : ℕ) (es : Entries) → suc (levelEntries (or-empty (context-at n es))) ≤ max 1 (levelEntries es)
@@ -61,7 +54,7 @@ level-child n es = go (context-at n es) refl
     go (some fs) e =
         let G = given-is (value-of n es) entries-of fs e in
         let c : G .0 ≡ v-context fs = of-context (G .0) fs (G .2) in
-        omega (arith, ap levelV c, level-value n (G .0) es (G .1))
+        omega (arith, ap levelV c, value-level n (G .0) es (G .1))
 
 level-created : (p : List ℕ) (x : Val) (es : Entries) → suc (levelEntries (create p x es)) ≤ max (suc (levelEntries es)) (length p + levelV x)
 unfolding levelV create

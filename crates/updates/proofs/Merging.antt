@@ -10,26 +10,17 @@ use borrow.Author.Tests.{eq-eqb, ne-eqb, lt-ltb, le-ltb, eqb-true, eqb-false}
 use Rattle.form.specs.Limits.{nameEnd}
 use Rattle.form.specs.Trees.{Val, Entries, no-entries, entry}
 use Rattle.form.specs.Form.{countEntries, WfV, WfEntries}
+use Rattle.retrieval.proofs.Theorems.{wf-lower}
 use Rattle.retrieval.proofs.Trees.{From}
 use Rattle.paths.specs.Paths.{value-of, is-some, containsEntry}
 use Rattle.paths.proofs.Finding.{value-first, value-later, value-absent}
 use Rattle.paths.proofs.Splitting.{from-well}
 use Rattle.updates.specs.Update.{insert, zip, overwrite}
 use Rattle.updates.specs.Writing.{merged}
-use Rattle.updates.proofs.Inserting.{value-insert, value-insert-other, well-insert, well-less, count-insert}
+use Rattle.updates.specs.Laws.{or-else, only-if}
+use Rattle.updates.proofs.Inserting.{value-insert, value-insert-other, well-insert, count-insert}
 
 -- ---- the value of a name, by the other's and one's own
--- zip: the other's, or else one's own
-abbrev pub or-else : {X : Type 0} → Option X → Option X → Option X
-or-else none y = y
-or-else (some x) y = some x
-
--- overwrite: the other's where there is one's own, which stays where the other has none
-abbrev pub only-if : {X : Type 0} → Option X → Option X → Option X
-only-if none y = y
-only-if (some x) none = none
-only-if (some x) (some y) = some x
-
 abbrev chosen : Bool → Option Val → Option Val → Option Val
 chosen true x y = or-else x y
 chosen false x y = only-if x y
@@ -50,7 +41,8 @@ insert-same n x v es = ap (λ q. cond q (entry n x es) (cond (ltb n n) (entry n 
 insert-first : (n : ℕ) (x : Val) (es : Entries) → From (suc n) es → insert n x es ≡ entry n x es
 unfolding insert From
 insert-first n x no-entries f = refl
-insert-first n x (entry m v es) f = ap₂ (λ q r. cond q (entry n x es) (cond r (entry n x (entry m v es)) (entry m v (insert n x es)))) (ne-eqb n m (λ e. omega (arith, f .0))) (lt-ltb n m (omega (arith, f .0)))
+insert-first n x (entry m v es) f =
+    ap₂ (λ q r. cond q (entry n x es) (cond r (entry n x (entry m v es)) (entry m v (insert n x es)))) (ne-eqb n m (λ e. omega (arith, f .0))) (lt-ltb n m (omega (arith, f .0)))
 
 -- ---- one entry of the other
 abbrev pub merged-one : Bool → ℕ → Val → Entries → Entries
@@ -163,7 +155,7 @@ unfolding WfEntries
 well-merged all es no-entries k v w = rw (merged-none all es) v
 well-merged all es (entry m x gs) k v w =
     rw (merged-next all m x es gs)
-    (well-merged all (merged-one all m x es) gs k (one-well all m x es k (w .0) (w .1 .0) (w .1 .1 .0) v) (well-less gs (m + 1) k (omega (arith, w .0)) (w .1 .1 .1)))
+    (well-merged all (merged-one all m x es) gs k (one-well all m x es k (w .0) (w .1 .0) (w .1 .1 .0) v) (wf-lower gs (m + 1) k (omega (arith, w .0)) (w .1 .1 .1)))
 
 pub count-merged : (all : Bool) (es gs : Entries) → countEntries (merged all es gs) ≤ countEntries es + countEntries gs
 unfolding countEntries

@@ -14,12 +14,8 @@ use Rattle.retrieval.specs.Retrieve.{mapped, nothing}
 use Rattle.retrieval.proofs.Theorems.{none-some, some-same, mapped-is}
 use Rattle.paths.specs.Paths.{value-of, entries-of, given, or-empty, context-at, search}
 use Rattle.updates.specs.Update.{insert, remove, create, on-the-way, apply, moved, moveEntry, setEntry, setNull, removeEntry}
+use Rattle.updates.specs.Laws.{Apart, here, later, Blocked}
 use Rattle.updates.proofs.Inserting.{absent, value-insert, value-insert-other, value-remove, value-remove-other, remove-absent}
-
--- two paths that part at some name
-pub data Apart : List ℕ → List ℕ → Type 0 where
-  here : (n m : ℕ) (p q : List ℕ) → (n ≡ m → ⊥) → Apart (n ∷ p) (m ∷ q)
-  later : (n : ℕ) (p q : List ℕ) → Apart p q → Apart (n ∷ p) (n ∷ q)
 
 not-empty : {n : ℕ} {ns : List ℕ} → n ∷ ns ≡ [] → ⊥
 not-empty e = let z : _≡_ {A = ℕ} 0 1 = cc in omega arith
@@ -104,25 +100,17 @@ apply-create [] x es fs e = sym (some-same e)
 apply-create (n ∷ []) x es fs e = sym (some-same e)
 apply-create (n ∷ m ∷ ns) x es fs e = by (value-of n es) (λ gs hs z. apply-create (m ∷ ns) x gs hs z) e
   where
-    on : (o : Option Entries) → ((gs hs : Entries) → apply (m ∷ ns) x gs ≡ some hs → hs ≡ create (m ∷ ns) x gs) → onward n m ns x es o ≡ some fs → fs ≡ insert n (v-context (create (m ∷ ns) x (or-empty o))) es
+    on : (o : Option Entries) → ((gs hs : Entries) → apply (m ∷ ns) x gs ≡ some hs → hs ≡ create (m ∷ ns) x gs) → onward n m ns x es o ≡ some fs
+        → fs ≡ insert n (v-context (create (m ∷ ns) x (or-empty o))) es
     on none ih z = absurd (none-some z)
     on (some gs) ih z =
         let h = mapped-is (λ hs. insert n (v-context hs) es) (apply (m ∷ ns) x gs) fs z in
         h .2 ∙ ap (λ hs. insert n (v-context hs) es) (ih gs (h .0) (h .1))
 
-    by : (o : Option Val) → ((gs hs : Entries) → apply (m ∷ ns) x gs ≡ some hs → hs ≡ create (m ∷ ns) x gs) → onward n m ns x es (on-the-way o) ≡ some fs → fs ≡ insert n (v-context (create (m ∷ ns) x (or-empty (given o entries-of)))) es
+    by : (o : Option Val) → ((gs hs : Entries) → apply (m ∷ ns) x gs ≡ some hs → hs ≡ create (m ∷ ns) x gs) → onward n m ns x es (on-the-way o) ≡ some fs
+        → fs ≡ insert n (v-context (create (m ∷ ns) x (or-empty (given o entries-of)))) es
     by none ih z = on (some no-entries) ih z
     by (some v) ih z = on (entries-of v) ih z
-
--- a value on the way is no context
-pub record Blocked (p : List ℕ) (es : Entries) : Type 0 where
-  pub before : List ℕ
-  pub after : List ℕ
-  pub parts : p ≡ before ++ after
-  pub goes-on : after ≡ [] → ⊥
-  pub v : Val
-  pub is-there : search before es ≡ some v
-  pub no-context : entries-of v ≡ none
 
 search-in : (n : ℕ) (p : List ℕ) (fs es : Entries) (v : Val) → context-at n es ≡ some fs → search p fs ≡ some v → search (n ∷ p) es ≡ some v
 unfolding search
@@ -157,7 +145,8 @@ apply-refuses (n ∷ m ∷ ns) x es e = by (value-of n es) refl (λ fs z. apply-
     rest : (fs : Entries) → onward n m ns x es (some fs) ≡ none → apply (m ∷ ns) x fs ≡ none
     rest fs z = mapped-none (λ gs. insert n (v-context gs) es) (apply (m ∷ ns) x fs) z
 
-    on : (v : Val) → value-of n es ≡ some v → (o : Option Entries) → entries-of v ≡ o → ((fs : Entries) → apply (m ∷ ns) x fs ≡ none → Blocked (m ∷ ns) fs) → onward n m ns x es o ≡ none → Blocked (n ∷ m ∷ ns) es
+    on : (v : Val) → value-of n es ≡ some v → (o : Option Entries) → entries-of v ≡ o → ((fs : Entries) → apply (m ∷ ns) x fs ≡ none → Blocked (m ∷ ns) fs)
+        → onward n m ns x es o ≡ none → Blocked (n ∷ m ∷ ns) es
     on v q none r ih z = blocked-here n m ns es v q r
     on v q (some fs) r ih z = blocked-in n (m ∷ ns) fs es (ap (λ (o : Option Val). given o entries-of) q ∙ r) (ih fs (rest fs z))
 
@@ -176,7 +165,8 @@ refuses-at (n ∷ m ∷ ns) r x es v d e h = by (value-of n es) (λ fs z. refuse
     on none ih z = refl
     on (some fs) ih z = ap (mapped (λ gs. insert n (v-context gs) es)) (ih fs z)
 
-    by : (o : Option Val) → ((fs : Entries) → search (m ∷ ns) fs ≡ some v → apply (m ∷ (ns ++ r)) x fs ≡ none) → given (given o entries-of) (λ fs. search (m ∷ ns) fs) ≡ some v → onward n m (ns ++ r) x es (on-the-way o) ≡ none
+    by : (o : Option Val) → ((fs : Entries) → search (m ∷ ns) fs ≡ some v → apply (m ∷ (ns ++ r)) x fs ≡ none)
+        → given (given o entries-of) (λ fs. search (m ∷ ns) fs) ≡ some v → onward n m (ns ++ r) x es (on-the-way o) ≡ none
     by none ih z = absurd (none-some z)
     by (some w) ih z = on (entries-of w) ih z
 
@@ -250,6 +240,39 @@ move-other m n parent es d f = by (value-of n es)
     by : (o : Option Val) → value-of m (moved n parent es o) ≡ value-of m es
     by none = refl
     by (some x) = moved-other m n parent x es f ∙ value-remove-other m n es d
+
+-- the parent behind a move, by what it was
+pub move-parent : (n parent : ℕ) (x : Val) (es : Entries) → (n ≡ parent → ⊥) → value-of n es ≡ some x
+    → value-of parent (moveEntry n parent es) ≡ some (v-context (insert n x (or-empty (context-at parent es))))
+unfolding create
+move-parent n parent x es d e =
+    ap (λ o. value-of parent (moved n parent es o)) e
+    ∙ value-insert parent (v-context (insert n x (or-empty (context-at parent (remove n es))))) (remove n es)
+    ∙ ap (λ (o : Option Val). some (v-context (insert n x (or-empty (given o entries-of))))) (value-remove-other parent n es (λ z. d (sym z)))
+
+pub move-replaced : (n parent : ℕ) (x : Val) (es : Entries) → (n ≡ parent → ⊥) → value-of n es ≡ some x → context-at parent es ≡ none
+    → value-of parent (moveEntry n parent es) ≡ some (v-context (entry n x no-entries))
+unfolding insert
+move-replaced n parent x es d e c = move-parent n parent x es d e ∙ ap (λ (o : Option Entries). some (v-context (insert n x (or-empty o)))) c
+
+search-removed : (m n : ℕ) (p : List ℕ) (es : Entries) → (m ≡ n → ⊥) → search (m ∷ p) (remove n es) ≡ search (m ∷ p) es
+unfolding search
+search-removed m n [] es d = value-remove-other m n es d
+search-removed m n (k ∷ ks) es d = ap (λ (o : Option Val). given (given o entries-of) (λ fs. search (k ∷ ks) fs)) (value-remove-other m n es d)
+
+pub move-inside : (n parent q : ℕ) (rest : List ℕ) (es : Entries) → (n ≡ parent → ⊥) → (q ≡ n → ⊥)
+    → search (parent ∷ q ∷ rest) (moveEntry n parent es) ≡ search (parent ∷ q ∷ rest) es
+move-inside n parent q rest es d f = by (value-of n es)
+  where
+    by : (o : Option Val) → search (parent ∷ q ∷ rest) (moved n parent es o) ≡ search (parent ∷ q ∷ rest) es
+    by none = refl
+    by (some x) =
+        created-other (parent ∷ q ∷ rest) (parent ∷ n ∷ []) x (remove n es) (later parent (q ∷ rest) (n ∷ []) (here q n rest [] f))
+        ∙ search-removed parent n (q ∷ rest) es (λ z. d (sym z))
+
+pub move-below : (n parent : ℕ) (r : List ℕ) (x : Val) (es : Entries) → (r ≡ [] → ⊥) → value-of n es ≡ some x
+    → search (parent ∷ n ∷ r) (moveEntry n parent es) ≡ given (entries-of x) (λ fs. search r fs)
+move-below n parent r x es f e = ap (λ o. search (parent ∷ n ∷ r) (moved n parent es o)) e ∙ created-inside (parent ∷ n ∷ []) r x (remove n es) not-empty f
 
 -- ---- remove
 pub removed-gone : (n k : ℕ) (es : Entries) → WfEntries es k → value-of n (removeEntry n es) ≡ none

@@ -1,2 +1,3 @@
 pub mod Update
 pub mod Writing
+pub mod Laws

@@ -1,0 +1,35 @@
+-- What a key means: document 01's "signed 64-bit", "ordered as whole numbers".
+-- Assumes nothing.
+use mathlib.Core.Path.{_≡_}
+use mathlib.Core.Bool.{true, cond}
+use mathlib.Core.Logic.{_↔_, _⊎_}
+use Prim.Native.Nat.{ℕ, _<_, _^_}
+use lib.IntN.{ℤ, pos, _-ℤ_}
+use lib.Signed.{mag, _≤ℤ_}
+use Rattle.ranges.specs.Ranges.{negative, signedLe}
+
+-- the whole number of a key, in two's complement: from 2^63 on the key less 2^64
+unfoldable pub meaning : ℕ → ℤ
+meaning k = cond (negative k) (pos k -ℤ pos (2 ^ 64)) (pos k)
+
+-- a whole number from -2^63 to 2^63 - 1. (`mag` is n both of n and of -(n + 1).)
+abbrev pub Holds64 : ℤ → Type 0
+Holds64 z = mag z < 2 ^ 63
+
+-- the key that means this whole number
+pub record KeyOf (z : ℤ) : Type 0 where
+  pub key : ℕ
+  pub eight-bytes : key < 2 ^ 64
+  pub means : meaning key ≡ z
+
+-- `signedLe` is the order of the whole numbers that keys mean, and a total order of keys
+pub record KeyOrder : Type 0 where
+  pub whole-numbers : (a b : ℕ) → a < 2 ^ 64 → b < 2 ^ 64 → (signedLe a b ≡ true) ↔ (meaning a ≤ℤ meaning b)
+  -- keys and the whole numbers of 64 bits correspond
+  pub in-range : (a : ℕ) → a < 2 ^ 64 → Holds64 (meaning a)
+  pub every-number : (z : ℤ) → Holds64 z → KeyOf z
+  pub one-key : (a b : ℕ) → a < 2 ^ 64 → b < 2 ^ 64 → meaning a ≡ meaning b → a ≡ b
+  pub reflexive : (a : ℕ) → signedLe a a ≡ true
+  pub transitive : (a b c : ℕ) → signedLe a b ≡ true → signedLe b c ≡ true → signedLe a c ≡ true
+  pub total : (a b : ℕ) → (signedLe a b ≡ true) ⊎ (signedLe b a ≡ true)
+  pub antisymmetric : (a b : ℕ) → signedLe a b ≡ true → signedLe b a ≡ true → a ≡ b
