@@ -6,4 +6,5 @@ pub mod Document
 pub mod Values
 pub mod Inferred
 pub mod Dmn
-pub mod Examples
+pub mod Theorems
+pub mod ValueTheorems
