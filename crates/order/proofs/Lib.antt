@@ -1,3 +1,4 @@
+pub mod Equations
 pub mod Simple
 pub mod Bools
 pub mod Conform

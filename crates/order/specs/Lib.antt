@@ -6,5 +6,6 @@ pub mod Document
 pub mod Values
 pub mod Inferred
 pub mod Dmn
+pub mod Sentences
 pub mod Theorems
 pub mod ValueTheorems
