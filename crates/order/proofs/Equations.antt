@@ -1,9 +1,8 @@
 -- Document 01's sentences that hold by computing alone, over every order among the simple types: this file rests on the definitions only.
 -- Assumes nothing.
-use Prim.Native.Nat.{ℕ}
 use mathlib.Core.Path.{_≡_, refl, sym, _∙_, ap}
 use mathlib.Core.Bool.{Bool, true, false, not, cond, _&&_, _||_}
-use Rattle.form.specs.Trees.{Simple, any, null, Ty, leaf, built, Built, list, range, context, function, Fields, no-fields, Tys, no-params, param, Val, v-list, Vals, no-items, item}
+use Rattle.form.specs.Trees.{Simple, any, null, Ty, leaf, built, Built, list, range, context, function, Fields, no-fields, Tys, no-params, param, v-list, Vals, no-items, item}
 use Rattle.order.specs.Order.{up, down, Order}
 use Rattle.order.specs.Types.{same-count, ignores, empty, cmp, cmps, le, reduce, reduce-fields, bound, bounds, sup, sub, sup-fields, sub-fields, sup-tys, sub-tys}
 use Rattle.order.specs.Values.{least, least-items}
@@ -11,10 +10,6 @@ use Rattle.order.specs.Sentences.{fromLeft}
 
 module _ (O : Order) where
   -- CONFORMANCE
-  pub le-simple : (s t : Simple) → le O (leaf s) (leaf t) ≡ O .sle s t
-  unfolding cmp
-  le-simple s t = refl
-
   pub le-simple-built : (s : Simple) (y : Built) → le O (leaf s) (built y) ≡ O .sle s null
   unfolding cmp
   le-simple-built s y = refl

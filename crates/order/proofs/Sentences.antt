@@ -1,28 +1,32 @@
 -- Document 01's sentences hold (specs/Sentences.antt). Idea: most of them compute (proofs/Equations.antt); the two that speak of names are inductions on a context.
--- Before the record stand equations over every order that proofs about code cite: two ascending lists of names taken in step, and two simple types by their bytes.
+-- Before the record stand equations over every order that proofs about code cite: context and function types, and two ascending lists of names taken in step.
 -- Assumes nothing.
-use Prim.Native.Nat.{ℕ, suc, _≤_, _<_}
+use Prim.Native.Nat.{ℕ, suc, _<_}
 use native.Mathlib.Omega.{arith}
 use mathlib.Core.Path.{_≡_, refl, sym, _∙_, ap, ap₂, subst}
-use mathlib.Core.Bool.{Bool, true, false, cond, _&&_, _||_, false≢true, true≢false}
+use mathlib.Core.Bool.{Bool, true, false, cond, _&&_, _||_, true≢false}
 use mathlib.Core.Option.{Option, none, some}
 use mathlib.Core.Logic.{_↔_}
 use lib.Dec.{eqb, ltb}
-use borrow.Author.Tests.{eqb-true, eqb-false, ne-eqb, eq-eqb, ltb-true, ltb-false}
-use Rattle.form.specs.Trees.{Simple, any, null, code, decode, Ty, leaf, built, Built, list, range, context, function, Fields, no-fields, field, Tys, no-params, param, Leaf, Params, Val, v-leaf, v-range, v-list, v-context, v-function, v-built-in, v-type, v-irrelevant, Vals, no-items, item, Entries, no-entries, entry}
+use borrow.Author.Tests.{eqb-true, eqb-false, ne-eqb, eq-eqb, ltb-true}
+use Rattle.form.specs.Trees.{Simple, any, null, code, Ty, leaf, built, list, range, context, function, Fields, no-fields, field, Tys, no-params, param, Leaf, Params, Val, v-leaf, v-range, v-list}
+use Rattle.form.specs.Trees.{v-context, v-function, v-built-in, v-type, v-irrelevant, Vals, no-items, item, Entries, no-entries, entry}
 use Rattle.order.specs.Order.{same, up, down, Order, fixed, flat, flat-join, flat-meet}
-use Rattle.order.specs.Types.{look, found, all-fields, same-count, kind, ignores, empty, cmp, cmps, le, les, reduce, reduce-fields, reduce-tys, keep, place, bound, common, merge, bounds, sup, sub, sup-fields, sub-fields, sup-tys, sub-tys}
+use Rattle.order.specs.Types.{look, found, all-fields, same-count, kind, ignores, empty, cmp, le, les, reduce, reduce-fields, reduce-tys, keep, place, bound, common, merge, sup, sub}
+use Rattle.order.specs.Types.{sup-fields, sub-fields, sup-tys, sub-tys}
 use Rattle.order.specs.Ascending.{AscFields, Asc}
 use Rattle.order.specs.Document.{conformsTo, reducedForm, supertype, subtype, eqTy, instanceBuilt, isInstanceOf}
 use Rattle.order.specs.Values.{leaf-type, is-any, conforms, all-conform, is-data, are-data, hold-data, least, least-items, least-entries}
 use Rattle.order.specs.Inferred.{valueConformsTo, isData, leastType, typeOf, items-below, entry-types}
-use Rattle.order.specs.Sentences.{eachField, eachParameter, eachPair, inBoth, inEither, allItems, allEntries, eachEntry, TypeSentences, SupertypeSentences, SubtypeSentences, ValueSentences, LeastTypeSentences, InferredSentences, Sentences}
+use Rattle.order.specs.Sentences.{eachField, eachParameter, eachPair, inBoth, inEither, allItems, allEntries, eachEntry, TypeSentences, SupertypeSentences, SubtypeSentences, ValueSentences}
+use Rattle.order.specs.Sentences.{LeastTypeSentences, InferredSentences, Sentences}
 pub use Rattle.order.proofs.Equations.{sup-simple-built, sup-built-simple, sub-simple-built, sub-built-simple, sup-functions, sub-functions, sup-functions-other, sub-functions-other}
-use Rattle.order.proofs.Equations.{le-functions-down, sup-lists, sup-ranges, sup-contexts, sub-lists, sub-ranges, sub-contexts, least-lists}
-use Rattle.order.proofs.Simple.{flat-codes, fixed-laws, same-eq}
-use Rattle.order.proofs.Bools.{and-assoc, and-true, or-cases}
+use Rattle.order.proofs.Equations.{le-simple-built, le-built-simple, le-lists, le-ranges, le-functions-down, sup-simple, sub-simple, sup-lists, sup-ranges, sup-contexts, sub-lists}
+use Rattle.order.proofs.Equations.{sub-ranges, sub-contexts, least-lists}
+use Rattle.order.proofs.Simple.{fixed-laws, same-eq}
+use Rattle.order.proofs.Bools.{and-false, and-assoc, and-true, or-cases}
 use Rattle.order.proofs.Conform.{has-look, flip-tys, all-ext, look-below}
-use Rattle.order.proofs.Bound.{cmp-kind, bound-other}
+use Rattle.order.proofs.Bound.{cmp-other, bound-other}
 use Rattle.order.proofs.Answers.{asc-merge, asc-weaken, merge-first, merge-second, merge-both}
 use Rattle.order.proofs.Laws.{le-sup}
 use Rattle.order.proofs.Equal.{eq-bytes}
@@ -78,25 +82,6 @@ module _ (O : Order) where
   unfolding reduce
   sub-fields-both n a b fs gs v = ap (reduce-fields O) (merge-both O n a b fs gs v)
 
--- two simple types, by their places among the bytes 20 to 29
-pub le-codes : (a b : ℕ) → a < 10 → b < 10 → le fixed (leaf (decode a)) (leaf (decode b)) ≡ eqb a 9 || (eqb b 0 || eqb a b)
-unfolding cmp
-le-codes a b h k = flat-codes a b h k
-
--- the three branches of a program that makes this test, with the facts as a branch hands them over
-pub le-by-null : (a b : ℕ) → a < 10 → b < 10 → a ≡ 9 → true ≡ le fixed (leaf (decode a)) (leaf (decode b))
-le-by-null a b h k e = sym (le-codes a b h k ∙ ap (λ x. x || (eqb b 0 || eqb a b)) (eq-eqb a 9 e))
-
-pub le-by-any : (a b : ℕ) → a < 10 → b < 10 → b ≡ 0 → true ≡ le fixed (leaf (decode a)) (leaf (decode b))
-le-by-any a b h k e = sym (le-codes a b h k ∙ ap (λ x. eqb a 9 || (x || eqb a b)) (eq-eqb b 0 e) ∙ or-true (eqb a 9))
-  where
-    or-true : (x : Bool) → x || true ≡ true
-    or-true true = refl
-    or-true false = refl
-
-pub le-by-same : (a b : ℕ) → a < 10 → b < 10 → (a ≡ 9 → ⊥) → (b ≡ 0 → ⊥) → eqb a b ≡ le fixed (leaf (decode a)) (leaf (decode b))
-le-by-same a b h k e f = sym (le-codes a b h k ∙ ap₂ (λ x y. x || (y || eqb a b)) (ne-eqb a 9 e) (ne-eqb b 0 f))
-
 -- ---- THE SENTENCES
 not-true : (q : Bool) → (q ≡ true → ⊥) → q ≡ false
 not-true true h = absurd (h refl)
@@ -129,11 +114,7 @@ unfolding same-count cmp
 counts-differ no-params no-params h = absurd (true≢false h)
 counts-differ no-params (param b qs) h = refl
 counts-differ (param a ps) no-params h = refl
-counts-differ (param a ps) (param b qs) h = ap (λ x. conformsTo a b && x) (counts-differ ps qs h) ∙ and-no (conformsTo a b)
-  where
-    and-no : (q : Bool) → q && false ≡ false
-    and-no true = refl
-    and-no false = refl
+counts-differ (param a ps) (param b qs) h = ap (λ x. conformsTo a b && x) (counts-differ ps qs h) ∙ and-false (conformsTo a b)
 
 plain : (qs : Tys) (r s : Ty) → conformsTo (built (function no-params r)) (built (function qs s)) ≡ empty qs
 unfolding cmp
@@ -160,17 +141,17 @@ type-sentences = record {
   null-below = le-null fixed fixed-laws;
   below-any = le-any fixed fixed-laws;
   simple-types = λ s t h k. (flat-only s t h k, λ e. subst (λ x. flat s x ≡ true) e (fixed-laws .reflexive s));
-  simple-built = λ s y h. not-true (flat s null) (not-below-null s h);
-  built-simple = λ x t h. not-true (flat any t) (not-above-any t h);
-  lists = λ a b. refl;
-  ranges = λ a b. refl;
+  simple-built = λ s y h. le-simple-built fixed s y ∙ not-true (flat s null) (not-below-null s h);
+  built-simple = λ x t h. le-built-simple fixed x t ∙ not-true (flat any t) (not-above-any t h);
+  lists = le-lists fixed;
+  ranges = le-ranges fixed;
   contexts = le-contexts fixed;
   functions = λ ps qs r s h. le-functions fixed ps qs r s ∙ ap (λ q. les fixed qs ps && (q || conformsTo r s)) h;
   counts = counts-differ;
   no-parameters = refl;
   parameters = λ a b ps qs. refl;
   plain-functions = plain;
-  unlike-kinds = λ x y h. not-true (conformsTo (built x) (built y)) (λ e. h (cmp-kind fixed up x y e));
+  unlike-kinds = λ x y h. cmp-other fixed up x y (ne-eqb (kind x) (kind y) h);
   reduced-plain = λ r. refl;
   reduced-function = reduced-fun;
   reduced-simple = λ s. refl;
@@ -337,9 +318,6 @@ meet-other : (s t : Simple) → (s ≡ any → ⊥) → (t ≡ any → ⊥) → 
 meet-other s t h k d =
     cond-no (same s any) t _ (λ e. h (same-eq s any e)) ∙ cond-no (same t any) s _ (λ e. k (same-eq t any e)) ∙ cond-no (same s t) s null (λ e. d (same-eq s t e))
 
-unlike : (x y : Built) → (kind x ≡ kind y → ⊥) → eqb (kind x) (kind y) ≡ false
-unlike x y h = ne-eqb (kind x) (kind y) h
-
 counted : same-count no-params no-params ≡ true
 unfolding same-count
 counted = refl
@@ -356,10 +334,10 @@ supertype-sentences = record {
   common-names = λ n fs gs. look-reduce n (common fixed fs gs) ∙ ap (mapped reducedForm) (look-common n fs gs) ∙ mapped-both (λ x y. bound fixed up x y) (look n fs) (look n gs);
   functions = λ ps qs r s h k. sup-functions fixed ps qs r s h ∙ ap₂ (λ x q. built (function x (cond q (leaf any) (supertype r s)))) (sub-pairs ps qs) k;
   plain-functions = λ r s. sup-functions fixed no-params no-params r s counted;
-  other-simple = λ s t h k d. ap leaf (join-other s t h k d);
+  other-simple = λ s t h k d. sup-simple fixed s t ∙ ap leaf (join-other s t h k d);
   simple-built = λ s y h. sup-simple-built fixed s y ∙ cond-no (flat s null) (reducedForm (built y)) (leaf any) (not-below-null s h);
   built-simple = λ x t h. sup-built-simple fixed x t ∙ cond-no (flat t null) (reducedForm (built x)) (leaf any) (not-below-null t h);
-  unlike-kinds = λ x y h. ap reducedForm (bound-other fixed up x y (unlike x y h));
+  unlike-kinds = λ x y h. ap reducedForm (bound-other fixed up x y (ne-eqb (kind x) (kind y) h));
   unlike-counts = sup-functions-other fixed;
 }
 
@@ -376,10 +354,10 @@ subtype-sentences = record {
       look-reduce n (merge fixed fs gs) ∙ ap (mapped reducedForm) (look-merge n 0 fs gs v w) ∙ mapped-either (λ x y. bound fixed down x y) (look n fs) (look n gs);
   functions = λ ps qs r s h k. sub-functions fixed ps qs r s h ∙ ap₂ (λ x q. built (function x (cond q (leaf any) (subtype r s)))) (sup-pairs ps qs) k;
   plain-functions = λ r s. sub-functions fixed no-params no-params r s counted;
-  other-simple = λ s t h k d. ap leaf (meet-other s t h k d);
+  other-simple = λ s t h k d. sub-simple fixed s t ∙ ap leaf (meet-other s t h k d);
   simple-built = λ s y h. sub-simple-built fixed s y ∙ cond-no (flat any s) (reducedForm (built y)) (leaf null) (not-above-any s h);
   built-simple = λ x t h. sub-built-simple fixed x t ∙ cond-no (flat any t) (reducedForm (built x)) (leaf null) (not-above-any t h);
-  unlike-kinds = λ x y h. ap reducedForm (bound-other fixed down x y (unlike x y h));
+  unlike-kinds = λ x y h. ap reducedForm (bound-other fixed down x y (ne-eqb (kind x) (kind y) h));
   unlike-counts = sub-functions-other fixed;
 }
 

@@ -7,7 +7,8 @@ use mathlib.Core.Bool.{Bool, true, false, cond, _&&_, _||_}
 use mathlib.Core.Option.{Option, none, some}
 use mathlib.Core.Logic.{_↔_}
 use lib.Dec.{eqb}
-use Rattle.form.specs.Trees.{Simple, any, null, Ty, leaf, built, Built, list, range, context, function, Fields, no-fields, field, Tys, no-params, param, Leaf, l-null, Params, Val, v-leaf, v-range, v-list, v-context, v-function, v-built-in, v-type, v-irrelevant, Vals, no-items, item, Entries, no-entries, entry}
+use Rattle.form.specs.Trees.{Simple, any, null, Ty, leaf, built, Built, list, range, context, function, Fields, no-fields, field, Tys, no-params, param, Leaf, l-null, Params, Val, v-leaf}
+use Rattle.form.specs.Trees.{v-range, v-list, v-context, v-function, v-built-in, v-type, v-irrelevant, Vals, no-items, item, Entries, no-entries, entry}
 use Rattle.form.specs.Form.{enc, Wf}
 use Rattle.order.specs.Order.{fixed}
 use Rattle.order.specs.Types.{look, found, all-fields, empty, same-count, kind, les, sup-fields, sub-fields}

@@ -173,7 +173,7 @@ module _ (O : Order) where
   abbrev pub sub : Ty → Ty → Ty
   sub a b = reduce O (bound down a b)
 
-  -- the same of the names of two context types, and of two parameter lists of one count
+  -- reduced: the entries of the supertype and of the subtype of two contexts, the supertypes and the subtypes of two parameter lists
   abbrev pub sup-fields : Fields → Fields → Fields
   sup-fields fs gs = reduce-fields O (common fs gs)
 
