@@ -1,4 +1,4 @@
-pub mod Equations
+pub mod Alone
 pub mod Simple
 pub mod Bools
 pub mod Conform

@@ -1,4 +1,4 @@
--- Document 01's sentences hold (specs/Sentences.antt). Idea: most of them compute (proofs/Equations.antt); the two that speak of names are inductions on a context.
+-- Document 01's sentences hold (specs/Sentences.antt). Idea: most of them compute (proofs/Alone.antt); the two that speak of names are inductions on a context.
 -- Before the record stand equations over every order that proofs about code cite: context and function types, and two ascending lists of names taken in step.
 -- Assumes nothing.
 use Prim.Native.Nat.{ℕ, suc, _<_}
@@ -20,9 +20,9 @@ use Rattle.order.specs.Values.{leaf-type, is-any, conforms, all-conform,
 use Rattle.order.specs.Inferred.{valueConformsTo, isData, leastType, typeOf, items-below, entry-types}
 use Rattle.order.specs.Sentences.{eachField, eachParameter, eachPair, inBoth, inEither, allItems, allEntries, eachEntry, TypeSentences, SupertypeSentences, SubtypeSentences, ValueSentences}
 use Rattle.order.specs.Sentences.{LeastTypeSentences, InferredSentences, Sentences}
-pub use Rattle.order.proofs.Equations.{sup-simple-built, sup-built-simple, sub-simple-built, sub-built-simple, sup-functions, sub-functions, sup-functions-other, sub-functions-other}
-use Rattle.order.proofs.Equations.{le-simple-built, le-built-simple, le-lists, le-ranges, le-functions-down, sup-simple, sub-simple, sup-lists, sup-ranges, sup-contexts, sub-lists}
-use Rattle.order.proofs.Equations.{sub-ranges, sub-contexts, least-lists}
+pub use Rattle.order.proofs.Alone.{sup-simple-built, sup-built-simple, sub-simple-built, sub-built-simple, sup-functions, sub-functions, sup-functions-other, sub-functions-other}
+use Rattle.order.proofs.Alone.{le-simple-built, le-built-simple, le-lists, le-ranges, le-functions-down, sup-simple, sub-simple, sup-lists, sup-ranges, sup-contexts, sub-lists}
+use Rattle.order.proofs.Alone.{sub-ranges, sub-contexts, least-lists}
 use Rattle.order.proofs.Simple.{fixed-laws, same-eq}
 use Rattle.order.proofs.Bools.{and-false, and-assoc, and-true, or-cases}
 use Rattle.order.proofs.Conform.{has-look, flip-tys, all-ext, look-below}
