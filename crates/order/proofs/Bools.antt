@@ -1,7 +1,7 @@
 -- Plain facts about tests.
 -- Assumes nothing.
-use mathlib.Core.Path.{_≡_, refl, sym, _∙_, ap}
-use mathlib.Core.Bool.{Bool, true, false, not, cond, _&&_, _||_, false≢true, true≢false}
+use mathlib.Core.Path.{_≡_, refl, sym, ap}
+use mathlib.Core.Bool.{Bool, true, false, cond, _&&_, _||_}
 use mathlib.Core.Option.{Option, none, some}
 use Rattle.order.specs.Types.{found}
 
@@ -80,10 +80,6 @@ found-none o f e = ap (λ x. found x f) e
 
 pub found-some : {A : Type 0} (o : Option A) (f : A → Bool) (a : A) → o ≡ some a → found o f ≡ f a
 found-some o f a e = ap (λ x. found x f) e
-
-pub by-cases : (P : Bool → Type 0) (q : Bool) → P true → P false → P q
-by-cases P true t f = t
-by-cases P false t f = f
 
 pub cond-up : (q x x′ y y′ : Bool) → (x ≡ true → x′ ≡ true) → (y ≡ true → y′ ≡ true) → cond q x y ≡ true → cond q x′ y′ ≡ true
 cond-up true x x′ y y′ h k e = h e

@@ -1,27 +1,18 @@
 -- The common supertype and subtype: what conforms to what, in one equation for each direction; and their names stay ascending.
 -- Assumes nothing.
-use Prim.Native.Nat.{ℕ, zero, suc, _≤_, _<_}
-use native.Mathlib.Omega.{arith}
-use mathlib.Core.Path.{_≡_, refl, sym, _∙_, ap, ap₂, subst}
+use Prim.Native.Nat.{ℕ}
+use mathlib.Core.Path.{_≡_, refl, sym, _∙_, ap, ap₂}
 use mathlib.Core.Bool.{Bool, true, false, not, cond, _&&_, _||_, false≢true, true≢false}
 use mathlib.Core.Option.{Option, none, some}
 use lib.Dec.{eqb, ltb}
-use borrow.Author.Tests.{eqb-true, eqb-false, ne-eqb, eq-eqb, ltb-true, ltb-false, lt-ltb, le-ltb}
-use Rattle.form.specs.Trees.{Simple, any, null}
-use Rattle.order.specs.Order.{Dir, up, down, flip, pick, Order, Laws, top, bottom, scmp, sbound}
-use Rattle.order.proofs.Simple.{and-left, and-right, and-both, scmp-refl, scmp-trans, scmp-bottom, scmp-top, scmp-bound, top-bottom}
+use borrow.Author.Tests.{eqb-true, eqb-false}
+use Rattle.form.specs.Trees.{Simple}
+use Rattle.order.specs.Order.{Dir, up, down, flip, pick, Order, Laws, top, bottom, scmp}
+use Rattle.order.proofs.Simple.{and-left, and-right, scmp-trans, scmp-bottom, scmp-top, scmp-bound, top-bottom}
 use Rattle.form.specs.Trees.{Ty, leaf, built, Built, list, range, context, function, Fields, no-fields, field, Tys, no-params, param}
-use Rattle.order.specs.Types.{look, found, all-fields, empty, same-count, ignores, cmp, cmp-built, has, within, cmps, le, reduce, reduce-built, reduce-fields, reduce-tys, keep, place, bound, bound-built, common, merge, bounds, sup, sub}
-use Rattle.order.specs.Ascending.{Asc, AscBuilt, AscFields, AscTys}
+use Rattle.order.specs.Types.{look, found, all-fields, empty, same-count, kind, ignores, cmp, cmp-built, has, within, cmps, keep, place, bound, bound-built, common, merge, bounds}
 use Rattle.order.proofs.Bools.{and-false, and-same, and-assoc, and-swap, and-comm, and-mix, and-implied, not-both, function-tests, found-and, found-none, found-some}
 use Rattle.order.proofs.Conform.{has-look}
-
--- which of the four built kinds
-abbrev pub kind : Built → ℕ
-kind (list a) = 0
-kind (range a) = 1
-kind (context fs) = 2
-kind (function ps r) = 3
 
 pub all-and : (f g h : ℕ → Ty → Bool) (hs : Fields) → ((n : ℕ) (t : Ty) → f n t ≡ g n t && h n t) → all-fields f hs ≡ all-fields g hs && all-fields h hs
 unfolding all-fields

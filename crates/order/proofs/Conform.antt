@@ -1,19 +1,19 @@
 -- Conformance is reflexive and transitive, reads the same from both sides, and does not see what the reduced form changes.
 -- Assumes nothing.
-use Prim.Native.Nat.{ℕ, zero, suc, _≤_, _<_}
+use Prim.Native.Nat.{ℕ, suc, _≤_, _<_}
 use native.Mathlib.Omega.{arith}
 use mathlib.Core.Path.{_≡_, refl, sym, _∙_, ap, ap₂, subst}
 use mathlib.Core.Bool.{Bool, true, false, not, cond, _&&_, _||_, false≢true, true≢false}
-use mathlib.Core.Option.{Option, none, some}
+use mathlib.Core.Option.{none, some}
 use lib.Dec.{eqb, ltb}
 use borrow.Author.Tests.{eqb-true, eqb-false, ne-eqb, eq-eqb, ltb-true, ltb-false}
 use Rattle.form.specs.Trees.{Simple, any, null}
-use Rattle.order.specs.Order.{Dir, up, down, flip, pick, Order, Laws, top, bottom, scmp, sbound}
-use Rattle.order.proofs.Simple.{and-left, and-right, and-both, scmp-refl, scmp-trans, scmp-bottom, scmp-top, scmp-bound, top-bottom}
+use Rattle.order.specs.Order.{Dir, up, down, flip, pick, Order, Laws, top, bottom, scmp}
+use Rattle.order.proofs.Simple.{and-left, and-right, and-both, scmp-refl, top-bottom}
 use Rattle.form.specs.Trees.{Ty, leaf, built, Built, list, range, context, function, Fields, no-fields, field, Tys, no-params, param}
-use Rattle.order.specs.Types.{look, found, all-fields, empty, same-count, ignores, cmp, cmp-built, has, within, cmps, le, reduce, reduce-built, reduce-fields, reduce-tys}
+use Rattle.order.specs.Types.{look, found, all-fields, empty, ignores, cmp, cmp-built, has, within, cmps, reduce, reduce-built, reduce-fields, reduce-tys}
 use Rattle.order.specs.Ascending.{Asc, AscBuilt, AscFields, AscTys}
-use Rattle.order.proofs.Bools.{and-false, and-same, and-assoc, and-swap, or-trans, found-cond, found-ext, found-none, found-some, cond-up}
+use Rattle.order.proofs.Bools.{or-trans, found-cond, found-ext, cond-up}
 
 pub all-ext : (f g : ℕ → Ty → Bool) (gs : Fields) → ((n : ℕ) (t : Ty) → f n t ≡ g n t) → all-fields f gs ≡ all-fields g gs
 unfolding all-fields

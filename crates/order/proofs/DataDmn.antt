@@ -5,7 +5,8 @@ use native.Mathlib.Omega.{arith}
 use mathlib.Core.Path.{_≡_, refl, _∙_}
 use mathlib.Core.Bool.{Bool, true, false, _&&_, false≢true}
 use mathlib.Core.Logic.{inl}
-use Rattle.form.specs.Trees.{null, Ty, leaf, built, Built, list, range, context, function, Fields, no-fields, field, Tys, no-params, param, Val, v-leaf, v-range, v-list, v-context, v-function, v-built-in, v-type, v-irrelevant, Vals, no-items, item, Entries, no-entries, entry}
+use Rattle.form.specs.Trees.{null, Ty, leaf, built, Built, list, range, context, function, Fields, no-fields, field, Tys, no-params, param, Val, v-leaf, v-range, v-list, v-context, v-function}
+use Rattle.form.specs.Trees.{v-built-in, v-type, v-irrelevant, Vals, no-items, item, Entries, no-entries, entry}
 use Rattle.form.specs.Form.{countTys}
 use Rattle.order.specs.Order.{fixed}
 use Rattle.order.specs.Types.{sup}

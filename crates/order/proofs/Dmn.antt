@@ -11,7 +11,8 @@ use Rattle.form.specs.Trees.{any, Ty, leaf, built, Built, list, range, context,
 use Rattle.order.specs.Order.{Dir, up, down, flip, pick, fixed}
 use Rattle.order.specs.Types.{look, found, all-fields, empty, ignores, cmp, cmp-built, has, within, cmps, reduce, reduce-built, reduce-fields, reduce-tys}
 use Rattle.order.specs.Document.{conformsTo, reducedForm}
-use Rattle.order.specs.Dmn.{strictOrder, dmnConformsTo, if-found, results, results-built, results-has, results-within, results-tys, resultsConform, Some, Parameters, ParametersBuilt, ParametersFields, ParametersTys}
+use Rattle.order.specs.Dmn.{strictOrder, dmnConformsTo, if-found, results, results-built, results-has, results-within, results-tys, resultsConform, Some, Parameters, ParametersBuilt}
+use Rattle.order.specs.Dmn.{ParametersFields, ParametersTys}
 use Rattle.order.proofs.Simple.{fixed-laws, and-left, and-both}
 use Rattle.order.proofs.Bools.{and-true, and-mix}
 use Rattle.order.proofs.Conform.{cmp-flip}

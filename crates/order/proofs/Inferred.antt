@@ -9,7 +9,8 @@ use mathlib.Core.Bool.{Bool, true, false, cond, _&&_, false≢true}
 use mathlib.Core.Option.{Option, none, some}
 use lib.Dec.{eqb}
 use borrow.Author.Tests.{ne-eqb, eq-eqb}
-use Rattle.form.specs.Trees.{any, null, Ty, leaf, built, Built, list, range, context, function, Fields, no-fields, field, Val, v-leaf, v-range, v-list, v-context, v-function, v-built-in, v-type, v-irrelevant, Vals, no-items, item, Entries, no-entries, entry}
+use Rattle.form.specs.Trees.{any, null, Ty, leaf, built, Built, list, range, context, function, Fields, no-fields, field, Val, v-leaf, v-range, v-list, v-context, v-function, v-built-in, v-type}
+use Rattle.form.specs.Trees.{v-irrelevant, Vals, no-items, item, Entries, no-entries, entry}
 use Rattle.form.specs.Form.{Wf, WfV, WfVals, WfEntries}
 use Rattle.order.specs.Order.{fixed}
 use Rattle.order.specs.Types.{look, found, all-fields, cmp}

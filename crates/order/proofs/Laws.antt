@@ -1,14 +1,14 @@
 -- What is promised of conformance, reduced forms, common supertypes and subtypes, over every order.
 -- Assumes nothing.
-use mathlib.Core.Path.{_≡_, refl, sym, _∙_, ap, ap₂}
-use mathlib.Core.Bool.{Bool, true, false, _&&_}
+use mathlib.Core.Path.{_≡_, sym, _∙_, ap, ap₂}
+use mathlib.Core.Bool.{true, _&&_}
 use mathlib.Core.Logic.{_↔_}
-use Rattle.order.specs.Order.{Dir, up, down, Order, Laws}
+use Rattle.order.specs.Order.{up, down, Order, Laws}
 use Rattle.order.proofs.Simple.{and-left, and-right, and-both}
 use Rattle.form.specs.Trees.{Ty}
-use Rattle.order.specs.Types.{cmp, le, reduce, bound, sup, sub}
+use Rattle.order.specs.Types.{le, reduce, bound, sup, sub}
 use Rattle.order.specs.Ascending.{Asc}
-use Rattle.order.proofs.Conform.{cmp-flip, cmp-reduce, reduce-reduce, reduce-strict, cmp-refl, le-trans, antisym}
+use Rattle.order.proofs.Conform.{cmp-flip, cmp-reduce, reduce-reduce, cmp-refl, le-trans, antisym}
 use Rattle.order.proofs.Bound.{key}
 use Rattle.order.proofs.Bools.{and-comm, and-assoc}
 use Rattle.order.proofs.Answers.{asc-sup}

@@ -1,18 +1,18 @@
 -- A data value conforms to a type exactly when its least type does; least types are equal exactly when no type tells the values apart.
 -- Assumes nothing.
-use Prim.Native.Nat.{ℕ, suc, _+_, _<_, _≤_}
-use native.Mathlib.Omega.{arith}
+use Prim.Native.Nat.{ℕ, _+_}
 use native.Mathlib.Numerals.{add-one}
 use mathlib.Core.Path.{_≡_, refl, sym, _∙_, ap, ap₂}
 use mathlib.Core.Bool.{Bool, true, false, cond, _&&_, false≢true}
 use mathlib.Core.Logic.{_↔_}
 use lib.Dec.{eqb}
-use Rattle.form.specs.Trees.{any, null, Ty, leaf, built, list, range, context, function, Fields, no-fields, field, Tys, no-params, param, Params, no-parameters, parameter, Val, v-leaf, v-range, v-list, v-context, v-function, v-built-in, v-type, v-irrelevant, Vals, no-items, item, Entries, no-entries, entry}
-use Rattle.form.specs.Form.{Wf, WfParams, WfV, WfVals, WfEntries}
+use Rattle.form.specs.Trees.{any, null, Ty, leaf, built, list, range, context, function, Fields, no-fields, field, Params, no-parameters, parameter, Val, v-leaf, v-range, v-list, v-context}
+use Rattle.form.specs.Trees.{v-function, v-built-in, v-type, v-irrelevant, Vals, no-items, item, Entries, no-entries, entry}
+use Rattle.form.specs.Form.{WfParams, WfV, WfVals, WfEntries}
 use Rattle.order.specs.Order.{up, Order, Laws}
 use Rattle.order.specs.Types.{all-fields, cmp, cmps, has, le, reduce, reduce-fields, bound, sup}
 use Rattle.order.specs.Ascending.{Asc, AscTys, AscFields}
-use Rattle.order.specs.Values.{leaf-type, types-of, to-range, to-list, to-context, to-function, definition-conforms, conforms, all-conform, has-value, is-data, are-data, hold-data, least, least-items, least-entries}
+use Rattle.order.specs.Values.{types-of, to-range, to-list, to-context, to-function, conforms, all-conform, has-value, is-data, are-data, hold-data, least, least-items, least-entries}
 use Rattle.order.proofs.Simple.{and-left, and-right}
 use Rattle.order.proofs.Bools.{and-assoc, and-true}
 use Rattle.order.proofs.Conform.{all-ext, reduce-reduce}

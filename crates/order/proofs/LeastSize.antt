@@ -1,13 +1,15 @@
 -- A least type is never longer than its value, at most one level deeper, and well-formed where the value has fewer than 65,536 bytes.
 -- Assumes nothing.
-use Prim.Native.Nat.{ℕ, suc, _+_, _<_, _≤_, max}
+use Prim.Native.Nat.{ℕ, _+_, _<_, _≤_, max}
 use native.Mathlib.Omega.{arith}
 use mathlib.Core.Path.{_≡_, refl}
 use mathlib.Core.List.{_++_}
 use lib.ListN.{length, length-append}
 use Rattle.form.specs.Limits.{nameWidth, nameEnd}
-use Rattle.form.specs.Trees.{null, Ty, leaf, built, function, Tys, Leaf, l-null, l-boolean, l-number, l-string, l-temporal, Params, no-parameters, parameter, Val, v-leaf, v-range, v-list, v-context, v-function, v-built-in, v-type, v-irrelevant, Vals, no-items, item, Entries, no-entries, entry}
-use Rattle.form.specs.Form.{enc, encLeaf, encParams, encV, encVals, encEntries, countParams, countVals, countEntries, countTys, level, levelFields, levelTys, levelParams, levelV, levelVals, levelEntries, Wf, WfParams, WfV, WfVals, WfEntries}
+use Rattle.form.specs.Trees.{null, Ty, leaf, built, function, Leaf, l-null, l-boolean, l-number, l-string, l-temporal, Params, no-parameters, parameter, Val, v-leaf, v-range, v-list, v-context}
+use Rattle.form.specs.Trees.{v-function, v-built-in, v-type, v-irrelevant, Vals, no-items, item, Entries, no-entries, entry}
+use Rattle.form.specs.Form.{enc, encLeaf, encParams, encV, encVals, encEntries, countParams, countVals, countEntries, countTys, level, levelFields, levelTys, levelParams, levelV, levelVals}
+use Rattle.form.specs.Form.{levelEntries, Wf, WfParams, WfV, WfVals, WfEntries}
 use Rattle.form.proofs.Exact.{length-front}
 use Rattle.form.proofs.Numbers.{length-bytes}
 use Rattle.order.specs.Order.{Order}

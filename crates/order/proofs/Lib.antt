@@ -1,3 +1,4 @@
+pub mod Alone
 pub mod Simple
 pub mod Bools
 pub mod Conform

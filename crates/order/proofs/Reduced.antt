@@ -4,7 +4,7 @@ use Prim.Native.Nat.{ℕ, suc, _+_, _<_}
 use mathlib.Core.Path.{_≡_, refl, sym, ap, subst}
 use mathlib.Core.Bool.{Bool, true, false, cond}
 use Rattle.form.specs.Trees.{any, Ty, leaf, built, Built, list, range, context, function, Fields, no-fields, field, Tys, no-params, param}
-use Rattle.form.specs.Form.{countFields, countTys, Wf, WfBuilt, WfFields, WfTys}
+use Rattle.form.specs.Form.{countFields, Wf, WfBuilt, WfFields, WfTys}
 use Rattle.order.specs.Order.{Order}
 use Rattle.order.specs.Types.{ignores, reduce, reduce-built, reduce-fields, reduce-tys}
 use Rattle.order.proofs.Holds.{count-reduce-tys}

@@ -1,44 +1,39 @@
--- The definitions read in document 01's words, without directions: each equation is one sentence of it.
--- These equations, with the names of two ascending lists taken in step, are what a walk over the bytes is held to.
+-- Document 01's sentences hold (specs/Sentences.antt). Idea: most of them compute (proofs/Alone.antt); the two that speak of names are inductions on a context.
+-- Before the record stand equations over every order that proofs about code cite: context and function types, and two ascending lists of names taken in step.
 -- Assumes nothing.
-use Prim.Native.Nat.{ℕ, zero, suc, _≤_, _<_}
+use Prim.Native.Nat.{ℕ, suc, _<_}
 use native.Mathlib.Omega.{arith}
-use mathlib.Core.Path.{_≡_, refl, sym, _∙_, ap, ap₂}
-use mathlib.Core.Bool.{Bool, true, false, not, cond, _&&_, _||_}
+use mathlib.Core.Path.{_≡_, refl, sym, _∙_, ap, ap₂, subst}
+use mathlib.Core.Bool.{Bool, true, false, cond, _&&_, _||_, true≢false}
 use mathlib.Core.Option.{Option, none, some}
-use lib.Dec.{eqb}
-use borrow.Author.Tests.{ne-eqb, eq-eqb}
-use Rattle.form.specs.Trees.{Simple, any, null, decode}
-use Rattle.order.specs.Order.{up, down, flip, Order, Laws, fixed}
-use Rattle.order.proofs.Simple.{flat-codes}
-use Rattle.form.specs.Trees.{Ty, leaf, built, Built, list, range, context, function, Fields, no-fields, field, Tys, no-params, param}
-use Rattle.order.specs.Types.{look, found, all-fields, same-count, ignores, empty, cmp, le, les, reduce, reduce-built, reduce-fields, reduce-tys, keep, bound, bound-built, common, merge, bounds, sup, sub}
+use mathlib.Core.Logic.{_↔_}
+use lib.Dec.{eqb, ltb}
+use borrow.Author.Tests.{eqb-true, eqb-false, ne-eqb, eq-eqb, ltb-true}
+use Rattle.form.specs.Trees.{Simple, any, null, code, Ty, leaf, built, list, range, context, function, Fields, no-fields, field, Tys, no-params, param, Leaf, Params, Val, v-leaf, v-range, v-list}
+use Rattle.form.specs.Trees.{v-context, v-function, v-built-in, v-type, v-irrelevant, Vals, no-items, item, Entries, no-entries, entry}
+use Rattle.order.specs.Order.{same, up, down, Order, fixed, flat, flat-join, flat-meet}
+use Rattle.order.specs.Types.{look, found, all-fields, same-count, kind, ignores, empty, cmp, le, les, reduce, reduce-fields, reduce-tys, keep, place, bound, common, merge, sup, sub}
+use Rattle.order.specs.Types.{sup-fields, sub-fields, sup-tys, sub-tys}
 use Rattle.order.specs.Ascending.{AscFields, Asc}
+use Rattle.order.specs.Document.{conformsTo, reducedForm, supertype, subtype, eqTy, instanceBuilt, isInstanceOf}
+use Rattle.order.specs.Values.{leaf-type, is-any, conforms, all-conform, is-data, are-data, hold-data, least, least-items, least-entries}
+use Rattle.order.specs.Inferred.{valueConformsTo, isData, leastType, typeOf, items-below, entry-types}
+use Rattle.order.specs.Sentences.{eachField, eachParameter, eachPair, inBoth, inEither, allItems, allEntries, eachEntry, TypeSentences, SupertypeSentences, SubtypeSentences, ValueSentences}
+use Rattle.order.specs.Sentences.{LeastTypeSentences, InferredSentences, Sentences}
+pub use Rattle.order.proofs.Alone.{sup-simple-built, sup-built-simple, sub-simple-built, sub-built-simple, sup-functions, sub-functions, sup-functions-other, sub-functions-other}
+use Rattle.order.proofs.Alone.{le-simple-built, le-built-simple, le-lists, le-ranges, le-functions-down, sup-simple, sub-simple, sup-lists, sup-ranges, sup-contexts, sub-lists}
+use Rattle.order.proofs.Alone.{sub-ranges, sub-contexts, least-lists}
+use Rattle.order.proofs.Simple.{fixed-laws, same-eq}
+use Rattle.order.proofs.Bools.{and-false, and-assoc, and-true, or-cases}
 use Rattle.order.proofs.Conform.{has-look, flip-tys, all-ext, look-below}
-use Rattle.order.proofs.Answers.{merge-first, merge-second, merge-both}
+use Rattle.order.proofs.Bound.{cmp-other, bound-other}
+use Rattle.order.proofs.Answers.{asc-merge, asc-weaken, merge-first, merge-second, merge-both}
+use Rattle.order.proofs.Laws.{le-sup}
+use Rattle.order.proofs.Equal.{eq-bytes}
+use Rattle.order.proofs.Least.{le-null, le-any}
 
 module _ (O : Order) where
   -- CONFORMANCE
-  pub le-simple : (s t : Simple) → le O (leaf s) (leaf t) ≡ O .sle s t
-  unfolding cmp
-  le-simple s t = refl
-
-  pub le-simple-built : (s : Simple) (y : Built) → le O (leaf s) (built y) ≡ O .sle s null
-  unfolding cmp
-  le-simple-built s y = refl
-
-  pub le-built-simple : (x : Built) (t : Simple) → le O (built x) (leaf t) ≡ O .sle any t
-  unfolding cmp
-  le-built-simple x t = refl
-
-  pub le-lists : (a b : Ty) → le O (built (list a)) (built (list b)) ≡ le O a b
-  unfolding cmp
-  le-lists a b = refl
-
-  pub le-ranges : (a b : Ty) → le O (built (range a)) (built (range b)) ≡ le O a b
-  unfolding cmp
-  le-ranges a b = refl
-
   -- each name of B is in A with A's type ≤ B's
   pub le-contexts : (fs gs : Fields) → le O (built (context fs)) (built (context gs)) ≡ all-fields (λ n t. found (look n fs) (λ a. le O a t)) gs
   unfolding cmp
@@ -46,130 +41,9 @@ module _ (O : Order) where
 
   -- equal counts, each parameter of B ≤ that of A, result of A ≤ that of B; without parameters the result is not looked at
   pub le-functions : (ps qs : Tys) (r s : Ty) → le O (built (function ps r)) (built (function qs s)) ≡ les O qs ps && (ignores O ps || le O r s)
-  unfolding cmp
-  le-functions ps qs r s = ap (λ x. x && (ignores O ps || le O r s)) (flip-tys O up ps qs)
-
-  -- SUPERTYPE AND SUBTYPE
-  abbrev pub sup-fields : Fields → Fields → Fields
-  sup-fields fs gs = reduce-fields O (common O fs gs)
-
-  abbrev pub sub-fields : Fields → Fields → Fields
-  sub-fields fs gs = reduce-fields O (merge O fs gs)
-
-  abbrev pub sup-tys : Tys → Tys → Tys
-  sup-tys ps qs = reduce-tys O (bounds O up ps qs)
-
-  abbrev pub sub-tys : Tys → Tys → Tys
-  sub-tys ps qs = reduce-tys O (bounds O down ps qs)
-
-  pub sup-simple : (s t : Simple) → sup O (leaf s) (leaf t) ≡ leaf (O .sjoin s t)
-  unfolding bound reduce
-  sup-simple s t = refl
-
-  pub sub-simple : (s t : Simple) → sub O (leaf s) (leaf t) ≡ leaf (O .smeet s t)
-  unfolding bound reduce
-  sub-simple s t = refl
-
-  -- Null with T gives T, any other simple type with a built one Any
-  pub sup-simple-built : (s : Simple) (y : Built) → sup O (leaf s) (built y) ≡ cond (O .sle s null) (reduce O (built y)) (leaf any)
-  unfolding bound reduce
-  sup-simple-built s y = step (O .sle s null)
-    where
-      step : (q : Bool) → reduce O (cond q (built y) (leaf any)) ≡ cond q (reduce O (built y)) (leaf any)
-      step true = refl
-      step false = refl
-
-  pub sup-built-simple : (x : Built) (t : Simple) → sup O (built x) (leaf t) ≡ cond (O .sle t null) (reduce O (built x)) (leaf any)
-  unfolding bound reduce
-  sup-built-simple x t = step (O .sle t null)
-    where
-      step : (q : Bool) → reduce O (cond q (built x) (leaf any)) ≡ cond q (reduce O (built x)) (leaf any)
-      step true = refl
-      step false = refl
-
-  -- Any with T gives T, any other simple type with a built one Null
-  pub sub-simple-built : (s : Simple) (y : Built) → sub O (leaf s) (built y) ≡ cond (O .sle any s) (reduce O (built y)) (leaf null)
-  unfolding bound reduce
-  sub-simple-built s y = step (O .sle any s)
-    where
-      step : (q : Bool) → reduce O (cond q (built y) (leaf null)) ≡ cond q (reduce O (built y)) (leaf null)
-      step true = refl
-      step false = refl
-
-  pub sub-built-simple : (x : Built) (t : Simple) → sub O (built x) (leaf t) ≡ cond (O .sle any t) (reduce O (built x)) (leaf null)
-  unfolding bound reduce
-  sub-built-simple x t = step (O .sle any t)
-    where
-      step : (q : Bool) → reduce O (cond q (built x) (leaf null)) ≡ cond q (reduce O (built x)) (leaf null)
-      step true = refl
-      step false = refl
-
-  pub sup-lists : (a b : Ty) → sup O (built (list a)) (built (list b)) ≡ built (list (sup O a b))
-  unfolding bound reduce
-  sup-lists a b = refl
-
-  pub sub-lists : (a b : Ty) → sub O (built (list a)) (built (list b)) ≡ built (list (sub O a b))
-  unfolding bound reduce
-  sub-lists a b = refl
-
-  pub sup-ranges : (a b : Ty) → sup O (built (range a)) (built (range b)) ≡ built (range (sup O a b))
-  unfolding bound reduce
-  sup-ranges a b = refl
-
-  pub sub-ranges : (a b : Ty) → sub O (built (range a)) (built (range b)) ≡ built (range (sub O a b))
-  unfolding bound reduce
-  sub-ranges a b = refl
-
-  pub sup-contexts : (fs gs : Fields) → sup O (built (context fs)) (built (context gs)) ≡ built (context (sup-fields fs gs))
-  unfolding bound reduce
-  sup-contexts fs gs = refl
-
-  pub sub-contexts : (fs gs : Fields) → sub O (built (context fs)) (built (context gs)) ≡ built (context (sub-fields fs gs))
-  unfolding bound reduce
-  sub-contexts fs gs = refl
-
-  empty-reduce-result : (ps qs : Tys) (d : Ty) → same-count ps qs ≡ true → empty (bounds O up ps qs) ≡ empty ps
-  unfolding bound same-count
-  empty-reduce-result no-params no-params d h = refl
-  empty-reduce-result no-params (param b qs) d h = refl
-  empty-reduce-result (param a ps) no-params d h = sym h
-  empty-reduce-result (param a ps) (param b qs) d h = refl
-
-  empty-down : (ps qs : Tys) → same-count ps qs ≡ true → empty (bounds O down ps qs) ≡ empty ps
-  unfolding bound same-count
-  empty-down no-params no-params h = refl
-  empty-down no-params (param b qs) h = refl
-  empty-down (param a ps) no-params h = sym h
-  empty-down (param a ps) (param b qs) h = refl
-
-  -- functions of equal count: subtypes of parameters, supertype of results; of count 0, to Any
-  pub sup-functions : (ps qs : Tys) (r s : Ty) → same-count ps qs ≡ true
-      → sup O (built (function ps r)) (built (function qs s)) ≡ built (function (sub-tys ps qs) (cond (ignores O ps) (leaf any) (sup O r s)))
-  unfolding bound reduce
-  sup-functions ps qs r s h =
-      ap (λ q. reduce O (cond q (built (function (bounds O down ps qs) (bound O up r s))) (leaf any))) h
-      ∙ ap (λ e. built (function (sub-tys ps qs) (cond (not (O .strict) && e) (leaf any) (sup O r s)))) (empty-down ps qs h)
-
-  pub sub-functions : (ps qs : Tys) (r s : Ty) → same-count ps qs ≡ true
-      → sub O (built (function ps r)) (built (function qs s)) ≡ built (function (sup-tys ps qs) (cond (ignores O ps) (leaf any) (sub O r s)))
-  unfolding bound reduce
-  sub-functions ps qs r s h =
-      ap (λ q. reduce O (cond q (built (function (bounds O up ps qs) (bound O down r s))) (leaf null))) h
-      ∙ ap (λ e. built (function (sup-tys ps qs) (cond (not (O .strict) && e) (leaf any) (sub O r s)))) (empty-reduce-result ps qs r h)
-
-  pub sup-functions-other : (ps qs : Tys) (r s : Ty) → same-count ps qs ≡ false → sup O (built (function ps r)) (built (function qs s)) ≡ leaf any
-  unfolding bound reduce
-  sup-functions-other ps qs r s h = ap (λ q. reduce O (cond q (built (function (bounds O down ps qs) (bound O up r s))) (leaf any))) h
-
-  pub sub-functions-other : (ps qs : Tys) (r s : Ty) → same-count ps qs ≡ false → sub O (built (function ps r)) (built (function qs s)) ≡ leaf null
-  unfolding bound reduce
-  sub-functions-other ps qs r s h = ap (λ q. reduce O (cond q (built (function (bounds O up ps qs) (bound O down r s))) (leaf null))) h
+  le-functions ps qs r s = le-functions-down O ps qs r s ∙ ap (λ x. x && (ignores O ps || le O r s)) (flip-tys O up ps qs)
 
   -- COMMON NAMES, two ascending lists in step
-  pub sup-fields-none : (gs : Fields) → sup-fields no-fields gs ≡ no-fields
-  unfolding bound reduce
-  sup-fields-none gs = refl
-
   common-skip : (fs : Fields) (m k : ℕ) (b : Ty) (gs : Fields) → AscFields fs k → m < k → common O fs (field m b gs) ≡ common O fs gs
   unfolding bound look Asc
   common-skip no-fields m k b gs w h = refl
@@ -177,56 +51,492 @@ module _ (O : Order) where
       ap₂ (λ q x. keep n (cond q (some b) (look n gs)) (λ c. bound O up a c) x) (ne-eqb n m (λ e. omega (arith, w .0)))
       (common-skip fs m (suc n) b gs (w .2) (omega (arith, w .0)))
 
-  pub sup-fields-second : (fs : Fields) (m k : ℕ) (b : Ty) (gs : Fields) → AscFields fs k → m < k → sup-fields fs (field m b gs) ≡ sup-fields fs gs
+  pub sup-fields-second : (fs : Fields) (m k : ℕ) (b : Ty) (gs : Fields) → AscFields fs k → m < k → sup-fields O fs (field m b gs) ≡ sup-fields O fs gs
   sup-fields-second fs m k b gs w h = ap (reduce-fields O) (common-skip fs m k b gs w h)
 
-  pub sup-fields-first : (n : ℕ) (a : Ty) (fs gs : Fields) → AscFields gs (suc n) → sup-fields (field n a fs) gs ≡ sup-fields fs gs
+  pub sup-fields-first : (n : ℕ) (a : Ty) (fs gs : Fields) → AscFields gs (suc n) → sup-fields O (field n a fs) gs ≡ sup-fields O fs gs
   unfolding bound
   sup-fields-first n a fs gs w =
       ap (λ o. reduce-fields O (keep n o (λ c. bound O up a c) (common O fs gs))) (look-below O gs (suc n) n w (omega arith))
 
   pub sup-fields-both : (n : ℕ) (a b : Ty) (fs gs : Fields) → AscFields fs (suc n)
-      → sup-fields (field n a fs) (field n b gs) ≡ field n (sup O a b) (sup-fields fs gs)
+      → sup-fields O (field n a fs) (field n b gs) ≡ field n (sup O a b) (sup-fields O fs gs)
   unfolding bound look reduce
   sup-fields-both n a b fs gs w =
       ap₂ (λ q x. reduce-fields O (keep n (cond q (some b) (look n gs)) (λ c. bound O up a c) x)) (eq-eqb n n refl)
       (common-skip fs n (suc n) b gs w (omega arith))
 
   -- ALL NAMES, two ascending lists in step
-  pub sub-fields-none : (gs : Fields) → sub-fields no-fields gs ≡ reduce-fields O gs
-  unfolding bound
-  sub-fields-none gs = refl
-
   pub sub-fields-first : (n : ℕ) (a : Ty) (fs gs : Fields) → AscFields fs (suc n) → AscFields gs (suc n)
-      → sub-fields (field n a fs) gs ≡ field n (reduce O a) (sub-fields fs gs)
+      → sub-fields O (field n a fs) gs ≡ field n (reduce O a) (sub-fields O fs gs)
   unfolding reduce
   sub-fields-first n a fs gs v w = ap (reduce-fields O) (merge-first O n a fs gs v w)
 
   pub sub-fields-second : (fs : Fields) (m k : ℕ) (b : Ty) (gs : Fields) → AscFields fs k → m < k
-      → sub-fields fs (field m b gs) ≡ field m (reduce O b) (sub-fields fs gs)
+      → sub-fields O fs (field m b gs) ≡ field m (reduce O b) (sub-fields O fs gs)
   unfolding reduce
   sub-fields-second fs m k b gs w h = ap (reduce-fields O) (merge-second O fs m k b gs w h)
 
   pub sub-fields-both : (n : ℕ) (a b : Ty) (fs gs : Fields) → AscFields fs (suc n)
-      → sub-fields (field n a fs) (field n b gs) ≡ field n (sub O a b) (sub-fields fs gs)
+      → sub-fields O (field n a fs) (field n b gs) ≡ field n (sub O a b) (sub-fields O fs gs)
   unfolding reduce
   sub-fields-both n a b fs gs v = ap (reduce-fields O) (merge-both O n a b fs gs v)
 
--- two simple types, by their places among the bytes 20 to 29
-pub le-codes : (a b : ℕ) → a < 10 → b < 10 → le fixed (leaf (decode a)) (leaf (decode b)) ≡ eqb a 9 || (eqb b 0 || eqb a b)
+-- ---- THE SENTENCES
+not-true : (q : Bool) → (q ≡ true → ⊥) → q ≡ false
+not-true true h = absurd (h refl)
+not-true false h = refl
+
+cond-no : {A : Type 0} (q : Bool) (x y : A) → (q ≡ true → ⊥) → cond q x y ≡ y
+cond-no q x y h = ap (λ b. cond b x y) (not-true q h)
+
+cond-same : {A : Type 0} (q : Bool) (x y : A) → (q ≡ true → x ≡ y) → cond q x y ≡ y
+cond-same true x y h = h refl
+cond-same false x y h = refl
+
+-- ---- type against type
+flat-only : (s t : Simple) → (s ≡ null → ⊥) → (t ≡ any → ⊥) → flat s t ≡ true → s ≡ t
+flat-only s t h k e =
+    or-cases (same s null) (same t any || same s t) e (λ p. absurd (h (same-eq s null p)))
+    (λ p. or-cases (same t any) (same s t) p (λ q. absurd (k (same-eq t any q))) (same-eq s t))
+
+any-not-null : any ≡ null → ⊥
+any-not-null e = let z : _≡_ {A = ℕ} 0 1 = cc in omega arith
+
+not-below-null : (s : Simple) → (s ≡ null → ⊥) → flat s null ≡ true → ⊥
+not-below-null s h e = h (flat-only s null h (λ n. any-not-null (sym n)) e)
+
+not-above-any : (t : Simple) → (t ≡ any → ⊥) → flat any t ≡ true → ⊥
+not-above-any t h e = h (sym (flat-only any t any-not-null h e))
+
+counts-differ : (ps qs : Tys) → same-count ps qs ≡ false → les fixed ps qs ≡ false
+unfolding same-count cmp
+counts-differ no-params no-params h = absurd (true≢false h)
+counts-differ no-params (param b qs) h = refl
+counts-differ (param a ps) no-params h = refl
+counts-differ (param a ps) (param b qs) h = ap (λ x. conformsTo a b && x) (counts-differ ps qs h) ∙ and-false (conformsTo a b)
+
+plain : (qs : Tys) (r s : Ty) → conformsTo (built (function no-params r)) (built (function qs s)) ≡ empty qs
 unfolding cmp
-le-codes a b h k = flat-codes a b h k
+plain no-params r s = refl
+plain (param b qs) r s = refl
 
--- the three branches of a program that makes this test, with the facts as a branch hands them over
-pub le-by-null : (a b : ℕ) → a < 10 → b < 10 → a ≡ 9 → true ≡ le fixed (leaf (decode a)) (leaf (decode b))
-le-by-null a b h k e = sym (le-codes a b h k ∙ ap (λ x. x || (eqb b 0 || eqb a b)) (eq-eqb a 9 e))
+reduced-fields : (fs : Fields) → reduce-fields fixed fs ≡ eachField reducedForm fs
+unfolding reduce eachField
+reduced-fields no-fields = refl
+reduced-fields (field n t fs) = ap (field n (reducedForm t)) (reduced-fields fs)
 
-pub le-by-any : (a b : ℕ) → a < 10 → b < 10 → b ≡ 0 → true ≡ le fixed (leaf (decode a)) (leaf (decode b))
-le-by-any a b h k e = sym (le-codes a b h k ∙ ap (λ x. eqb a 9 || (x || eqb a b)) (eq-eqb b 0 e) ∙ or-true (eqb a 9))
+reduced-tys : (ps : Tys) → reduce-tys fixed ps ≡ eachParameter reducedForm ps
+unfolding reduce eachParameter
+reduced-tys no-params = refl
+reduced-tys (param t ps) = ap (param (reducedForm t)) (reduced-tys ps)
+
+reduced-fun : (ps : Tys) (r : Ty) → empty ps ≡ false → reducedForm (built (function ps r)) ≡ built (function (eachParameter reducedForm ps) (reducedForm r))
+unfolding reduce
+reduced-fun ps r h = ap₂ (λ x q. built (function x (cond q (leaf any) (reducedForm r)))) (reduced-tys ps) h
+
+type-sentences : TypeSentences
+unfolding cmp reduce
+type-sentences = record {
+  null-below = le-null fixed fixed-laws;
+  below-any = le-any fixed fixed-laws;
+  simple-types = λ s t h k. (flat-only s t h k, λ e. subst (λ x. flat s x ≡ true) e (fixed-laws .reflexive s));
+  simple-built = λ s y h. le-simple-built fixed s y ∙ not-true (flat s null) (not-below-null s h);
+  built-simple = λ x t h. le-built-simple fixed x t ∙ not-true (flat any t) (not-above-any t h);
+  lists = le-lists fixed;
+  ranges = le-ranges fixed;
+  contexts = le-contexts fixed;
+  functions = λ ps qs r s h. le-functions fixed ps qs r s ∙ ap (λ q. les fixed qs ps && (q || conformsTo r s)) h;
+  counts = counts-differ;
+  no-parameters = refl;
+  parameters = λ a b ps qs. refl;
+  plain-functions = plain;
+  unlike-kinds = λ x y h. cmp-other fixed up x y (ne-eqb (kind x) (kind y) h);
+  reduced-plain = λ r. refl;
+  reduced-function = reduced-fun;
+  reduced-simple = λ s. refl;
+  reduced-list = λ t. refl;
+  reduced-range = λ t. refl;
+  reduced-context = λ fs. ap (λ x. built (context x)) (reduced-fields fs);
+  equal-bytes = eq-bytes;
+}
+
+-- ---- supertype and subtype
+-- a name of a reduced context
+abbrev mapped : (Ty → Ty) → Option Ty → Option Ty
+mapped f none = none
+mapped f (some t) = some (f t)
+
+mapped-cond : (f : Ty → Ty) (q : Bool) (t : Ty) (o : Option Ty) → cond q (some (f t)) (mapped f o) ≡ mapped f (cond q (some t) o)
+mapped-cond f true t o = refl
+mapped-cond f false t o = refl
+
+look-reduce : (n : ℕ) (fs : Fields) → look n (reduce-fields fixed fs) ≡ mapped reducedForm (look n fs)
+unfolding look reduce
+look-reduce n no-fields = refl
+look-reduce n (field m t fs) = ap (cond (eqb n m) (some (reducedForm t))) (look-reduce n fs) ∙ mapped-cond reducedForm (eqb n m) t (look n fs)
+
+-- a common name
+both-none : (f : Ty → Ty → Ty) (o : Option Ty) → inBoth f o none ≡ none
+both-none f none = refl
+both-none f (some a) = refl
+
+mapped-both : (f : Ty → Ty → Ty) (o p : Option Ty) → mapped reducedForm (inBoth f o p) ≡ inBoth (λ a b. reducedForm (f a b)) o p
+mapped-both f none p = refl
+mapped-both f (some a) none = refl
+mapped-both f (some a) (some b) = refl
+
+look-keep : (n m : ℕ) (a : Ty) (fs gs cs : Fields) (o : Option Ty) → look m gs ≡ o → (q : Bool) → eqb n m ≡ q
+    → look n cs ≡ inBoth (λ x y. bound fixed up x y) (look n fs) (look n gs)
+    → look n (keep m o (λ b. bound fixed up a b) cs) ≡ inBoth (λ x y. bound fixed up x y) (cond q (some a) (look n fs)) (look n gs)
+unfolding look
+look-keep n m a fs gs cs none e true q h =
+    let g : look n gs ≡ none = ap (λ k. look k gs) (eqb-true n m q) ∙ e in
+    h ∙ ap (inBoth (λ x y. bound fixed up x y) (look n fs)) g ∙ both-none (λ x y. bound fixed up x y) (look n fs)
+    ∙ sym (ap (inBoth (λ x y. bound fixed up x y) (some a)) g)
+look-keep n m a fs gs cs none e false q h = h
+look-keep n m a fs gs cs (some b) e true q h =
+    ap (λ i. cond i (some (bound fixed up a b)) (look n cs)) q
+    ∙ sym (ap (inBoth (λ x y. bound fixed up x y) (some a)) (ap (λ k. look k gs) (eqb-true n m q) ∙ e))
+look-keep n m a fs gs cs (some b) e false q h = ap (λ i. cond i (some (bound fixed up a b)) (look n cs)) q ∙ h
+
+look-common : (n : ℕ) (fs gs : Fields) → look n (common fixed fs gs) ≡ inBoth (λ x y. bound fixed up x y) (look n fs) (look n gs)
+unfolding bound look
+look-common n no-fields gs = refl
+look-common n (field m a fs) gs = look-keep n m a fs gs (common fixed fs gs) (look m gs) refl (eqb n m) refl (look-common n fs gs)
+
+-- a name of either
+mapped-either : (f : Ty → Ty → Ty) (o p : Option Ty) → mapped reducedForm (inEither f (λ t. t) o p) ≡ inEither (λ a b. reducedForm (f a b)) reducedForm o p
+mapped-either f none none = refl
+mapped-either f none (some b) = refl
+mapped-either f (some a) none = refl
+mapped-either f (some a) (some b) = refl
+
+-- the type at which a name is put into a context that has it, or has it not
+abbrev put-type : Option Ty → Ty → (Ty → Ty) → Ty
+put-type none a f = a
+put-type (some b) a f = f b
+
+look-place : (n m k : ℕ) (a : Ty) (f : Ty → Ty) (hs : Fields) → AscFields hs k
+    → look n (place m a f hs) ≡ cond (eqb n m) (some (put-type (look m hs) a f)) (look n hs)
+unfolding look place Asc
+look-place n m k a f no-fields w = refl
+look-place n m k a f (field j b hs) w = step (eqb m j) refl (ltb m j) refl (look-place n m (suc j) a f hs (w .2))
   where
-    or-true : (x : Bool) → x || true ≡ true
-    or-true true = refl
-    or-true false = refl
+    twice : (q : Bool) (x y z : Option Ty) → cond q x z ≡ cond q x (cond q y z)
+    twice true x y z = refl
+    twice false x y z = refl
 
-pub le-by-same : (a b : ℕ) → a < 10 → b < 10 → (a ≡ 9 → ⊥) → (b ≡ 0 → ⊥) → eqb a b ≡ le fixed (leaf (decode a)) (leaf (decode b))
-le-by-same a b h k e f = sym (le-codes a b h k ∙ ap₂ (λ x y. x || (y || eqb a b)) (ne-eqb a 9 e) (ne-eqb b 0 f))
+    crossed : (p q : Bool) (x y z : Option Ty) → (p ≡ true → q ≡ true → ⊥) → cond p x (cond q y z) ≡ cond q y (cond p x z)
+    crossed true true x y z h = absurd (h refl refl)
+    crossed true false x y z h = refl
+    crossed false true x y z h = refl
+    crossed false false x y z h = refl
+
+    step : (q : Bool) → eqb m j ≡ q → (l : Bool) → ltb m j ≡ l → look n (place m a f hs) ≡ cond (eqb n m) (some (put-type (look m hs) a f)) (look n hs)
+        → look n (cond q (field j (f b) hs) (cond l (field m a (field j b hs)) (field j b (place m a f hs))))
+        ≡ cond (eqb n m) (some (put-type (cond q (some b) (look m hs)) a f)) (cond (eqb n j) (some b) (look n hs))
+    step true e l g ih =
+        twice (eqb n j) (some (f b)) (some b) (look n hs) ∙ ap (λ i. cond (eqb n i) (some (f b)) (cond (eqb n j) (some b) (look n hs))) (sym (eqb-true m j e))
+    step false e true g ih =
+        ap (λ o. cond (eqb n m) (some (put-type o a f)) (cond (eqb n j) (some b) (look n hs))) (sym (look-below fixed hs (suc j) m (w .2) (omega (arith, ltb-true m j g))))
+    step false e false g ih =
+        ap (cond (eqb n j) (some b)) ih
+        ∙ crossed (eqb n j) (eqb n m) (some b) (some (put-type (look m hs) a f)) (look n hs)
+        (λ x y. eqb-false m j e (sym (eqb-true n m y) ∙ eqb-true n j x))
+
+look-put : (n m : ℕ) (a : Ty) (fs gs : Fields) (o : Option Ty) (q : Bool) → eqb n m ≡ q → o ≡ look m gs
+    → cond q (some (put-type o a (λ b. bound fixed down a b))) (inEither (λ x y. bound fixed down x y) (λ t. t) (look n fs) (look n gs))
+    ≡ inEither (λ x y. bound fixed down x y) (λ t. t) (cond q (some a) (look n fs)) (look n gs)
+look-put n m a fs gs o true e h = put o ∙ ap (inEither (λ x y. bound fixed down x y) (λ t. t) (some a)) (h ∙ sym (ap (λ k. look k gs) (eqb-true n m e)))
+  where
+    put : (p : Option Ty) → some (put-type p a (λ b. bound fixed down a b)) ≡ inEither (λ x y. bound fixed down x y) (λ t. t) (some a) p
+    put none = refl
+    put (some b) = refl
+look-put n m a fs gs o false e h = refl
+
+either-none : (f : Ty → Ty → Ty) (p : Option Ty) → inEither f (λ t. t) none p ≡ p
+either-none f none = refl
+either-none f (some b) = refl
+
+look-merge : (n k : ℕ) (fs gs : Fields) → AscFields fs k → AscFields gs k
+    → look n (merge fixed fs gs) ≡ inEither (λ x y. bound fixed down x y) (λ t. t) (look n fs) (look n gs)
+unfolding bound look Asc
+look-merge n k no-fields gs v w = sym (either-none (λ x y. bound fixed down x y) (look n gs))
+look-merge n k (field m a fs) gs v w =
+    let u : AscFields fs k = asc-weaken fs k (suc m) (omega (arith, v .0)) (v .2) in
+    look-place n m k a (λ b. bound fixed down a b) (merge fixed fs gs) (asc-merge fixed fs gs k u w)
+    ∙ ap (cond (eqb n m) (some (put-type (look m (merge fixed fs gs)) a (λ b. bound fixed down a b)))) (look-merge n k fs gs u w)
+    ∙ look-put n m a fs gs (look m (merge fixed fs gs)) (eqb n m) refl
+    (look-merge m k fs gs u w ∙ ap (λ o. inEither (λ x y. bound fixed down x y) (λ t. t) o (look m gs)) (look-below fixed fs (suc m) m (v .2) (omega arith))
+    ∙ either-none (λ x y. bound fixed down x y) (look m gs))
+
+-- parameters in pairs
+sub-pairs : (ps qs : Tys) → sub-tys fixed ps qs ≡ eachPair subtype ps qs
+unfolding bound reduce eachPair
+sub-pairs no-params no-params = refl
+sub-pairs no-params (param b qs) = refl
+sub-pairs (param a ps) no-params = refl
+sub-pairs (param a ps) (param b qs) = ap (param (subtype a b)) (sub-pairs ps qs)
+
+sup-pairs : (ps qs : Tys) → sup-tys fixed ps qs ≡ eachPair supertype ps qs
+unfolding bound reduce eachPair
+sup-pairs no-params no-params = refl
+sup-pairs no-params (param b qs) = refl
+sup-pairs (param a ps) no-params = refl
+sup-pairs (param a ps) (param b qs) = ap (param (supertype a b)) (sup-pairs ps qs)
+
+sup-null : (t : Ty) → supertype t (leaf null) ≡ reducedForm t
+unfolding bound reduce
+sup-null (leaf s) = ap leaf (cond-same (same s null) null s (λ e. sym (same-eq s null e)))
+sup-null (built x) = refl
+
+null-sup : (t : Ty) → supertype (leaf null) t ≡ reducedForm t
+unfolding bound reduce
+null-sup (leaf s) = refl
+null-sup (built x) = refl
+
+sub-any : (t : Ty) → subtype t (leaf any) ≡ reducedForm t
+unfolding bound reduce
+sub-any (leaf s) = ap leaf (cond-same (same s any) any s (λ e. sym (same-eq s any e)))
+sub-any (built x) = refl
+
+any-sub : (t : Ty) → subtype (leaf any) t ≡ reducedForm t
+unfolding bound reduce
+any-sub (leaf s) = refl
+any-sub (built x) = refl
+
+equal-own : (p q : Bool) (s u : Simple) → q ≡ true → cond p s (cond p s (cond q s u)) ≡ s
+equal-own true q s u h = refl
+equal-own false q s u h = ap (λ b. cond b s u) h
+
+join-other : (s t : Simple) → (s ≡ null → ⊥) → (t ≡ null → ⊥) → (s ≡ t → ⊥) → flat-join s t ≡ any
+join-other s t h k d =
+    cond-no (same s null) t _ (λ e. h (same-eq s null e)) ∙ cond-no (same t null) s _ (λ e. k (same-eq t null e)) ∙ cond-no (same s t) s any (λ e. d (same-eq s t e))
+
+meet-other : (s t : Simple) → (s ≡ any → ⊥) → (t ≡ any → ⊥) → (s ≡ t → ⊥) → flat-meet s t ≡ null
+meet-other s t h k d =
+    cond-no (same s any) t _ (λ e. h (same-eq s any e)) ∙ cond-no (same t any) s _ (λ e. k (same-eq t any e)) ∙ cond-no (same s t) s null (λ e. d (same-eq s t e))
+
+counted : same-count no-params no-params ≡ true
+unfolding same-count
+counted = refl
+
+supertype-sentences : SupertypeSentences
+unfolding bound reduce
+supertype-sentences = record {
+  null-with = null-sup;
+  with-null = sup-null;
+  equal-simple = λ s. ap leaf (equal-own (same s null) (same s s) s any (eq-eqb (code s) (code s) refl));
+  lists = sup-lists fixed;
+  ranges = sup-ranges fixed;
+  contexts = sup-contexts fixed;
+  common-names = λ n fs gs. look-reduce n (common fixed fs gs) ∙ ap (mapped reducedForm) (look-common n fs gs) ∙ mapped-both (λ x y. bound fixed up x y) (look n fs) (look n gs);
+  functions = λ ps qs r s h k. sup-functions fixed ps qs r s h ∙ ap₂ (λ x q. built (function x (cond q (leaf any) (supertype r s)))) (sub-pairs ps qs) k;
+  plain-functions = λ r s. sup-functions fixed no-params no-params r s counted;
+  other-simple = λ s t h k d. sup-simple fixed s t ∙ ap leaf (join-other s t h k d);
+  simple-built = λ s y h. sup-simple-built fixed s y ∙ cond-no (flat s null) (reducedForm (built y)) (leaf any) (not-below-null s h);
+  built-simple = λ x t h. sup-built-simple fixed x t ∙ cond-no (flat t null) (reducedForm (built x)) (leaf any) (not-below-null t h);
+  unlike-kinds = λ x y h. ap reducedForm (bound-other fixed up x y (ne-eqb (kind x) (kind y) h));
+  unlike-counts = sup-functions-other fixed;
+}
+
+subtype-sentences : SubtypeSentences
+unfolding bound reduce
+subtype-sentences = record {
+  any-with = any-sub;
+  with-any = sub-any;
+  equal-simple = λ s. ap leaf (equal-own (same s any) (same s s) s null (eq-eqb (code s) (code s) refl));
+  lists = sub-lists fixed;
+  ranges = sub-ranges fixed;
+  contexts = sub-contexts fixed;
+  all-names = λ n fs gs v w.
+      look-reduce n (merge fixed fs gs) ∙ ap (mapped reducedForm) (look-merge n 0 fs gs v w) ∙ mapped-either (λ x y. bound fixed down x y) (look n fs) (look n gs);
+  functions = λ ps qs r s h k. sub-functions fixed ps qs r s h ∙ ap₂ (λ x q. built (function x (cond q (leaf any) (subtype r s)))) (sup-pairs ps qs) k;
+  plain-functions = λ r s. sub-functions fixed no-params no-params r s counted;
+  other-simple = λ s t h k d. sub-simple fixed s t ∙ ap leaf (meet-other s t h k d);
+  simple-built = λ s y h. sub-simple-built fixed s y ∙ cond-no (flat any s) (reducedForm (built y)) (leaf null) (not-above-any s h);
+  built-simple = λ x t h. sub-built-simple fixed x t ∙ cond-no (flat any t) (reducedForm (built x)) (leaf null) (not-above-any t h);
+  unlike-kinds = λ x y h. ap reducedForm (bound-other fixed down x y (ne-eqb (kind x) (kind y) h));
+  unlike-counts = sub-functions-other fixed;
+}
+
+-- ---- value against type
+any-value : (v : Val) → valueConformsTo v (leaf any) ≡ true
+unfolding conforms
+any-value (v-leaf l) = le-any fixed fixed-laws (leaf (leaf-type l))
+any-value (v-range i j v w) = refl
+any-value (v-list vs) = refl
+any-value (v-context es) = refl
+any-value (v-function ps b r) = refl
+any-value (v-built-in n) = refl
+any-value (v-type a) = refl
+any-value v-irrelevant = refl
+
+-- a built value, a function or another value against a simple type that is not Any
+not-any : (s : Simple) → (leaf s ≡ leaf any → ⊥) → flat any s ≡ false
+not-any s h = not-true (flat any s) (not-above-any s (λ e. h (ap leaf e)))
+
+own-type : (l : Leaf) (t : Ty) → (leaf-type l ≡ null → ⊥) → (t ≡ leaf any → ⊥) → (valueConformsTo (v-leaf l) t ≡ true) ↔ (t ≡ leaf (leaf-type l))
+unfolding conforms cmp
+own-type l (leaf s) h k = (
+  λ e. ap leaf (sym (flat-only (leaf-type l) s h (λ x. k (ap leaf x)) e)),
+  λ e. subst (λ t. conformsTo (leaf (leaf-type l)) t ≡ true) (sym e) (fixed-laws .reflexive (leaf-type l)),
+)
+own-type l (built y) h k = (λ e. absurd (not-below-null (leaf-type l) h e), λ e. absurd (let z : _≡_ {A = ℕ} 0 1 = cc in omega arith))
+
+every-item : (vs : Vals) (u : Ty) → all-conform fixed vs u ≡ allItems (λ v. valueConformsTo v u) vs
+unfolding conforms allItems
+every-item no-items u = refl
+every-item (item v vs) u = ap (λ x. valueConformsTo v u && x) (every-item vs u)
+
+no-range : (i j : ℕ) (v w : Val) (t : Ty) → (t ≡ leaf any → ⊥) → ((u : Ty) → t ≡ built (range u) → ⊥) → valueConformsTo (v-range i j v w) t ≡ false
+unfolding conforms
+no-range i j v w (leaf s) h k = not-any s h
+no-range i j v w (built (list u)) h k = refl
+no-range i j v w (built (range u)) h k = absurd (k u refl)
+no-range i j v w (built (context fs)) h k = refl
+no-range i j v w (built (function qs s)) h k = refl
+
+no-list : (vs : Vals) (t : Ty) → (t ≡ leaf any → ⊥) → ((u : Ty) → t ≡ built (list u) → ⊥) → valueConformsTo (v-list vs) t ≡ false
+unfolding conforms
+no-list vs (leaf s) h k = not-any s h
+no-list vs (built (list u)) h k = absurd (k u refl)
+no-list vs (built (range u)) h k = refl
+no-list vs (built (context fs)) h k = refl
+no-list vs (built (function qs s)) h k = refl
+
+no-context : (es : Entries) (t : Ty) → (t ≡ leaf any → ⊥) → ((fs : Fields) → t ≡ built (context fs) → ⊥) → valueConformsTo (v-context es) t ≡ false
+unfolding conforms
+no-context es (leaf s) h k = not-any s h
+no-context es (built (list u)) h k = refl
+no-context es (built (range u)) h k = refl
+no-context es (built (context fs)) h k = absurd (k fs refl)
+no-context es (built (function qs s)) h k = refl
+
+no-function : (ps : Params) (b : ℕ) (r t : Ty) → (t ≡ leaf any → ⊥) → ((qs : Tys) (s : Ty) → t ≡ built (function qs s) → ⊥) → valueConformsTo (v-function ps b r) t ≡ false
+unfolding conforms
+no-function ps b r (leaf s) h k = not-any s h
+no-function ps b r (built (list u)) h k = refl
+no-function ps b r (built (range u)) h k = refl
+no-function ps b r (built (context fs)) h k = refl
+no-function ps b r (built (function qs s)) h k = absurd (k qs s refl)
+
+only-any : (t : Ty) → (t ≡ leaf any → ⊥) → is-any fixed t ≡ false
+only-any (leaf s) h = not-any s h
+only-any (built y) h = refl
+
+value-sentences : ValueSentences
+unfolding conforms
+value-sentences = record {
+  any-target = any-value;
+  null-value = λ n. le-null fixed fixed-laws;
+  simple-kinds = own-type;
+  ranges = λ i j v w u. refl;
+  lists = every-item;
+  contexts = λ es fs. refl;
+  absent = λ n u. refl;
+  present = λ n m v es u. refl;
+  definitions = λ ps b r qs s. refl;
+  other-range = no-range;
+  other-list = no-list;
+  other-context = no-context;
+  other-definition = no-function;
+  other-built-in = λ n. only-any;
+  other-type = λ a. only-any;
+  other-irrelevant = only-any;
+}
+
+-- ---- least type
+every-data : (vs : Vals) → are-data fixed vs ≡ allItems isData vs
+unfolding is-data allItems
+every-data no-items = refl
+every-data (item v vs) = ap (λ x. isData v && x) (every-data vs)
+
+every-entry : (es : Entries) → hold-data fixed es ≡ allEntries isData es
+unfolding is-data allEntries
+every-entry no-entries = refl
+every-entry (entry n v es) = ap (λ x. isData v && x) (every-entry es)
+
+least-each : (es : Entries) → least-entries fixed es ≡ eachEntry leastType es
+unfolding least eachEntry
+least-each no-entries = refl
+least-each (entry n v es) = ap (field n (leastType v)) (least-each es)
+
+items-below-type : (vs : Vals) (t u : Ty) → conformsTo (least-items fixed vs t) u ≡ conformsTo t u && allItems (λ v. conformsTo (leastType v) u) vs
+unfolding least allItems
+items-below-type no-items t u = sym (and-true (conformsTo t u))
+items-below-type (item v vs) t u =
+    items-below-type vs (supertype t (leastType v)) u ∙ ap (λ x. x && allItems (λ w. conformsTo (leastType w) u) vs) (le-sup fixed fixed-laws t (leastType v) u)
+    ∙ and-assoc (conformsTo t u) (conformsTo (leastType v) u) (allItems (λ w. conformsTo (leastType w) u) vs)
+
+least-type-sentences : LeastTypeSentences
+unfolding is-data least cmp
+least-type-sentences = record {
+  data-leaf = λ l. refl;
+  data-range = λ i j v w. refl;
+  data-list = every-data;
+  data-context = every-entry;
+  no-definition = λ ps b r. refl;
+  no-built-in = λ n. refl;
+  no-type = λ t. refl;
+  no-irrelevant = refl;
+  leaves = λ l. refl;
+  contexts = λ es. ap (λ x. built (context x)) (least-each es);
+  lists = least-lists fixed;
+  lists-conform = λ vs u. items-below-type vs (leaf null) u ∙ ap (λ x. x && allItems (λ v. conformsTo (leastType v) u) vs) (le-null fixed fixed-laws u);
+  ranges = λ i j v w. refl;
+}
+
+-- ---- the inferred type
+type-each : (es : Entries) → entry-types es ≡ eachEntry typeOf es
+unfolding typeOf eachEntry
+type-each no-entries = refl
+type-each (entry n v es) = ap (field n (typeOf v)) (type-each es)
+
+every-type : (vs : Vals) (t : Ty) → items-below vs (some t) ≡ allItems (λ w. conformsTo (typeOf w) t) vs
+unfolding typeOf allItems
+every-type no-items t = refl
+every-type (item v vs) t = ap (λ x. conformsTo (typeOf v) t && x) (every-type vs t)
+
+never : (a b : Ty) → ((x y : Ty) → a ≡ built (list x) → b ≡ built (list y) → ⊥) → ((fs gs : Fields) → a ≡ built (context fs) → b ≡ built (context gs) → ⊥) → isInstanceOf a b ≡ false
+unfolding isInstanceOf instanceBuilt
+never (leaf s) b h k = refl
+never (built x) (leaf t) h k = refl
+never (built (list a)) (built (list b)) h k = absurd (h a b refl refl)
+never (built (list a)) (built (range b)) h k = refl
+never (built (list a)) (built (context gs)) h k = refl
+never (built (list a)) (built (function qs s)) h k = refl
+never (built (range a)) (built y) h k = refl
+never (built (context fs)) (built (list b)) h k = refl
+never (built (context fs)) (built (range b)) h k = refl
+never (built (context fs)) (built (context gs)) h k = absurd (k fs gs refl refl)
+never (built (context fs)) (built (function qs s)) h k = refl
+never (built (function ps r)) (built y) h k = refl
+
+inferred-sentences : InferredSentences
+unfolding typeOf isInstanceOf instanceBuilt eqTy
+inferred-sentences = record {
+  leaves = λ l. refl;
+  contexts = λ es. ap (λ x. built (context x)) (type-each es);
+  lists = λ v vs. ap (λ q. built (list (cond q (typeOf v) (leaf any)))) (every-type (item v vs) (typeOf v));
+  empty-list = refl;
+  ranges = λ i j v w. refl;
+  definitions = λ ps b r. refl;
+  types = λ t. refl;
+  built-ins = λ n. refl;
+  irrelevant = refl;
+  list-instances = λ a b. refl;
+  context-instances = λ fs gs. refl;
+  no-instances = never;
+}
+
+pub sentences : Sentences
+sentences = record {
+  type-against-type = type-sentences;
+  common-supertype = supertype-sentences;
+  common-subtype = subtype-sentences;
+  value-against-type = value-sentences;
+  least-type = least-type-sentences;
+  inferred-type = inferred-sentences;
+}

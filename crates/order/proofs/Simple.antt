@@ -1,15 +1,15 @@
 -- The laws of an order among the ten simple types, from tests that are computed over them.
 -- Assumes nothing.
-use Prim.Native.Nat.{ℕ, _+_, _<_}
-use mathlib.Core.Path.{_≡_, refl, sym, _∙_, ap, ap₂}
+use Prim.Native.Nat.{_+_}
+use mathlib.Core.Path.{_≡_, refl, sym, _∙_, ap}
 use mathlib.Core.Bool.{Bool, true, false, not, _&&_, _||_, Bool·beq, false≢true, true≢false}
 use mathlib.Core.List.{List, [], _∷_}
 use lib.Dec.{eqb}
 use borrow.Author.Tests.{eqb-true}
 use Rattle.form.specs.Trees.{Simple, any, boolean, number, string, date, time, dateTime, daysAndTime, yearsAndMonths, null, code, decode, Temporal, on-date, at-time, at-dateTime, for-daysAndTime}
 use Rattle.form.specs.Trees.{for-yearsAndMonths, code-temporal}
-use Rattle.form.proofs.ExactTypes.{decode-code, code-decode}
-use Rattle.order.specs.Order.{same, Dir, up, down, Order, top, bottom, scmp, sbound, Laws, flat, flat-order, fixed}
+use Rattle.form.proofs.ExactTypes.{decode-code}
+use Rattle.order.specs.Order.{same, Dir, up, down, Order, top, bottom, scmp, sbound, Laws, flat-order, fixed}
 use Rattle.order.specs.Values.{temporal-type}
 
 pub same-eq : (s t : Simple) → same s t ≡ true → s ≡ t
@@ -114,10 +114,6 @@ laws-of O c =
       join-least = λ s t u. beq-use _ _ (every₃-at (join-test O) (c .join-least) s t u);
       meet-greatest = λ s t u. beq-use _ _ (every₃-at (meet-test O) (c .meet-greatest) s t u);
     }
-
--- the test as a program makes it, on the places among the bytes 20 to 29
-pub flat-codes : (a b : ℕ) → a < 10 → b < 10 → flat (decode a) (decode b) ≡ eqb a 9 || (eqb b 0 || eqb a b)
-flat-codes a b h k = ap₂ (λ x y. eqb x 9 || (eqb y 0 || eqb x y)) (code-decode a h) (code-decode b k)
 
 pub flat-laws : (b : Bool) → Laws (flat-order b)
 flat-laws b =

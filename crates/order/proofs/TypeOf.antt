@@ -1,16 +1,14 @@
 -- The type that the Rust infers is never longer than its value, at most one level deeper, and well-formed where the value has fewer than 65,536 bytes.
 -- Assumes nothing.
-use Prim.Native.Nat.{ℕ, suc, _+_, _<_, _≤_, max}
+use Prim.Native.Nat.{ℕ, _+_, _<_, _≤_}
 use native.Mathlib.Omega.{arith}
 use native.Mathlib.Numerals.{add-one}
-use mathlib.Core.Path.{_≡_, refl}
 use mathlib.Core.Bool.{Bool, true, false, cond}
 use Rattle.form.specs.Limits.{nameEnd}
-use Rattle.form.specs.Trees.{any, null, Ty, leaf, built, function, Val, v-leaf, v-range, v-list, v-context, v-function, v-built-in, v-type, v-irrelevant, Vals, no-items, item, Entries, no-entries, entry}
+use Rattle.form.specs.Trees.{any, Ty, leaf, Val, v-leaf, v-range, v-list, v-context, v-function, v-built-in, v-type, v-irrelevant, Vals, no-items, item, Entries, no-entries, entry}
 use Rattle.form.specs.Form.{level, levelFields, levelV, levelVals, levelEntries, Wf, WfV, WfVals, WfEntries}
 use Rattle.order.specs.Ascending.{Asc, AscFields}
 use Rattle.order.specs.Size.{size, size-fields, size-val, size-vals, size-entries}
-use Rattle.order.specs.Values.{types-of}
 use Rattle.order.specs.Document.{eqTy}
 use Rattle.order.specs.Inferred.{list-type, typeOf, first-type, items-below, entry-types}
 use Rattle.order.proofs.Holds.{Holds, HoldsFields}

@@ -1,19 +1,18 @@
 -- Well-formed types: their names ascend, and the answers of well-formed types are well-formed, as long as a count of names fits its 16 bits.
 -- Assumes nothing.
-use Prim.Native.Nat.{ℕ, suc, _+_, _*_, _<_, _≤_}
-use mathlib.Core.Path.{_≡_, refl, sym, ap, subst}
+use Prim.Native.Nat.{ℕ, _+_, _<_, _≤_}
 use native.Mathlib.Omega.{arith}
 use native.Mathlib.Numerals.{add-one}
 use Rattle.form.specs.Trees.{Ty, leaf, built, Built, list, range, context, function, Fields, no-fields, field, Tys, no-params, param}
-use Rattle.form.specs.Limits.{nameWidth, nameEnd}
-use Rattle.form.specs.Form.{countFields, countTys, Wf, WfBuilt, WfFields, WfTys}
+use Rattle.form.specs.Limits.{nameEnd}
+use Rattle.form.specs.Form.{countFields, Wf, WfBuilt, WfFields, WfTys}
 use Rattle.order.specs.Order.{Order}
-use Rattle.order.specs.Types.{reduce, sup, sub}
+use Rattle.order.specs.Types.{sup, sub}
 use Rattle.order.specs.Ascending.{Asc, AscBuilt, AscFields, AscTys}
 use Rattle.order.specs.Size.{size, size-built, size-fields, size-tys}
-use Rattle.order.proofs.Answers.{asc-sup, asc-sub, asc-reduce}
-use Rattle.order.proofs.Holds.{Holds, HoldsBuilt, HoldsFields, HoldsTys, holds-sup, holds-sub, holds-reduce}
-use Rattle.order.proofs.Size.{size-positive, size-sup, size-sub, size-reduce}
+use Rattle.order.proofs.Answers.{asc-sup, asc-sub}
+use Rattle.order.proofs.Holds.{Holds, HoldsBuilt, HoldsFields, HoldsTys, holds-sup, holds-sub}
+use Rattle.order.proofs.Size.{size-positive, size-sup, size-sub}
 
 mutual
   unfolding Wf Asc

@@ -71,11 +71,12 @@ resultsConform a b = results up a b
 abbrev pub definitionType : Params → Ty → Ty
 definitionType ps r = built (function (types-of ps) r)
 
--- every function, at every depth, has a parameter
+-- at least one parameter
 abbrev pub Some : Tys → Type 0
 Some no-params = ⊥
 Some (param t ps) = Unit {0}
 
+-- every function, at every depth, has a parameter
 unfoldable mutual
   pub Parameters : Ty → Type 0
   Parameters (leaf s) = Unit {0}

@@ -1,4 +1,4 @@
--- Document 01's own relation, under short names.
+-- Document 01's own relation, under short names; type equality and `instance_of`.
 -- Assumes nothing.
 use mathlib.Core.Bool.{Bool, true, false, _&&_, _||_}
 use lib.Dec.{eqb}

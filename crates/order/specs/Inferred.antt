@@ -1,9 +1,9 @@
 -- Values under document 01's own relation, with short names; and the type as the Rust infers it.
 -- Assumes nothing.
-use Prim.Native.Nat.{ℕ}
 use mathlib.Core.Bool.{Bool, true, cond, _&&_}
 use mathlib.Core.Option.{Option, none, some}
-use Rattle.form.specs.Trees.{any, null, Ty, leaf, built, list, range, context, function, Fields, no-fields, field, Val, v-leaf, v-range, v-list, v-context, v-function, v-built-in, v-type, v-irrelevant, Vals, no-items, item, Entries, no-entries, entry}
+use Rattle.form.specs.Trees.{any, null, Ty, leaf, built, list, range, context, function, Fields, no-fields, field, Val, v-leaf, v-range, v-list, v-context, v-function, v-built-in, v-type}
+use Rattle.form.specs.Trees.{v-irrelevant, Vals, no-items, item, Entries, no-entries, entry}
 use Rattle.order.specs.Order.{fixed}
 use Rattle.order.specs.Types.{found}
 use Rattle.order.specs.Document.{conformsTo, eqTy}
@@ -22,7 +22,7 @@ abbrev pub leastType : Val → Ty
 leastType v = least fixed v
 
 -- ---- `Value::type_of`
--- a list by its first item's type and whether every item's type conforms to it; empty gives List<Null>, otherwise List<Any>
+-- a list by its first item's type and whether every item's type conforms to that: empty gives List<Null>, and where one does not conform List<Any>
 abbrev pub list-type : Option Ty → Bool → Ty
 list-type none q = built (list (leaf null))
 list-type (some t) q = built (list (cond q t (leaf any)))

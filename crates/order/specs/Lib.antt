@@ -6,4 +6,6 @@ pub mod Document
 pub mod Values
 pub mod Inferred
 pub mod Dmn
-pub mod Examples
+pub mod Sentences
+pub mod Theorems
+pub mod ValueTheorems

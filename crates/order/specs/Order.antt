@@ -1,12 +1,13 @@
 -- An order among the ten simple types, and what it must obey.
--- Everything about types is stated over an `Order`: document 01's relation, DMN's reading of functions without parameters and a loaded table of
--- simple types are instances. `fixed` is document 01's own.
+-- Everything about types is stated over an `Order`. Two stand here: `fixed`, document 01's relation, and `flat-order true`, which has the same simple types and
+-- judges every function by its result, as DMN does.
 -- Assumes nothing.
 use mathlib.Core.Path.{_≡_}
 use mathlib.Core.Bool.{Bool, true, false, cond, _&&_, _||_}
 use lib.Dec.{eqb}
 use Rattle.form.specs.Trees.{Simple, any, null, code}
 
+-- equal simple types, as a test
 abbrev pub same : Simple → Simple → Bool
 same s t = eqb (code s) (code t)
 
@@ -22,6 +23,7 @@ abbrev pub pick {ℓ} : {A : Type ℓ} → Dir → A → A → A
 pick up x y = x
 pick down x y = y
 
+-- conformance of simple types, their common supertype and their common subtype
 pub record Order : Type 0 where
   -- whether a function type without parameters is judged by its result
   pub strict : Bool
@@ -45,6 +47,7 @@ abbrev pub sbound : Order → Dir → Simple → Simple → Simple
 sbound O up s t = O .sjoin s t
 sbound O down s t = O .smeet s t
 
+-- what an order must obey: Null least, Any greatest, joins least upper bounds and meets greatest lower bounds
 pub record Laws (O : Order) : Type 0 where
   pub reflexive : (s : Simple) → O .sle s s ≡ true
   pub transitive : (s t u : Simple) → O .sle s t ≡ true → O .sle t u ≡ true → O .sle s u ≡ true
@@ -66,9 +69,10 @@ flat-join s t = cond (same s null) t (cond (same t null) s (cond (same s t) s an
 abbrev pub flat-meet : Simple → Simple → Simple
 flat-meet s t = cond (same s any) t (cond (same t any) s (cond (same s t) s null))
 
--- document 01's relation, and the same with K8's strict reading of functions
+-- the simple types of document 01; true: every function is judged by its result
 abbrev pub flat-order : Bool → Order
 flat-order b = record { strict = b; sle = flat; sjoin = flat-join; smeet = flat-meet }
 
+-- document 01's relation
 abbrev pub fixed : Order
 fixed = flat-order false

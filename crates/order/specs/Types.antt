@@ -30,6 +30,13 @@ same-count no-params (param b qs) = false
 same-count (param a ps) no-params = false
 same-count (param a ps) (param b qs) = same-count ps qs
 
+-- which of the four built kinds
+abbrev pub kind : Built → ℕ
+kind (list a) = 0
+kind (range a) = 1
+kind (context fs) = 2
+kind (function ps r) = 3
+
 module _ (O : Order) where
   -- whether the result of a function type with these parameters is ignored
   abbrev pub ignores : Tys → Bool
@@ -165,3 +172,16 @@ module _ (O : Order) where
 
   abbrev pub sub : Ty → Ty → Ty
   sub a b = reduce O (bound down a b)
+
+  -- reduced: the entries of the supertype and of the subtype of two contexts, the supertypes and the subtypes of two parameter lists
+  abbrev pub sup-fields : Fields → Fields → Fields
+  sup-fields fs gs = reduce-fields O (common fs gs)
+
+  abbrev pub sub-fields : Fields → Fields → Fields
+  sub-fields fs gs = reduce-fields O (merge fs gs)
+
+  abbrev pub sup-tys : Tys → Tys → Tys
+  sup-tys ps qs = reduce-tys O (bounds up ps qs)
+
+  abbrev pub sub-tys : Tys → Tys → Tys
+  sub-tys ps qs = reduce-tys O (bounds down ps qs)

@@ -1,12 +1,14 @@
--- Values against types, data values and the least type, over an order among the simple types; and the type that the Rust infers.
+-- Values against types, data values and the least type, over an order among the simple types. (The type that the Rust infers: specs/Inferred.antt.)
 -- Assumes nothing.
 use Prim.Native.Nat.{ℕ}
 use mathlib.Core.Bool.{Bool, true, false, cond, _&&_}
-use mathlib.Core.Option.{Option, none, some}
 use lib.Dec.{eqb}
-use Rattle.form.specs.Trees.{Simple, any, boolean, number, string, date, time, dateTime, daysAndTime, yearsAndMonths, null, Ty, leaf, built, list, range, context, function, Fields, no-fields, field, Tys, no-params, param, Temporal, on-date, at-time, at-dateTime, for-daysAndTime, for-yearsAndMonths, Leaf, l-null, l-boolean, l-number, l-string, l-temporal, Params, no-parameters, parameter, Val, v-leaf, v-range, v-list, v-context, v-function, v-built-in, v-type, v-irrelevant, Vals, no-items, item, Entries, no-entries, entry}
+use Rattle.form.specs.Trees.{Simple, any, boolean, number, string, date, time, dateTime, daysAndTime, yearsAndMonths, null, Ty, leaf, built, list, range, context, function, Fields, no-fields}
+use Rattle.form.specs.Trees.{field, Tys, no-params, param, Temporal, on-date, at-time, at-dateTime, for-daysAndTime, for-yearsAndMonths, Leaf, l-null, l-boolean, l-number, l-string, l-temporal}
+use Rattle.form.specs.Trees.{Params, no-parameters, parameter, Val, v-leaf, v-range, v-list, v-context, v-function, v-built-in, v-type, v-irrelevant, Vals, no-items, item, Entries, no-entries}
+use Rattle.form.specs.Trees.{entry}
 use Rattle.order.specs.Order.{up, Order}
-use Rattle.order.specs.Types.{all-fields, found, cmp, cmps, reduce, sup}
+use Rattle.order.specs.Types.{all-fields, cmp, cmps, reduce, sup}
 
 abbrev pub temporal-type : Temporal → Simple
 temporal-type on-date = date
@@ -23,12 +25,13 @@ leaf-type (l-number z) = number
 leaf-type (l-string n) = string
 leaf-type (l-temporal k z) = temporal-type k
 
+-- the parameter types of a function definition
 unfoldable pub types-of : Params → Tys
 types-of no-parameters = no-params
 types-of (parameter n t ps) = param t (types-of ps)
 
 module _ (O : Order) where
-  -- A built value against a type: Any yes, its own kind by the inner types, all else no.
+  -- A value against a type by its kind: Any yes, its own kind by the inner types, all else no.
   abbrev pub to-range : Ty → (Ty → Bool) → Bool
   to-range (leaf s) f = O .sle any s
   to-range (built (list u)) f = false
@@ -106,7 +109,7 @@ module _ (O : Order) where
     hold-data no-entries = true
     hold-data (entry n v es) = is-data v && hold-data es
 
-  -- The least type. (Values that are no data have none: Any stands in.)
+  -- The least type, of a data value. (Of a value that is no data it says nothing: a function definition has its reduced function type here, any other Any.)
   unfoldable mutual
     pub least : Val → Ty
     least (v-leaf l) = leaf (leaf-type l)
