@@ -49,7 +49,7 @@ ofFields d = record { join = answerFields d; sized = size-fields; text = encFiel
 abbrev pub ofSigs : Dir → Joining Sig
 ofSigs d = record { join = answerSig d; sized = size-sig; text = encSig }
 
--- the most bytes that an answer has
+-- what the builders ask of an answer: fewer bytes than 16 bits count, so that its names do too (of two accepted types it has at most 32,768)
 abbrev pub mostAnswer : ℕ
 mostAnswer = 65535
 

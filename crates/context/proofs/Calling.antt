@@ -10,7 +10,7 @@ use lib.ListN.{length, getD, take, drop, length-append, length-take, length-drop
 use lib.Seq.{take-all, take-at}
 use lib.Dec.{leb}
 use borrow.Author.Tests.{le-leb, lt-leb, leb-true, leb-false}
-use Rattle.form.specs.Limits.{nameWidth, mostBytes, valueLevels}
+use Rattle.form.specs.Limits.{nameWidth, mostBytes, valueLevels, mostNames}
 use Rattle.form.specs.Trees.{Val, v-context, Entries}
 use Rattle.form.specs.Form.{Bytes, bytes, numAt, countEntries, encLeaf, encV, levelV, levelEntries, WfLeaf, WfV}
 use Rattle.form.specs.Outcome.{Outcome, done, refused, _>>=_, _>>_, check, orRefuse, fits}
@@ -40,7 +40,7 @@ use Rattle.retrieval.proofs.Contexts.{size-context}
 use Rattle.retrieval.proofs.Theorems.{none-some, some-same, mapped-is}
 use Rattle.paths.specs.Paths.{value-of, entries-of}
 use Rattle.paths.specs.Places.{wholeAt, contextAt, lentCode}
-use Rattle.paths.specs.Calls.{mostNames, contextOf}
+use Rattle.paths.specs.Calls.{contextOf}
 use Rattle.paths.proofs.Whole.{whole-is, is-whole, of-context, context-read, read-context, Ctx, ctx-of}
 use Rattle.paths.proofs.Searching.{at-context, WholeContext, whole-context, whole-other, Hit, hit-whole, hit-inside, hit-start, Miss}
 use Rattle.paths.proofs.Calling.{Opened, opened, read-whole}

@@ -5,12 +5,13 @@ use mathlib.Core.Bool.{Bool, true, false}
 use mathlib.Core.List.{List}
 use lib.ListN.{length}
 use lib.Dec.{leb}
+use Rattle.form.specs.Limits.{mostNames}
 use Rattle.form.specs.Trees.{Val, v-context, Entries}
 use Rattle.form.specs.Outcome.{Outcome, done, _>>=_, _>>_, check, orRefuse}
 use Rattle.form.specs.Read.{readValue}
 use Rattle.retrieval.specs.Calls.{result}
 use Rattle.paths.specs.Paths.{entries-of}
-use Rattle.paths.specs.Calls.{mostNames, contextOf}
+use Rattle.paths.specs.Calls.{contextOf}
 use Rattle.updates.specs.Update.{create, apply, zip, overwrite, moveEntry, setEntry, setNull, removeEntry}
 
 -- ---- the arguments

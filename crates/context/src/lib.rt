@@ -97,7 +97,7 @@ fn build(c: &[u8], path: &[u16], v: &[u8], level: usize, strict: bool, out: &mut
         let mut few = [0u8; 512];
         return build_in(c, path, v, level, strict, &mut few, out);
     }
-    let mut spare = [0u8; 16384];
+    let mut spare = [0u8; MOST_BYTES];
     build_in(c, path, v, level, strict, &mut spare, out)
 }
 
@@ -192,7 +192,7 @@ fn join(all: bool, c: &[u8], o: &[u8], out: &mut [u8]) -> Written
         let mut few = [0u8; 512];
         return join_in(all, c, o, &mut few, out);
     }
-    let mut spare = [0u8; 16384];
+    let mut spare = [0u8; MOST_BYTES];
     join_in(all, c, o, &mut spare, out)
 }
 
@@ -294,7 +294,7 @@ pub fn move_entry(c: &[u8], name: u16, parent: u16, out: &mut [u8]) -> Written
                     let mut few = [0u8; 512];
                     return move_in(c, from, to, count, &path, level - 1, &mut few, out);
                 }
-                let mut spare = [0u8; 16384];
+                let mut spare = [0u8; MOST_BYTES];
                 move_in(c, from, to, count, &path, level - 1, &mut spare, out)
             }
         },

@@ -7,7 +7,7 @@ use mathlib.Core.Option.{Option, none, some}
 use mathlib.Core.List.{List, [], _∷_}
 use lib.ListN.{length}
 use lib.Dec.{leb}
-use Rattle.form.specs.Limits.{nameWidth, mostBytes}
+use Rattle.form.specs.Limits.{nameWidth, mostBytes, mostNames}
 use Rattle.form.specs.Trees.{Val, Entries}
 use Rattle.form.specs.Form.{Bytes}
 use Rattle.form.specs.Outcome.{Outcome, done, refused, _>>=_, _>>_, check, orRefuse}
@@ -17,7 +17,7 @@ use Rattle.form.proofs.Values.{value-accepted}
 use Rattle.retrieval.specs.Retrieve.{mapped}
 use Rattle.paths.specs.Paths.{entries-of, getFirst}
 use Rattle.paths.specs.Places.{Spot, spot, Piece, found, extentOf, spotIn, Within}
-use Rattle.paths.specs.Calls.{mostNames, contextOf, searchDeepCall, getEntryCall, getFirstCall}
+use Rattle.paths.specs.Calls.{contextOf, searchDeepCall, getEntryCall, getFirstCall}
 use Rattle.paths.specs.declared.Found.{Found}
 use Rattle.paths.specs.declared.Found.the-variants as found-is
 use Rattle.paths.proofs.Calling.{entry-call, stand-deep, stand-first, lend-within}

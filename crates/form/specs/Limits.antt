@@ -1,4 +1,5 @@
--- The numbers of document 01 that a later request may change. They stand here and nowhere else.
+-- The numbers of document 01 that a later request may change: every definition and law has them from here. The code has them as constants of its own
+-- (`NAME_WIDTH`, `MOST_BYTES`, `VALUE_LEVELS`, `TYPE_LEVELS` of `form`, `MOST_NAMES` of `paths`), which its proofs hold to these.
 -- Assumes nothing.
 use Prim.Native.Nat.{ℕ, _^_}
 
@@ -21,6 +22,10 @@ valueLevels = 31
 -- the levels that a type reaches
 abbrev pub typeLevels : ℕ
 typeLevels = 32
+
+-- the most names of a path
+abbrev pub mostNames : ℕ
+mostNames = 31
 
 -- the refusals of a value read are counted from 1, those of a type read from 6
 abbrev pub valueRefusals : ℕ

@@ -389,7 +389,7 @@ fn build(least: bool, v: &[u8], scratch: &mut [u8], out: &mut [u8]) -> Written
         let mut spare = [0u8; 512];
         return build_with(least, v, scratch, &mut spare, out);
     }
-    let mut spare = [0u8; 16384];
+    let mut spare = [0u8; MOST_BYTES];
     build_with(least, v, scratch, &mut spare, out)
 }
 

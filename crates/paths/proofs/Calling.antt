@@ -10,7 +10,7 @@ use lib.ListN.{length, getD, take, drop}
 use lib.Dec.{ltb, leb, eqb}
 use denote.Ref.{RefT, now}
 use borrow.Author.Tests.{le-leb, lt-leb}
-use Rattle.form.specs.Limits.{nameWidth, mostBytes, valueLevels, valueRefusals}
+use Rattle.form.specs.Limits.{nameWidth, mostBytes, valueLevels, valueRefusals, mostNames}
 use Rattle.form.specs.Trees.{Val, Entries, no-entries, entry}
 use Rattle.form.specs.Form.{numAt, Bytes, encV, countEntries}
 use Rattle.form.specs.Outcome.{Outcome, done, refused, _>>=_, _>>_, pick, check, orRefuse}
@@ -31,7 +31,7 @@ use Rattle.retrieval.proofs.Contexts.{This, this, size-none}
 use Rattle.paths.specs.Paths.{value-of, entries-of, is-some, isContext, isEmpty, getFirst, given, search, containsDeep, entry-place, place}
 use Rattle.paths.specs.Places.{wholeAt, contextAt, frontAt, Fills, Spot, spot, Piece, piece, extent, found, extentOf, spotIn, Searches, Clear, isFound}
 use Rattle.paths.specs.Places.{lentBytes, lentCode, lentPlace, Lent, Within, pieceBytes, piecePlace, Lends}
-use Rattle.paths.specs.Calls.{mostNames, contextOf, searchDeepCall, getEntryCall, getFirstCall, containsDeepCall, containsEntryCall, isContextCall, isEmptyCall, lenCall}
+use Rattle.paths.specs.Calls.{contextOf, searchDeepCall, getEntryCall, getFirstCall, containsDeepCall, containsEntryCall, isContextCall, isEmptyCall, lenCall}
 use Rattle.paths.specs.declared.Found.{Found}
 use Rattle.paths.specs.declared.Found.the-variants as found-is
 use Rattle.paths.proofs.Whole.{is-whole, of-context, Ctx, ctx-of, size-behind, whole-ok, whole-fills}

@@ -6,7 +6,7 @@ use mathlib.Core.Option.{Option}
 use mathlib.Core.List.{List}
 use lib.ListN.{length}
 use lib.Dec.{leb}
-use Rattle.form.specs.Limits.{nameWidth}
+use Rattle.form.specs.Limits.{nameWidth, mostNames}
 use Rattle.form.specs.Trees.{Entries}
 use Rattle.form.specs.Outcome.{Outcome, done, refused, _>>=_, _>>_, check, orRefuse}
 use Rattle.form.specs.Read.{readValue}
@@ -15,10 +15,6 @@ use Rattle.paths.specs.Paths.{value-of, entries-of, containsEntry, isCon
 use Rattle.paths.specs.Places.{Spot, spot, spotIn}
 use Rattle.paths.specs.declared.Count.{Count}
 use Rattle.paths.specs.declared.Count.the-variants as count-is
-
--- the most names of a path
-abbrev pub mostNames : ℕ
-mostNames = 31
 
 -- the context c and a path of so many names: 1 to 5, 11, 12
 unfoldable pub contextOf : List ℕ → ℕ → Outcome Entries

@@ -12,6 +12,7 @@ ghost use Rattle.values.specs.Calls.{isConformant};
 ghost use Rattle.retrieval.specs.Filling.{fill, puts, Retrieves, outerKind, Accepted};
 ghost use Rattle.retrieval.specs.Calls.{getValueCheckedCall, getConformantValueCall};
 use form::Checked;
+use form::MOST_BYTES;
 use form::NAME_WIDTH;
 use form::TYPE_LEVELS;
 use form::Written;
@@ -252,7 +253,7 @@ fn write_retrieved(t: &[u8], v: &[u8], out: &mut [u8]) -> Written
         let mut few = [0u8; 512];
         return retrieve_by(t, v, &mut few, out);
     }
-    let mut many = [0u8; 16384];
+    let mut many = [0u8; MOST_BYTES];
     retrieve_by(t, v, &mut many, out)
 }
 

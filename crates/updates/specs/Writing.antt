@@ -6,7 +6,7 @@ use mathlib.Core.Bool.{Bool, true, false}
 use mathlib.Core.Option.{Option, none, some}
 use mathlib.Core.List.{List, [], _∷_, _++_}
 use lib.ListN.{length, take, drop}
-use Rattle.form.specs.Limits.{nameWidth, mostBytes}
+use Rattle.form.specs.Limits.{nameWidth, mostBytes, mostNames}
 use Rattle.form.specs.Trees.{Val, v-context, Entries}
 use Rattle.form.specs.Form.{bytes, encV}
 use Rattle.retrieval.specs.Retrieve.{mapped}
@@ -49,7 +49,7 @@ grown k n m = k + m + 8 * n
 -- the arguments of a builder are small
 pub record Small (c path v : List ℕ) : Type 0 where
   pub bytes-c : length c ≤ mostBytes
-  pub names : length path ≤ 31
+  pub names : length path ≤ mostNames
   pub bytes-v : length v ≤ mostBytes
 
 -- ---- a context's bytes with so many entries, those before `at`, the name, w, and those from `to` on

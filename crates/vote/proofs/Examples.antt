@@ -17,7 +17,19 @@ use Rattle.infer.specs.Calls.{leastTypeCall, typeOfCall}
 use Rattle.retrieval.specs.Retrieve.{retrieve}
 use Rattle.retrieval.specs.Calls.{getValueCheckedCall}
 use Rattle.coercion.specs.Calls.{coercedCall}
-use Rattle.vote.specs.Examples.{Holds, All, one, null, yes, pair, full, part, inferred, least-of, nested, times, longest, lists, longest-type, table}
+use Rattle.context.specs.Calls.{createEntriesCall, applyEntriesCall}
+use Rattle.context.specs.Example12.{self, path, created}
+use Rattle.context.proofs.Example12.{example12}
+use Rattle.vote.specs.Vote.{AcceptedValue}
+use Rattle.vote.specs.Examples.{Fitting, Holds, All, one, null, yes, pair, full, part, inferred, least-of, nested, times, longest, lists, longest-type, table}
+
+create-every : (v : AcceptedValue) → Fitting v
+    → createEntriesCall self path (v .bytes) mostBytes ≡ done (created (v .bytes))
+create-every v f =
+    example12 .create (v .bytes) (record { are-bytes = v .are-bytes; value = v .value; read = v .accepted }) mostBytes (record { level = f .low; bytes = f .short }) (f .short)
+
+apply-every : (v : AcceptedValue) → applyEntriesCall self path (v .bytes) mostBytes ≡ refused 16
+apply-every v = example12 .apply (v .bytes) (record { are-bytes = v .are-bytes; value = v .value; read = v .accepted }) mostBytes
 
 pub examples : All table
 unfolding Holds All one null yes pair full part inferred least-of nested times longest lists longest-type table bytes num countFields countTys enc level levelV kindOf
