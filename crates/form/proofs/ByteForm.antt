@@ -2,8 +2,10 @@
 -- Assumes nothing.
 use Rattle.form.specs.Limits.{typeLevels, valueLevels, typeRefusals, valueRefusals}
 use Rattle.form.specs.Form.{enc, encV, level, levelV, Wf, WfV}
-use Rattle.form.specs.Read.{readT, readV}
+use Rattle.form.specs.Trees.{no-fields, field, no-entries, entry}
+use Rattle.form.specs.Read.{ascending, readT, readV}
 use Rattle.form.specs.ByteForm.{ByteForm}
+use Rattle.form.proofs.First.{no-byte, level-next, name-first}
 use Rattle.form.proofs.ExactTypes.{read-enc, enc-read}
 use Rattle.form.proofs.ExactValues.{read-encV, enc-readV}
 use Rattle.form.proofs.Refused.{refused-length, refused-fault, refused-left, refused-numbers}
@@ -30,6 +32,10 @@ byte-form = record {
   type-fault = refused-fault typeRefusals (readT typeLevels);
   value-left = refused-left encV WfV levelV valueRefusals valueLevels (readV valueLevels) (enc-readV valueLevels) (λ v g h r. read-encV v valueLevels r g h) encV-some;
   type-left = refused-left enc Wf level typeRefusals typeLevels (readT typeLevels) (enc-read typeLevels) (λ t g h r. read-enc t typeLevels r g h) enc-some;
+  no-byte = no-byte;
+  level-next = level-next;
+  value-name = λ l. name-first no-entries entry ascending (readV l);
+  type-name = λ l. name-first no-fields field ascending (readT l);
   value-numbers = refused-numbers valueRefusals (readV valueLevels);
   type-numbers = refused-numbers typeRefusals (readT typeLevels);
   any-size = any-exact;

@@ -13,7 +13,8 @@ use Rattle.form.specs.Limits.{nameWidth, nameEnd}
 use Rattle.form.specs.Form.{bytes, num, Bytes}
 use Rattle.form.specs.Read.{Got, got, bad, front, andThen, orElse, operand, named, readRun, readNamed, counted}
 use Rattle.form.specs.Faults.{Fault, Shape, Names}
-use Rattle.form.proofs.Numbers.{length-bytes, num-bytes, num-below, bytes-num, bytes-take, take-length}
+use Rattle.form.proofs.First.{length-front, operand-front}
+use Rattle.form.proofs.Numbers.{num-below, bytes-num, bytes-take, take-length}
 
 pub got-is : {X : Type 0} {x : X} {n m : ℕ} → n ≡ m → got x n ≡ got x m
 got-is {X} {x} p = ap (got x) p
@@ -48,18 +49,8 @@ pub item-read : {X R : Type 0} (nil : R) (cons : X → R → R) (child : List �
 unfolding readRun
 item-read nil cons child ex er r x xs n hx hs = then-read cons 0 child (readRun nil cons child n) ex er r x xs hx hs ∙ got-is (omega arith)
 
--- the bytes of a number in front
-pub length-front : (k n : ℕ) (e : List ℕ) → length (bytes k n ++ e) ≡ k + length e
-length-front k n e = length-append (bytes k n) e ∙ ap (λ (i : ℕ). i + length e) (length-bytes k n)
-
 pub operand-read : {X : Type 0} (k : ℕ) (more : ℕ → List ℕ → Got X) (n : ℕ) (e r : List ℕ) → n < 256 ^ k → operand k more ((bytes k n ++ e) ++ r) ≡ more n (e ++ r)
-unfolding operand orElse
-operand-read k more n e r h =
-    let l : length (bytes k n) ≡ k = length-bytes k n in
-    let a : length (bytes k n ++ (e ++ r)) ≡ k + length (e ++ r) = length-front k n (e ++ r) in
-    let t : take k (bytes k n ++ (e ++ r)) ≡ bytes k n = subst (λ (i : ℕ). take i (bytes k n ++ (e ++ r)) ≡ bytes k n) l (take-append-seam (bytes k n) (e ++ r)) in
-    let d : drop k (bytes k n ++ (e ++ r)) ≡ e ++ r = subst (λ (i : ℕ). drop i (bytes k n ++ (e ++ r)) ≡ e ++ r) l (drop-append-seam (bytes k n) (e ++ r)) in
-    rw (append-assoc (bytes k n) e r, le-leb k (length (bytes k n ++ (e ++ r))) (omega arith), t, d, num-bytes k n h)
+operand-read k more n e r h = ap (operand k more) (append-assoc (bytes k n) e r) ∙ operand-front k more n (e ++ r) h
 
 pub named-read : {X R : Type 0} (nil : R) (cons : ℕ → X → R → R) (next : ℕ → ℕ) (child : List ℕ → Got X) (m least : ℕ) (ex er r : List ℕ) (x : X) (xs : R) (n : ℕ) → least ≤ m → m < nameEnd
     → child (ex ++ (er ++ r)) ≡ got x (length ex) → readNamed nil cons next child n (next m) (er ++ r) ≡ got xs (length er)

@@ -20,7 +20,8 @@ use Rattle.form.specs.Read.{readT, stepValue, stepV, readV}
 use Rattle.form.specs.Faults.{Shape}
 use Rattle.form.proofs.Commands.{ViewV, isNull, isBoolean, isNumber, isString, isTemporal, isRange, isList, isContext, isDefinition, isBuiltIn, isFeelType, isIrrelevant, View, isValue, isType}
 use Rattle.form.proofs.Commands.{isGap, isBeyond, view, kind-temporal}
-use Rattle.form.proofs.Exact.{got-is, bad-got, bytes-head, bytes-drop, length-front, operand-read, front-read, then-read, item-read, named-read, counted-read, Found, Sound, found-as}
+use Rattle.form.proofs.First.{length-front}
+use Rattle.form.proofs.Exact.{got-is, bad-got, bytes-head, bytes-drop, operand-read, front-read, then-read, item-read, named-read, counted-read, Found, Sound, found-as}
 use Rattle.form.proofs.Exact.{orElse-parts, got-parts, operand-parts, operand-below, operand-bytes, front-parts, then-parts, front-found, then-found, found-behind, RunLaws, run-sound}
 use Rattle.form.proofs.Exact.{NamedLaws, named-sound, counted-sound}
 use Rattle.form.proofs.ExactTypes.{read-enc, enc-read}

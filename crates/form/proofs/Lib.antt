@@ -1,6 +1,7 @@
+pub mod Numbers
+pub mod First
 pub mod Table
 pub mod Commands
-pub mod Numbers
 pub mod Runs
 pub mod Told
 pub mod Loops

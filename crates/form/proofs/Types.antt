@@ -12,7 +12,8 @@ use Rattle.form.specs.Limits.{nameWidth, typeLevels, typeRefusals}
 use Rattle.form.specs.Outcome.{done, _>>=_}
 use Rattle.form.specs.Form.{bytes, Bytes, enc, encBuilt, encFields, encTys, level, levelBuilt, levelFields, levelTys, countFields, Wf}
 use Rattle.form.specs.Read.{got, bad, readT, readType, readAnyType, checkType}
-use Rattle.form.proofs.Exact.{Found, found-inside, length-front}
+use Rattle.form.proofs.First.{length-front}
+use Rattle.form.proofs.Exact.{Found, found-inside}
 use Rattle.form.proofs.ExactTypes.{read-enc, enc-read}
 use Rattle.form.specs.ByteForm.{Accepted}
 use Rattle.form.proofs.Accepted.{all-parts, all-got, found-whole, whole-accepted, whole-accepts, read-same, level-told}

@@ -1,16 +1,16 @@
 -- The byte form, in one place: what the readers accept, what each of their refusals means, and how accepted types and types of any size are tied together.
 -- Assumes nothing.
-use Prim.Native.Nat.{ℕ, _+_, _<_, _≤_}
+use Prim.Native.Nat.{ℕ, suc, _+_, _<_, _≤_}
 use mathlib.Core.Path.{_≡_}
 use mathlib.Core.Logic.{_↔_, _⊎_}
-use mathlib.Core.List.{List, _++_}
+use mathlib.Core.List.{List, [], _∷_, _++_}
 use lib.ListN.{length, take}
 use Rattle.form.specs.Trees.{Ty, Val}
-use Rattle.form.specs.Limits.{mostBytes, typeLevels, valueLevels, typeRefusals, valueRefusals}
+use Rattle.form.specs.Limits.{nameWidth, nameEnd, mostBytes, typeLevels, valueLevels, typeRefusals, valueRefusals}
 use Rattle.form.specs.Outcome.{done, refused}
-use Rattle.form.specs.Faults.{Fault, place}
-use Rattle.form.specs.Form.{Bytes, enc, encV, level, levelV, Wf, WfV}
-use Rattle.form.specs.Read.{Got, got, bad, readT, readV, readType, readValue, readAnyType}
+use Rattle.form.specs.Faults.{Fault, Shape, Names, Level, place}
+use Rattle.form.specs.Form.{bytes, Bytes, enc, encV, level, levelV, Wf, WfV}
+use Rattle.form.specs.Read.{Got, got, bad, readFields, readEntries, readT, readV, readType, readValue, readAnyType}
 
 -- s is the encoding of x, x is well-formed, its level is at most `most`, and s has at most 16,384 bytes
 pub record Accepted {X : Type 0} (enc : X → List ℕ) (good : X → Type 0) (lv : X → ℕ) (most : ℕ) (s : List ℕ) (x : X) : Type 0 where
@@ -60,6 +60,11 @@ pub record ByteForm : Type 0 where
   -- 5 and 10: exactly when a well-formed tree within the limits stands at the front and bytes are left over
   pub value-left : (s : List ℕ) → Bytes s → (readValue s ≡ refused (valueRefusals + 4)) ↔ LeftOver encV WfV levelV valueLevels s
   pub type-left : (s : List ℕ) → Bytes s → (readType s ≡ refused (typeRefusals + 4)) ↔ LeftOver enc Wf level typeLevels s
+  -- Inside one argument: where a child must start but no byte stands, shape; next the level; and a name is judged before its entry's child, whatever stands behind it.
+  pub no-byte : (l : ℕ) → (readV l [] ≡ bad Shape) × (readT l [] ≡ bad Shape)
+  pub level-next : (b : ℕ) (s : List ℕ) → (readV 0 (b ∷ s) ≡ bad Level) × (readT 0 (b ∷ s) ≡ bad Level)
+  pub value-name : (l count least m : ℕ) (s : List ℕ) → m < nameEnd → m < least → readEntries (readV l) (suc count) least (bytes nameWidth m ++ s) ≡ bad Names
+  pub type-name : (l count least m : ℕ) (s : List ℕ) → m < nameEnd → m < least → readFields (readT l) (suc count) least (bytes nameWidth m ++ s) ≡ bad Names
   -- there is no other number
   pub value-numbers : (s : List ℕ) (n : ℕ) → readValue s ≡ refused n → (valueRefusals ≤ n) × (n ≤ valueRefusals + 4)
   pub type-numbers : (s : List ℕ) (n : ℕ) → readType s ≡ refused n → (typeRefusals ≤ n) × (n ≤ typeRefusals + 4)

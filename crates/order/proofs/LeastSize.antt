@@ -10,7 +10,7 @@ use Rattle.form.specs.Trees.{null, Ty, leaf, built, function, Leaf, l-null, l-b
 use Rattle.form.specs.Trees.{v-function, v-built-in, v-type, v-irrelevant, Vals, no-items, item, Entries, no-entries, entry}
 use Rattle.form.specs.Form.{enc, encLeaf, encParams, encV, encVals, encEntries, countParams, countVals, countEntries, countTys, level, levelFields, levelTys, levelParams, levelV, levelVals}
 use Rattle.form.specs.Form.{levelEntries, Wf, WfParams, WfV, WfVals, WfEntries}
-use Rattle.form.proofs.Exact.{length-front}
+use Rattle.form.proofs.First.{length-front}
 use Rattle.form.proofs.Numbers.{length-bytes}
 use Rattle.order.specs.Order.{Order}
 use Rattle.order.specs.Types.{sup}

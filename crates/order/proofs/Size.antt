@@ -13,7 +13,7 @@ use Rattle.form.specs.Trees.{any, Ty, leaf, built, Built, list, range, context,
 use Rattle.form.specs.Trees.{v-leaf, v-range, v-list, v-context, v-function, v-built-in, v-type, v-irrelevant}
 use Rattle.form.specs.Limits.{nameWidth}
 use Rattle.form.specs.Form.{enc, encBuilt, encFields, encTys, countFields, level, levelBuilt, levelFields, levelTys}
-use Rattle.form.proofs.Exact.{length-front}
+use Rattle.form.proofs.First.{length-front}
 use Rattle.order.specs.Order.{Dir, up, down, flip, pick, Order, top, bottom, scmp}
 use Rattle.order.specs.Types.{look, same-count, ignores, reduce, reduce-built, reduce-fields, reduce-tys, keep, place, bound, bound-built, common, merge, bounds, sup, sub}
 use Rattle.order.specs.Ascending.{Asc, AscBuilt, AscFields, AscTys}

@@ -15,7 +15,8 @@ use Rattle.form.specs.Trees.{Val, v-context, Entries, no-entries, entry}
 use Rattle.form.specs.Form.{bytes, num, numAt, Bytes, encV, encEntries, countEntries, levelV, levelEntries, WfV, WfEntries}
 use Rattle.form.specs.Read.{got, readV}
 use Rattle.form.proofs.Accepted.{found-whole}
-use Rattle.form.proofs.Exact.{Found, length-front}
+use Rattle.form.proofs.First.{length-front}
+use Rattle.form.proofs.Exact.{Found}
 use Rattle.form.proofs.ExactValues.{enc-readV, read-encV}
 use Rattle.form.proofs.Numbers.{length-bytes, num-bytes}
 use Rattle.order.specs.Size.{size-val, size-entries}
