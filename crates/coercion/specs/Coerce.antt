@@ -1,6 +1,5 @@
 -- Coercion on trees: `Value::coerced`, rule by rule.
 -- Assumes nothing.
-use Prim.Native.Nat.{ℕ}
 use mathlib.Core.Bool.{Bool, true, false, cond}
 use Rattle.form.specs.Trees.{Ty, leaf, built, list, range, context, function, Val, v-leaf, v-range, v-list, v-context, v-function, v-built-in, v-type, v-irrelevant, Vals, no-items, item}
 use Rattle.order.specs.Document.{conformsTo}

@@ -1,6 +1,6 @@
 -- DMN's implicit conversions of a data value, by types: conforms to, from singleton list, to singleton list; otherwise null.
 -- Assumes nothing.
-use mathlib.Core.Bool.{Bool, cond}
+use mathlib.Core.Bool.{cond}
 use Rattle.form.specs.Trees.{Ty, leaf, built, list, range, context, function, Val, v-leaf, v-range, v-list, v-context, v-function, v-built-in, v-type, v-irrelevant, Vals, no-items, item}
 use Rattle.order.specs.Dmn.{dmnConformsTo}
 use Rattle.order.specs.Inferred.{leastType}

@@ -1,7 +1,7 @@
 -- A type of any size: the reader without limits refuses for no level and no length, and an accepted type is one within the limits.
 -- Idea: as many levels as bytes are enough, since every level takes a byte (`read-fair`).
 -- Assumes nothing.
-use Prim.Native.Nat.{ℕ, zero, suc, _+_, _-_, _<_, _≤_}
+use Prim.Native.Nat.{ℕ, zero, suc, _+_, _<_, _≤_}
 use mathlib.Core.Path.{_≡_, sym}
 use mathlib.Core.Logic.{_↔_, _⊎_, inl, inr}
 use mathlib.Core.Bool.{Bool, true, false}

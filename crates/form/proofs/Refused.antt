@@ -9,14 +9,14 @@ use mathlib.Core.List.{List, [], _∷_, _++_, append-nil}
 use native.Mathlib.Omega.{arith}
 use lib.ListN.{length, length-append}
 use lib.Dec.{ltb, leb, eqb}
-use borrow.Author.Tests.{lt-ltb, le-ltb, le-leb, lt-leb, ltb-true, ltb-false, leb-true, leb-false, eq-eqb, ne-eqb, eqb-true, eqb-false}
+use borrow.Author.Tests.{lt-ltb, le-ltb, le-leb, lt-leb, ltb-true, ltb-false, leb-true, leb-false, ne-eqb, eqb-false}
 use Rattle.form.specs.Limits.{mostBytes}
 use Rattle.form.specs.Outcome.{Outcome, done, refused, _>>_, pick, check}
 use Rattle.form.specs.Faults.{Fault, Shape, Names, Level, place}
 use Rattle.form.specs.Form.{Bytes}
 use Rattle.form.specs.Read.{Got, got, bad, numberOf, all, readWhole}
 use Rattle.form.specs.ByteForm.{RightLength, LeftOver}
-use Rattle.form.proofs.Exact.{Sound, Found, got-parts, bad-got}
+use Rattle.form.proofs.Exact.{Sound}
 use Rattle.form.proofs.Accepted.{refused-done}
 
 pub refused-same : {X : Type 0} {n m : ℕ} → _≡_ {A = Outcome X} (refused n) (refused m) → n ≡ m

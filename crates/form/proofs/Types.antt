@@ -1,9 +1,9 @@
 -- The laws of the byte form of types.
 -- Assumes nothing.
-use Prim.Native.Nat.{ℕ, zero, suc, _+_, _<_, _≤_, max}
-use mathlib.Core.Path.{_≡_, refl, sym, ap, subst, _∙_}
+use Prim.Native.Nat.{ℕ, suc, _+_, _<_, _≤_}
+use mathlib.Core.Path.{_≡_, sym, ap, subst}
 use mathlib.Core.Logic.{_↔_}
-use mathlib.Core.List.{List, [], _∷_, _++_, append-nil}
+use mathlib.Core.List.{List, [], _++_, append-nil}
 use native.Mathlib.Omega.{arith}
 use lib.ListN.{length, take, length-append}
 use lib.Seq.{take-append-seam}
@@ -11,9 +11,9 @@ use Rattle.form.specs.Trees.{Ty, leaf, built, Built, list, range, contex
 use Rattle.form.specs.Limits.{nameWidth, typeLevels, typeRefusals}
 use Rattle.form.specs.Outcome.{done, _>>=_}
 use Rattle.form.specs.Form.{bytes, Bytes, enc, encBuilt, encFields, encTys, level, levelBuilt, levelFields, levelTys, countFields, Wf}
-use Rattle.form.specs.Read.{got, bad, readT, readType, readAnyType, checkType}
+use Rattle.form.specs.Read.{got, readT, readType, readAnyType, checkType}
 use Rattle.form.proofs.First.{length-front}
-use Rattle.form.proofs.Exact.{Found, found-inside}
+use Rattle.form.proofs.Exact.{found-inside}
 use Rattle.form.proofs.ExactTypes.{read-enc, enc-read}
 use Rattle.form.specs.ByteForm.{Accepted}
 use Rattle.form.proofs.Accepted.{all-parts, all-got, found-whole, whole-accepted, whole-accepts, read-same, level-told}

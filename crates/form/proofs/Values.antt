@@ -1,18 +1,18 @@
 -- The laws of the byte form of values.
 -- Assumes nothing.
-use Prim.Native.Nat.{ℕ, zero, suc, _+_, _<_, _≤_, max}
-use mathlib.Core.Path.{_≡_, refl, sym, ap, subst, _∙_}
+use Prim.Native.Nat.{ℕ, _+_, _<_, _≤_}
+use mathlib.Core.Path.{_≡_, ap}
 use mathlib.Core.Logic.{_↔_}
-use mathlib.Core.List.{List, [], _∷_, _++_}
+use mathlib.Core.List.{List, [], _++_}
 use native.Mathlib.Omega.{arith}
 use lib.ListN.{length, take}
 use lib.Seq.{take-append-seam}
-use Rattle.form.specs.Trees.{Leaf, l-null, l-boolean, l-number, l-string, l-temporal, Val, v-leaf, v-range, v-list, v-context, v-function, v-built-in, v-type, v-irrelevant}
+use Rattle.form.specs.Trees.{l-null, l-boolean, l-number, l-string, l-temporal, Val, v-leaf, v-range, v-list, v-context, v-function, v-built-in, v-type, v-irrelevant}
 use Rattle.form.specs.Limits.{valueLevels, valueRefusals}
 use Rattle.form.specs.Outcome.{done, _>>=_}
 use Rattle.form.specs.Form.{Bytes, encLeaf, encV, levelV, WfV}
 use Rattle.form.specs.Read.{got, readV, readValue, checkValue}
-use Rattle.form.proofs.Exact.{Found, found-inside}
+use Rattle.form.proofs.Exact.{found-inside}
 use Rattle.form.proofs.ExactValues.{read-encV, enc-readV}
 use Rattle.form.specs.ByteForm.{Accepted}
 use Rattle.form.proofs.Accepted.{whole-accepted, whole-accepts, read-same, level-told}

@@ -10,7 +10,7 @@ use Rattle.form.specs.Limits.{nameWidth, nameEnd, mostBytes, typeLevels,
 use Rattle.form.specs.Outcome.{done, refused}
 use Rattle.form.specs.Faults.{Fault, Shape, Names, Level, place}
 use Rattle.form.specs.Form.{bytes, Bytes, enc, encV, level, levelV, Wf, WfV}
-use Rattle.form.specs.Read.{Got, got, bad, readFields, readEntries, readT, readV, readType, readValue, readAnyType}
+use Rattle.form.specs.Read.{got, bad, readFields, readEntries, readT, readV, readType, readValue, readAnyType}
 
 -- s is the encoding of x, x is well-formed, its level is at most `most`, and s has at most 16,384 bytes
 pub record Accepted {X : Type 0} (enc : X → List ℕ) (good : X → Type 0) (lv : X → ℕ) (most : ℕ) (s : List ℕ) (x : X) : Type 0 where

@@ -13,8 +13,8 @@ use lib.Dec.{leb}
 use borrow.Author.Tests.{le-leb, leb-true}
 use Rattle.form.specs.Outcome.{done, _>>=_, _>>_, check, fits}
 use Rattle.form.specs.Limits.{valueLevels, typeLevels, mostBytes}
-use Rattle.form.specs.Trees.{Ty, Val}
-use Rattle.form.specs.Form.{Bytes, enc, encV, level, levelV, Wf, WfV}
+use Rattle.form.specs.Trees.{Ty}
+use Rattle.form.specs.Form.{enc, encV, level, levelV, Wf, WfV}
 use Rattle.form.specs.Read.{readType, readValue}
 use Rattle.form.specs.ByteForm.{Accepted}
 use Rattle.form.proofs.Answered.{done-same, bind-done, check-done, fits-done}
