@@ -248,6 +248,7 @@ same-bytes a b =
 pub vote : Vote
 vote =
     record {
+      byte-form = byte-form;
       accepted-any = byte-form .accepted-any;
       any-some = byte-form .any-some;
       any-numbers = byte-form .any-numbers;

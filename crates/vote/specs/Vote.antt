@@ -15,6 +15,7 @@ use Rattle.form.specs.Limits.{mostBytes, typeLevels}
 use Rattle.form.specs.Outcome.{done, refused}
 use Rattle.form.specs.Trees.{Ty, Val}
 use Rattle.form.specs.Form.{Bytes, enc, level}
+use Rattle.form.specs.ByteForm.{ByteForm}
 use Rattle.form.specs.Read.{readType, readValue, readAnyType}
 use Rattle.order.specs.Document.{conformsTo, reducedForm, supertype, subtype, eqTy}
 use Rattle.order.specs.Inferred.{valueConformsTo, isData, leastType}
@@ -131,7 +132,10 @@ pub record GreatestLowerBound (a b : AcceptedType) (s : List ℕ) : Type 0 where
   pub reduced : reducedForm (bound .type) ≡ bound .type
 
 pub record Vote : Type 0 where
-  -- 0. An accepted type is exactly a type of any size within the limits on level and length; no bytes are no type of any size. The reader of any size
+  -- 0. The byte form, whole: what the readers accept, and what each refusal means. 1 and 6 exactly by the length; 5 and 10 exactly when a well-formed record within the
+  -- limits stands at the front and bytes are left over; the others exactly by the first fault from the left.
+  pub byte-form : ByteForm
+  -- An accepted type is exactly a type of any size within the limits on level and length; no bytes are no type of any size. The reader of any size
   -- refuses for 7, 8 or 10 only: never for length or level.
   pub accepted-any : (s : List ℕ) → Bytes s → (t : Ty) → (readType s ≡ done t) ↔ ((readAnyType s ≡ done t) × ((level t ≤ typeLevels) × (length s ≤ mostBytes)))
   pub any-some : (s : List ℕ) (t : Ty) → readAnyType s ≡ done t → 0 < length s
