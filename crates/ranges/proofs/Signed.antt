@@ -1,7 +1,7 @@
 -- The order of keys is that of the whole numbers they mean. A key below 2^63 means itself, one from 2^63 on minus (2^64 less it): both sides of each law are
 -- comparisons of naturals once the signs are known.
 -- Assumes nothing.
-use mathlib.Core.Path.{_≡_, refl, sym, ap, _∙_}
+use mathlib.Core.Path.{_≡_, refl, sym, ap, subst, _∙_}
 use mathlib.Core.Bool.{Bool, true, false, cond, false≢true}
 use mathlib.Core.Logic.{_↔_, _⊎_, inl, inr}
 use Prim.Native.Nat.{ℕ, suc, _-_, _<_, _≤_, _^_}
@@ -9,18 +9,14 @@ use native.Mathlib.Omega.{arith}
 use lib.Dec.{T, leb}
 use lib.IntN.{ℤ, pos, negsuc}
 use lib.Signed.{leZ, _≤ℤ_}
-use borrow.Author.Tests.{leb-true, leb-false, le-leb, lt-leb, lt-ltb}
-use Rattle.ranges.specs.Ranges.{negative, signedLe}
+use borrow.Author.Tests.{leb-true, leb-false, le-leb, lt-leb, lt-ltb, eq-eqb}
+use Rattle.ranges.specs.Ranges.{negative, signedLe, key, in-order}
 use Rattle.ranges.specs.Signed.{meaning, Holds64, KeyOf, KeyOrder}
 
--- a test and its type
+-- a test that passed
 test-yes : (q : Bool) → T q → q ≡ true
 test-yes true t = refl
 test-yes false t = absurd t
-
-yes-test : (q : Bool) → q ≡ true → T q
-yes-test true e = tt
-yes-test false e = absurd (false≢true e)
 
 -- a key from 2^63 on, and one below
 below-zero : (k : ℕ) → k < 2 ^ 64 → negative k ≡ true → meaning k ≡ negsuc (2 ^ 64 - suc k)
@@ -48,7 +44,11 @@ order-test a b h g = go (negative a) refl (negative b) refl
 whole : (a b : ℕ) → a < 2 ^ 64 → b < 2 ^ 64 → (signedLe a b ≡ true) ↔ (meaning a ≤ℤ meaning b)
 whole a b h g =
     let e = order-test a b h g in
-    ((λ y. record { le = yes-test (leZ (meaning a) (meaning b)) (sym e ∙ y) }), (λ l. e ∙ test-yes (leZ (meaning a) (meaning b)) (l .le)))
+    ((λ y. record { le = subst T (sym y ∙ e) tt }), (λ l. e ∙ test-yes (leZ (meaning a) (meaning b)) (l .le)))
+
+-- of one kind
+not-less : (i j k a b : ℕ) → a < 2 ^ 64 → b < 2 ^ 64 → (in-order i j (key k a) (key k b) ≡ true) ↔ (meaning a ≤ℤ meaning b)
+not-less i j k a b h g = rw (eq-eqb k k refl) (whole a b h g)
 
 held : (a : ℕ) → a < 2 ^ 64 → Holds64 (meaning a)
 held a h = go (negative a) refl
@@ -58,12 +58,12 @@ held a h = go (negative a) refl
     go false e = rw (from-zero a e) (leb-false (2 ^ 63) a e)
 
 key-of : (z : ℤ) → Holds64 z → KeyOf z
-key-of (pos n) h = record { key = n; eight-bytes = omega arith; means = from-zero n (lt-leb (2 ^ 63) n h) }
+key-of (pos n) h = record { of = n; eight-bytes = omega arith; means = from-zero n (lt-leb (2 ^ 63) n h) }
 key-of (negsuc n) h =
     let k = 2 ^ 64 - suc n in
     let l : k < 2 ^ 64 = omega arith in
     let b : 2 ^ 64 - suc k ≡ n = omega arith in
-    record { key = k; eight-bytes = l; means = below-zero k l (le-leb (2 ^ 63) k (omega arith)) ∙ ap negsuc b }
+    record { of = k; eight-bytes = l; means = below-zero k l (le-leb (2 ^ 63) k (omega arith)) ∙ ap negsuc b }
 
 -- ---- a total order of keys
 same-key : (a : ℕ) → signedLe a a ≡ true
@@ -90,8 +90,8 @@ module _ (a b : ℕ) where
       go false true e = absurd (false≢true e)
       go false false e = leb-true a b e
 
-  in-order : Ordered (negative a) (negative b) a b → signedLe a b ≡ true
-  in-order h = go (negative a) (negative b) h
+  ordered-le : Ordered (negative a) (negative b) a b → signedLe a b ≡ true
+  ordered-le h = go (negative a) (negative b) h
     where
       go : (p q : Bool) → Ordered p q a b → cond p (cond q (leb a b) true) (cond q false (leb a b)) ≡ true
       go true true e = le-leb a b e
@@ -129,18 +129,19 @@ pub key-order : KeyOrder
 key-order =
     record {
       whole-numbers = whole;
+      not-smaller = not-less;
       in-range = held;
       every-number = key-of;
       one-key = λ a b h g e. antisym a b (same a b h g e) (same b a g h (sym e));
       reflexive = same-key;
-      transitive = λ a b c g h. in-order a c (trans-by (negative a) (negative b) (negative c) a b c (ordered a b g) (ordered b c h));
+      transitive = λ a b c g h. ordered-le a c (trans-by (negative a) (negative b) (negative c) a b c (ordered a b g) (ordered b c h));
       total = λ a b. either a b (total-by (negative a) (negative b) a b (leb a b) refl);
       antisymmetric = antisym;
     }
   where
     either : (a b : ℕ) → Ordered (negative a) (negative b) a b ⊎ Ordered (negative b) (negative a) b a → (signedLe a b ≡ true) ⊎ (signedLe b a ≡ true)
-    either a b (inl h) = inl (in-order a b h)
-    either a b (inr h) = inr (in-order b a h)
+    either a b (inl h) = inl (ordered-le a b h)
+    either a b (inr h) = inr (ordered-le b a h)
 
     same : (a b : ℕ) → a < 2 ^ 64 → b < 2 ^ 64 → meaning a ≡ meaning b → signedLe a b ≡ true
     same a b h g e = order-test a b h g ∙ ap (leZ (meaning a)) (sym e) ∙ sym (order-test a a h h) ∙ same-key a

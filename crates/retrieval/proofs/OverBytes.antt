@@ -16,6 +16,7 @@ use Rattle.form.specs.Read.{readValue}
 use Rattle.form.proofs.Encoded.{bytes-encV}
 use Rattle.form.proofs.Types.{type-accepted}
 use Rattle.form.proofs.Values.{value-accepted, value-accepts}
+use Rattle.order.specs.Ascending.{Asc}
 use Rattle.order.specs.Inferred.{valueConformsTo}
 use Rattle.order.proofs.Simple.{same-eq}
 use Rattle.order.proofs.WellFormed.{asc-of}
@@ -23,10 +24,12 @@ use Rattle.types.specs.Calls.{isYes}
 use Rattle.values.specs.Calls.{isConformant}
 use Rattle.retrieval.specs.Retrieve.{retrieve, nothing, is-null, or-nothing}
 use Rattle.retrieval.specs.Retrieval.{There}
+use Rattle.retrieval.specs.ByNames.{retrieveByNames}
 use Rattle.retrieval.specs.Filling.{Accepted}
 use Rattle.retrieval.specs.Calls.{result, getValueCheckedCall, getConformantValueCall}
-use Rattle.retrieval.specs.OverBytes.{Conformant, RetrievedBytes, OverBytes}
+use Rattle.retrieval.specs.OverBytes.{Conformant, RetrievedBytes, resultOf, OverBytes}
 use Rattle.retrieval.proofs.Theorems.{less-val, there}
+use Rattle.retrieval.proofs.ByNames.{by-names}
 use Rattle.retrieval.proofs.Calling.{well, checked-is, checked-err, retrieved-within, value-short, conformant-is, nothing-is, null-type, null-target, not-conformant, is-conformant}
 
 -- an answer or 18
@@ -43,8 +46,16 @@ module _ (t v : List ℕ) (A : Accepted t v) where
   unfolding isConformant _>>=_
   said q h = let z : done (valueConformsTo (A .value) (A .type)) ≡ done q = rw (A .read-v, A .read-t) at h in cc
 
+  ascends : Asc (A .type)
+  ascends = asc-of (A .type) (type-accepted t (A .bytes-t) (A .type) (A .read-t) .well)
+
   found : valueConformsTo (A .value) (A .type) ≡ true → There (A .value) (A .type)
-  found h = there (A .value) (A .type) (well t v A) (asc-of (A .type) (type-accepted t (A .bytes-t) (A .type) (A .read-t) .well)) h
+  found h = there (A .value) (A .type) (well t v A) ascends h
+
+  -- over the type's names
+  named : (room : ℕ) → getValueCheckedCall t v room ≡ resultOf room (retrieveByNames (A .value) (A .type))
+  unfolding getValueCheckedCall _>>=_
+  named room = rw (A .read-t, A .read-v, by-names (A .value) (A .type) (well t v A) ascends)
 
   -- what was retrieved is read back
   module _ (w : Val) (e : retrieve (A .value) (A .type) ≡ some w) where
@@ -112,6 +123,7 @@ module _ (t v : List ℕ) (A : Accepted t v) where
 pub over-bytes : OverBytes
 over-bytes =
     record {
+      by-names = named;
       behind-conformance = λ t v c. retrieved t v (c .both) (c .yes);
       never-15 = λ t v c room e.
           let R = retrieved t v (c .both) (c .yes) in

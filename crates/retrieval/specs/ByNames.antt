@@ -9,32 +9,32 @@ use Rattle.form.specs.Trees.{Ty, Fields, no-fields, field, Val, v-leaf, v-range
 use Rattle.retrieval.specs.Retrieve.{mapped, both, copied, retrieve-leaf, by-range, by-function, by-any, by-list, by-context}
 
 -- the type's names in their order: of each what `one` says, given what comes of the later names
-unfoldable pub over-names : (ℕ → Ty → Option Entries → Option Entries) → Fields → Option Entries
-over-names one no-fields = some no-entries
-over-names one (field n t fs) = one n t (over-names one fs)
+unfoldable pub overNames : (ℕ → Ty → Option Entries → Option Entries) → Fields → Option Entries
+overNames one no-fields = some no-entries
+overNames one (field n t fs) = one n t (overNames one fs)
 
 unfoldable mutual
   -- Err is none
-  pub retrieve-by-names : Val → Ty → Option Val
-  retrieve-by-names (v-leaf l) t = retrieve-leaf l t
-  retrieve-by-names (v-range i j v w) t = copied (by-range t) (v-range i j v w)
-  retrieve-by-names (v-list vs) t = by-list t (v-list vs) (λ u. mapped v-list (items-by-names vs u))
+  pub retrieveByNames : Val → Ty → Option Val
+  retrieveByNames (v-leaf l) t = retrieve-leaf l t
+  retrieveByNames (v-range i j v w) t = copied (by-range t) (v-range i j v w)
+  retrieveByNames (v-list vs) t = by-list t (v-list vs) (λ u. mapped v-list (itemsByNames vs u))
   -- "keeps the type's names that are present, each retrieved, missing ones skipped"
-  retrieve-by-names (v-context es) t = by-context t (v-context es) (λ fs. mapped v-context (over-names (λ n u later. of-name es n u later) fs))
-  retrieve-by-names (v-function ps b r) t = copied (by-function t) (v-function ps b r)
-  retrieve-by-names (v-built-in b) t = copied (by-any t) (v-built-in b)
-  retrieve-by-names (v-type a) t = copied (by-any t) (v-type a)
-  retrieve-by-names v-irrelevant t = copied (by-any t) v-irrelevant
+  retrieveByNames (v-context es) t = by-context t (v-context es) (λ fs. mapped v-context (overNames (λ n u later. ofName es n u later) fs))
+  retrieveByNames (v-function ps b r) t = copied (by-function t) (v-function ps b r)
+  retrieveByNames (v-built-in b) t = copied (by-any t) (v-built-in b)
+  retrieveByNames (v-type a) t = copied (by-any t) (v-type a)
+  retrieveByNames v-irrelevant t = copied (by-any t) v-irrelevant
 
-  pub items-by-names : Vals → Ty → Option Vals
-  items-by-names no-items t = some no-items
-  items-by-names (item v vs) t = both item (retrieve-by-names v t) (items-by-names vs t)
+  pub itemsByNames : Vals → Ty → Option Vals
+  itemsByNames no-items t = some no-items
+  itemsByNames (item v vs) t = both item (retrieveByNames v t) (itemsByNames vs t)
 
   -- one name of the type, before the later ones: present in the value, retrieved by its type; absent, skipped
-  pub of-name : Entries → ℕ → Ty → Option Entries → Option Entries
-  of-name no-entries n t later = later
-  of-name (entry m v es) n t later = cond (eqb n m) (both (entry n) (retrieve-by-names v t) later) (of-name es n t later)
+  pub ofName : Entries → ℕ → Ty → Option Entries → Option Entries
+  ofName no-entries n t later = later
+  ofName (entry m v es) n t later = cond (eqb n m) (both (entry n) (retrieveByNames v t) later) (ofName es n t later)
 
 -- the entries of a context, by the names of a context type
-abbrev pub entries-by-names : Entries → Fields → Option Entries
-entries-by-names es fs = over-names (λ n u later. of-name es n u later) fs
+abbrev pub entriesByNames : Entries → Fields → Option Entries
+entriesByNames es fs = overNames (λ n u later. ofName es n u later) fs

@@ -3,13 +3,16 @@
 use Prim.Native.Nat.{ℕ, _≤_}
 use mathlib.Core.Path.{_≡_}
 use mathlib.Core.Bool.{true, false}
+use mathlib.Core.Option.{Option}
 use mathlib.Core.List.{List, [], _∷_}
 use lib.ListN.{length}
 use Rattle.form.specs.Form.{Bytes}
-use Rattle.form.specs.Outcome.{done, refused, fits}
+use Rattle.form.specs.Trees.{Val}
+use Rattle.form.specs.Outcome.{Outcome, done, refused, _>>=_, orRefuse, fits}
 use Rattle.values.specs.Calls as values
 use Rattle.retrieval.specs.Filling.{Accepted}
-use Rattle.retrieval.specs.Calls.{getValueCheckedCall, getConformantValueCall}
+use Rattle.retrieval.specs.ByNames.{retrieveByNames}
+use Rattle.retrieval.specs.Calls.{result, getValueCheckedCall, getConformantValueCall}
 
 -- an accepted type, an accepted value, and the call for conformance says yes
 pub record Conformant (t v : List ℕ) : Type 0 where
@@ -24,8 +27,16 @@ pub record RetrievedBytes (t v : List ℕ) : Type 0 where
   pub no-longer : length answer ≤ length v
   pub conforms-too : values.isConformant answer t ≡ done true
 
+-- 15: Err; 17, 18
+abbrev pub resultOf : ℕ → Option Val → Outcome (List ℕ)
+resultOf room o = do
+  x ← orRefuse 15 o
+  result room x
+
 pub record OverBytes : Type 0 where
-  -- `get_value_checked` behind conformance: "which then never meets 15"
+  -- `get_value_checked` is retrieval over the type's names, as document 01 says it: 15 is its Err
+  pub by-names : (t v : List ℕ) (a : Accepted t v) (room : ℕ) → getValueCheckedCall t v room ≡ resultOf room (retrieveByNames (a .value) (a .type))
+  -- behind conformance: "which then never meets 15"
   pub behind-conformance : (t v : List ℕ) → Conformant t v → RetrievedBytes t v
   pub never-15 : (t v : List ℕ) → Conformant t v → (room : ℕ) → getValueCheckedCall t v room ≡ refused 15 → ⊥
   -- room for the value is room for what is retrieved of it

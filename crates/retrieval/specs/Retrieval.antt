@@ -1,4 +1,4 @@
--- What is stated of retrieval on trees, for every value and type that are well-formed.
+-- What is stated of retrieval on trees.
 -- Assumes nothing.
 use Prim.Native.Nat.{_≤_}
 use mathlib.Core.Path.{_≡_}
@@ -9,7 +9,7 @@ use Rattle.form.specs.Form.{levelV, Wf, WfV}
 use Rattle.order.specs.Size.{size-val}
 use Rattle.order.specs.Inferred.{valueConformsTo}
 use Rattle.retrieval.specs.Retrieve.{retrieve, retrieve-entries}
-use Rattle.retrieval.specs.ByNames.{retrieve-by-names, entries-by-names}
+use Rattle.retrieval.specs.ByNames.{retrieveByNames, entriesByNames}
 
 -- what is retrieved of a value, and that it conforms
 pub record There (v : Val) (t : Ty) : Type 0 where
@@ -19,9 +19,9 @@ pub record There (v : Val) (t : Ty) : Type 0 where
 
 pub record Retrieval : Type 0 where
   -- over the type's names or over the value's entries: the same value, or Err by both
-  pub by-names : (v : Val) (t : Ty) → WfV v → Wf t → retrieve-by-names v t ≡ retrieve v t
+  pub by-names : (v : Val) (t : Ty) → WfV v → Wf t → retrieveByNames v t ≡ retrieve v t
   -- so of a context: the same entries, or Err by both
-  pub same-entries : (es : Entries) (fs : Fields) → WfV (v-context es) → Wf (built (context fs)) → entries-by-names es fs ≡ retrieve-entries es fs
+  pub same-entries : (es : Entries) (fs : Fields) → WfV (v-context es) → Wf (built (context fs)) → entriesByNames es fs ≡ retrieve-entries es fs
   -- behind conformance there always is a value: 15 is never met; and it conforms
   pub behind-conformance : (v : Val) (t : Ty) → WfV v → Wf t → valueConformsTo v t ≡ true → There v t
   -- never longer nor deeper than the value, and well-formed: 17 is never met
