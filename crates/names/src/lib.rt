@@ -636,7 +636,7 @@ fn text_by(t: &[u8], table: &[u8], marks: &[u16], spare: &mut [u8], out: &mut [u
     ensures { λ r. ⌜ Built (displayCall (now (t .entry)) (now (table .entry)) (length (now (out .entry)))) (now (out .entry)) (now (out .exit)) r ⌝ }
 {
     match show(t, table, marks, spare, TYPE_LEVELS) {
-        Shown::No => Written::Refused(20),
+        Shown::No => Written::Refused(20), // before the room is looked at
         Shown::Yes { read: _, wrote: n } => {
             if n <= spare.len() {
                 return retrieval::give(&spare[..n], out);
