@@ -1,1 +1,3 @@
 pub mod Halving
+pub mod Texts
+pub mod LowWord

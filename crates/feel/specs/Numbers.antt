@@ -1,10 +1,6 @@
 -- The number that an exported function answers: high word 0 and the answer in the low word; high word 1, refused, and the refusal's number;
 -- high word 2, none or unknown.
--- Every answer is below 2^32, so none reads as a refusal. A level is at most 32, a count below 2^16, a command below 2^8; a part has its halves (`Halves`).
--- What is written is short too. A value has at most 16,384 bytes (17). A supertype or subtype is no longer than both types (`size-bound`), a reduced form
--- than its type (`size-reduce`), the type of a value than the value (`size-least`, `size-type-of`), that of a built-in function than 4 bytes; a name is no
--- longer than its parts and a trimmed text than the text, each at most 16,384 bytes (19). Display writes at most 259 bytes for each byte of its type: a text
--- of the table has at most 255, and the marks around it 4.
+-- Every answer is below 2^32, so none reads as a refusal: specs/LowWord.antt.
 -- Assumes nothing.
 use Prim.Native.Nat.{ℕ, _+_, _*_, _<_, _^_}
 use mathlib.Core.Path.{_≡_}

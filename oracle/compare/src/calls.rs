@@ -485,7 +485,7 @@ pub const CALLS: [Call; 49] = [
     Call {
         name: "names_trim",
         gives: Gives::Length,
-        refusals: &[18],
+        refusals: &[18, 19],
         generate: |options, each| {
             names_cases::built(names_cases::strings, names_answers::trim, options, each)
         },
