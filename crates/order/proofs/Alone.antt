@@ -1,4 +1,5 @@
--- Document 01's sentences that hold by computing alone, over every order among the simple types: this file rests on the definitions only.
+-- Document 01's sentences that hold by computing alone, over every order among the simple types. The file rests on the definitions only and is checked first: a
+-- definition that breaks one of these sentences is refused here.
 -- Assumes nothing.
 use mathlib.Core.Path.{_≡_, refl, sym, _∙_, ap}
 use mathlib.Core.Bool.{Bool, true, false, not, cond, _&&_, _||_}
@@ -135,7 +136,7 @@ module _ (O : Order) where
   unfolding bound reduce
   sub-functions-other ps qs r s h = ap (λ q. reduce O (cond q (built (function (bounds O up ps qs) (bound O down r s))) (leaf null))) h
 
-  -- no common name, and all names
+  -- a first context without names: no common name, and all names are the second's
   pub sup-fields-none : (gs : Fields) → sup-fields O no-fields gs ≡ no-fields
   unfolding bound reduce
   sup-fields-none gs = refl

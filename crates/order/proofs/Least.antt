@@ -10,9 +10,9 @@ use Rattle.form.specs.Trees.{any, null, Ty, leaf, built, list, range, context, 
 use Rattle.form.specs.Trees.{v-function, v-built-in, v-type, v-irrelevant, Vals, no-items, item, Entries, no-entries, entry}
 use Rattle.form.specs.Form.{WfParams, WfV, WfVals, WfEntries}
 use Rattle.order.specs.Order.{up, Order, Laws}
-use Rattle.order.specs.Types.{all-fields, cmp, cmps, has, le, reduce, reduce-fields, bound, sup}
+use Rattle.order.specs.Types.{all-fields, cmp, has, le, reduce, reduce-fields, bound, sup}
 use Rattle.order.specs.Ascending.{Asc, AscTys, AscFields}
-use Rattle.order.specs.Values.{types-of, to-range, to-list, to-context, to-function, conforms, all-conform, has-value, is-data, are-data, hold-data, least, least-items, least-entries}
+use Rattle.order.specs.Values.{types-of, to-range, to-list, to-context, conforms, all-conform, has-value, is-data, are-data, hold-data, least, least-items, least-entries}
 use Rattle.order.proofs.Simple.{and-left, and-right}
 use Rattle.order.proofs.Bools.{and-assoc, and-true}
 use Rattle.order.proofs.Conform.{all-ext, reduce-reduce}
@@ -167,7 +167,7 @@ module _ (O : Order) (L : Laws O) where
         (λ fs. all-ext (λ n u. has-value O es n u) (λ n u. has O (least-entries O es) n u) fs (λ n u. conforms-entry es n u h))
         ∙ sym (le-context O (least-entries O es) t)
     conforms-least (v-function ps b r) t h =
-        definition-strict (O .strict) (cmp O up (built (function (types-of ps) r)) t) (to-function O t (λ qs s. cmps O up (types-of ps) qs && cmp O up r s)) h
+        definition-strict (O .strict) (cmp O up (built (function (types-of ps) r)) t) _ h
         ∙ sym (le-reduce-left O L (built (function (types-of ps) r)) t)
     conforms-least (v-built-in b) t h = absurd (false≢true h)
     conforms-least (v-type a) t h = absurd (false≢true h)

@@ -14,6 +14,7 @@ use Rattle.order.specs.Values.{types-of}
 abbrev pub strictOrder : Order
 strictOrder = flat-order true
 
+-- A ≤ B by DMN
 abbrev pub dmnConformsTo : Ty → Ty → Bool
 dmnConformsTo a b = le strictOrder a b
 
@@ -63,7 +64,7 @@ unfoldable mutual
   results-tys d (param a ps) no-params = true
   results-tys d (param a ps) (param b qs) = results d a b && results-tys d ps qs
 
--- where two functions without parameters meet, the result of the first conforms to that of the second by DMN
+-- wherever two functions without parameters meet in the comparison A ≤ B, the result of the one conforms to that of the other by DMN, in the direction compared there
 abbrev pub resultsConform : Ty → Ty → Bool
 resultsConform a b = results up a b
 
