@@ -66,4 +66,3 @@ pub record Coercion : Type 0 where
   pub coerced-again : (v : Val) (t : Ty) → coerced (coerced v t) t ≡ coerced v t
   -- on data values it is DMN's implicit conversion, by types
   pub data-is-dmn-coercion : (v : Val) (t : Ty) → isData v ≡ true → coerced v t ≡ dmnCoerced v t
-

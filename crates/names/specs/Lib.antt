@@ -4,4 +4,3 @@ pub mod Tables
 pub mod Laws
 pub mod Calls
 pub mod Writing
-pub mod Examples

@@ -663,7 +663,7 @@ fn write_marked(t: &[u8], table: &[u8], marks: &[u16], out: &mut [u8]) -> Writte
         return text_by(t, table, marks, &mut few, out);
     }
     if t.len() <= 1000 {
-        let mut many = [0u8; 16384];
+        let mut many = [0u8; MOST_BYTES];
         return text_by(t, table, marks, &mut many, out);
     }
     let mut none = [0u8; 1];
@@ -803,6 +803,6 @@ pub fn name_new(parts: &[u8], out: &mut [u8]) -> Written
         let mut few = [0u8; 512];
         return name_by(parts, &mut few, out);
     }
-    let mut many = [0u8; 16384];
+    let mut many = [0u8; MOST_BYTES];
     name_by(parts, &mut many, out)
 }

@@ -36,6 +36,64 @@ unfolding Holds All one null yes pair full part inferred least-of nested times l
     front andThen orElse operand readRun named readNamed readFlag readKey counted readFunction readRange signature readDefinition stepType stepT readT stepValue stepV readV
     numberOf all readWhole checkValue checkType cmp reduce bound look place same-count all-fields eqTy least is-data conforms typeOf types.isConformant leastTypeCall typeOfCall
     values.isConformant getValueCheckedCall coercedCall retrieve encV encLeaf countVals countEntries _>>=_ _>>_
-examples =
-    (refl, (refl, (refl, (refl, (refl, (refl, (refl, (refl, (refl, (refl, (refl, (refl, (refl, (refl, (refl, (refl, (refl, (refl, (refl, (refl,
-    (refl, (create-every, (apply-every, (refl, (refl, (refl, (refl, (refl, (refl, (refl, (refl, tt)))))))))))))))))))))))))))))))
+examples = (
+  refl,
+  (
+    refl,
+    (
+      refl,
+      (
+        refl,
+        (
+          refl,
+          (
+            refl,
+            (
+              refl,
+              (
+                refl,
+                (
+                  refl,
+                  (
+                    refl,
+                    (
+                      refl,
+                      (
+                        refl,
+                        (
+                          refl,
+                          (
+                            refl,
+                            (
+                              refl,
+                              (
+                                refl,
+                                (
+                                  refl,
+                                  (
+                                    refl,
+                                    (
+                                      refl,
+                                      (
+                                        refl,
+                                        (refl, (create-every, (apply-every, (refl, (refl, (refl, (refl, (refl, (refl, (refl, (refl, tt))))))))))),
+                                      ),
+                                    ),
+                                  ),
+                                ),
+                              ),
+                            ),
+                          ),
+                        ),
+                      ),
+                    ),
+                  ),
+                ),
+              ),
+            ),
+          ),
+        ),
+      ),
+    ),
+  ),
+)

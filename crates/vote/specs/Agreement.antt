@@ -48,7 +48,6 @@ pub record Agreement : Type 0 where
   -- `instance_of`: yes only where the type conforms by DMN.
   pub instance-conforms : (a b : AnyType) → isInstanceOf (a .type) (b .type) ≡ true → dmnConformsTo (a .type) (b .type) ≡ true
   pub instance-answers : (a b : AcceptedType) → types.instanceOf (a .bytes) (b .bytes) ≡ done true → dmnConformsTo (a .type) (b .type) ≡ true
-
   -- DATA VALUES, by their own type
   -- A data value conforms to a type, of any size, exactly when its least type does by DMN; no condition. So the call answers.
   pub values-agree : (v : DataValue) (t : AnyType) → valueConformsTo (v .value) (t .type) ≡ dmnConformsTo (leastType (v .value)) (t .type)
@@ -58,7 +57,6 @@ pub record Agreement : Type 0 where
   pub own-answer : (v : DataValue) (a : List ℕ) → TypeOfAnswered (v .bytes) a → values.isConformant (v .bytes) a ≡ done true
   -- Implicit conversion: what `coerced` answers of a data value is DMN's, by types, with the refusals 17 and 18 of the result.
   pub conversion : (v : DataValue) (t : AcceptedType) (room : ℕ) → coercedCall (v .bytes) (t .bytes) room ≡ result room (dmnCoerced (v .value) (t .type))
-
   -- FUNCTION DEFINITIONS, by their function type
   -- To a type, of any size, that is no function type: the two agree.
   pub definition-other : (ps : Params) (b : ℕ) (r : Ty) (t : AnyType) → ((qs : Tys) (s : Ty) → t .type ≡ built (function qs s) → ⊥)
