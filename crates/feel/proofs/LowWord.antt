@@ -11,7 +11,8 @@ use lib.Dec.{leb, eqb}
 use borrow.Author.Tests.{leb-true}
 use Rattle.form.specs.Limits.{mostBytes, valueLevels}
 use Rattle.form.specs.Form.{Bytes, enc, encV, levelV, countEntries}
-use Rattle.form.specs.Trees.{Simple, any, boolean, number, string, date, time, dateTime, daysAndTime, yearsAndMonths, null, Ty, leaf, built, function, no-params, param, Val, v-context, Entries, no-entries, entry}
+use Rattle.form.specs.Trees.{Simple, any, boolean, number, string, date, time, dateTime, daysAndTime, yearsAndMonths, null}
+use Rattle.form.specs.Trees.{Ty, leaf, built, function, no-params, param, Val, v-context, Entries, no-entries, entry}
 use Rattle.form.specs.Outcome.{Outcome, done, refused, _>>=_, _>>_, pick, check, orRefuse, fits}
 use Rattle.form.specs.Answers.{lengthOf}
 use Rattle.form.specs.Read.{readValue, readType}

@@ -18,7 +18,8 @@ use Rattle.form.proofs.Exact.{bytes-drop}
 use Rattle.order.specs.Size.{size, size-built, size-fields, size-tys}
 use Rattle.types.proofs.Reading.{never}
 use Rattle.retrieval.specs.Retrieve.{mapped, both}
-use Rattle.names.specs.Texts.{nameOf, listOpen, rangeOpen, contextOpen, functionOpen, comma, colon, arrow, close, nth, join, within, entryText, entriesText, signatureText, text, textBuilt, textsOfFields, textsOfTys}
+use Rattle.names.specs.Texts.{nameOf, listOpen, rangeOpen, contextOpen, functionOpen, comma, colon, arrow, close}
+use Rattle.names.specs.Texts.{nth, join, within, entryText, entriesText, signatureText, text, textBuilt, textsOfFields, textsOfTys}
 use Rattle.names.specs.Names.{trim, isMark, parted, space, added, pushed, nameNew}
 use Rattle.names.specs.Tables.{Rule, inTable, inParts, readTexts, countedTexts, countedParts, readTable, readParts}
 use Rattle.names.proofs.Tabling.{some-same, provided-got, end-none, read-zero, read-nil, texts-got}
@@ -112,14 +113,35 @@ module _ (ts : List (List ℕ)) (h : Small ts) where
     built-long (function ps r) s e =
         let M = mapped-some (λ s. functionOpen ++ s) (both signatureText (textsOfTys ts ps) (text ts r)) s e in
         let B = both-some signatureText (textsOfTys ts ps) (text ts r) (M .0) (M .1) in
-        omega (arith, ap length (M .2), length-append functionOpen (M .0), ap length (B .4), length-append (join (B .0)) (arrow ++ B .1), length-append arrow (B .1), tys-long ps (B .0) (B .2), text-long r (B .1) (B .3))
+        omega (
+          arith,
+          ap length (M .2),
+          length-append functionOpen (M .0),
+          ap length (B .4),
+          length-append (join (B .0)) (arrow ++ B .1),
+          length-append arrow (B .1),
+          tys-long ps (B .0)
+              (B .2),
+          text-long r (B .1) (B .3),
+        )
 
     fields-long : (fs : Fields) (es : List (List ℕ)) → textsOfFields ts fs ≡ some es → length (join es) ≤ 259 * size-fields fs
     fields-long no-fields es e = none-long es (some-same e)
     fields-long (field n t fs) es e =
         let B = both-some _∷_ (both entryText (nth ts n) (text ts t)) (textsOfFields ts fs) es e in
         let E = both-some entryText (nth ts n) (text ts t) (B .0) (B .2) in
-        omega (arith, ap (λ (x : List (List ℕ)). length (join x)) (B .4), join-more (B .0) (B .1), ap length (E .4), length-append (E .0) (colon ++ E .1), length-append colon (E .1), small-nth ts h n (E .0) (E .2), text-long t (E .1) (E .3), fields-long fs (B .1) (B .3))
+        omega (
+          arith,
+          ap (λ (x : List (List ℕ)). length (join x)) (B .4),
+          join-more (B .0) (B .1),
+          ap length (E .4),
+          length-append (E .0) (colon ++ E .1),
+          length-append colon
+              (E .1),
+          small-nth ts h n (E .0) (E .2),
+          text-long t (E .1) (E .3),
+          fields-long fs (B .1) (B .3),
+        )
 
     tys-long : (ps : Tys) (es : List (List ℕ)) → textsOfTys ts ps ≡ some es → length (join es) ≤ 259 * size-tys ps
     tys-long no-params es e = none-long es (some-same e)
@@ -151,8 +173,15 @@ pushed-long : (i : ℕ) (b : Bool) (r : List ℕ) (ps : List (List ℕ)) → len
 unfolding pushed
 pushed-long i b r [] = omega arith
 pushed-long i b r (p ∷ ps) =
-    omega
-    (arith, pushed-long (suc i) (isMark (trim p)) (r ++ added i b (trim p)) ps, length-append r (added i b (trim p)), length-append (space (parted i b (trim p))) (trim p), space-long (parted i b (trim p)), trim-shorter p)
+    omega (
+      arith,
+      pushed-long (suc i) (isMark (trim p)) (r ++ added i b (trim p)) ps,
+      length-append r (added i b (trim p)),
+      length-append (space (parted i b (trim p))) (trim p),
+      space-long
+          (parted i b (trim p)),
+      trim-shorter p,
+    )
 
 pub name-long-parts : (s : List ℕ) (ps : List (List ℕ)) → readParts s ≡ some ps → length (nameNew ps) ≤ mostBytes
 unfolding readParts

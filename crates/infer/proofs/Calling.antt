@@ -1,32 +1,28 @@
 -- The calls behind the reader: refusals in their order, and the answer from the scratch.
 -- Assumes nothing.
-use Prim.Native.Nat.{ℕ, _+_, _*_, _-_, _<_, _≤_}
+use Prim.Native.Nat.{ℕ, _*_, _<_, _≤_}
 use mathlib.Core.Path.{_≡_, refl, sym, ap, subst, _∙_}
 use mathlib.Core.Bool.{Bool, true, false, cond}
-use mathlib.Core.Option.{Option, none, some}
-use mathlib.Core.List.{List, [], _++_, append-nil}
+use mathlib.Core.Option.{Option, some}
+use mathlib.Core.List.{List, [], append-nil}
 use native.Mathlib.Omega.{arith}
 use lib.ListN.{length, take, drop, length-append}
-use lib.Dec.{leb}
 use borrow.Author.Tests.{le-leb, lt-leb}
 use Rattle.form.specs.Limits.{valueLevels, mostBytes}
 use Rattle.form.specs.Trees.{Val}
 use Rattle.form.specs.Form.{Bytes, enc, encV, levelV, WfV}
-use Rattle.form.specs.Outcome.{Outcome, done, refused, _>>=_, _>>_, check, fits, pick}
+use Rattle.form.specs.Outcome.{Outcome, done, refused, _>>=_, _>>_, fits}
 use Rattle.form.specs.Read.{readV, readValue, checkValue}
 use Rattle.form.specs.Answers.{onto, Built}
 use Rattle.form.specs.declared.Written.{Written}
 use Rattle.form.specs.declared.Written.the-variants as written-is
 use Rattle.form.specs.ByteForm.{Accepted}
 use Rattle.form.proofs.ExactValues.{read-encV}
-use Rattle.form.specs.Answers.{checked}
-use Rattle.form.specs.declared.Checked.{Checked}
 use Rattle.form.specs.declared.Checked.the-variants as checked-is
-use Rattle.form.proofs.Values.{ValueTold, value-told, value-accepted}
+use Rattle.form.proofs.Values.{value-told, value-accepted}
 use Rattle.order.specs.Size.{size-val}
-use Rattle.order.specs.Inferred.{isData, leastType, typeOf}
+use Rattle.order.specs.Inferred.{isData}
 use Rattle.order.proofs.LeastSize.{length-encV}
-use Rattle.order.proofs.Size.{length-enc}
 use Rattle.types.specs.At.{Ok}
 use Rattle.types.proofs.Reading.{got-seen, is-ok}
 use Rattle.values.specs.At.{valueAt}
@@ -158,7 +154,8 @@ module _ (s : List ℕ) (F : Fine s) (d : Data) (e : d ≡ dataBy isData size-va
       is : leastTypeCall s k (length old) ≡ refused 13
       is = rw (F .reads, told-no (isData (F .v)) (size-val (F .v)) (sym is-told ∙ p))
 
-pub least-done : (s : List ℕ) (F : Fine s) → isData (F .v) ≡ true → (k : ℕ) (old new : List ℕ) (r : Written) → Built (typeCall true s k (length old)) old new r → Built (leastTypeCall s k (length old)) old new r
+pub least-done : (s : List ℕ) (F : Fine s) → isData (F .v) ≡ true → (k : ℕ) (old new : List ℕ) (r : Written) → Built (typeCall true s k (length old)) old new r
+    → Built (leastTypeCall s k (length old)) old new r
 unfolding typeCall leastTypeCall _>>=_ _>>_
 least-done s F h k old new r b = subst (λ o. Built o old new r) is b
   where

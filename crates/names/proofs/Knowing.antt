@@ -1,20 +1,20 @@
 -- The names of the simple types: equal texts, the one name that a text can be, and whether it is one.
 -- Assumes nothing.
-use Prim.Native.Nat.{ℕ, zero, suc, _+_, _-_, _<_, _≤_}
+use Prim.Native.Nat.{ℕ, zero, suc, _+_, _<_, _≤_}
 use native.Mathlib.Omega.{arith}
 use native.Mathlib.Numerals.{add-one}
 use mathlib.Core.Path.{_≡_, refl, sym, ap, ap₂, subst, _∙_}
 use mathlib.Core.Bool.{Bool, true, false, cond, _&&_, _||_, false≢true}
 use mathlib.Core.Option.{Option, none, some}
 use mathlib.Core.List.{List, [], _∷_}
-use lib.ListN.{length, take, drop, getD, drop-of-length-le}
+use lib.ListN.{length, drop, getD, drop-of-length-le}
 use lib.Dec.{eqb}
 use borrow.Author.Tests.{eq-eqb, ne-eqb, eqb-true, eqb-false}
 use Rattle.form.specs.Trees.{Simple, decode}
 use Rattle.form.proofs.ExactTypes.{code-decode}
 use Rattle.order.proofs.Simple.{and-left, and-right}
 use Rattle.retrieval.specs.Retrieve.{mapped}
-use Rattle.names.specs.Texts.{nameOf, simples, command, sameText, Only, oneNamed, fromStr, isNamed, isBuiltInTypeName, letters, startOf}
+use Rattle.names.specs.Texts.{nameOf, simples, command, sameText, Only, oneNamed, fromStr, isNamed, isBuiltInTypeName}
 use Rattle.names.specs.Tables.{isRead}
 use Rattle.names.specs.Calls.{fromStrCall, known}
 use Rattle.names.specs.declared.Known.{Known}
@@ -129,7 +129,9 @@ pub only-string : (s : List ℕ) → length s ≡ 6 → (getD s 0 0 ≡ 0x6E →
 only-string s l d = only-long s 3 6 l (rw (ne-eqb (getD s 0 0) 0x6E d)) (omega arith)
 
 pub only-none : (s : List ℕ) → (length s ≡ 3 → ⊥) → (length s ≡ 4 → ⊥) → (length s ≡ 6 → ⊥) → (length s ≡ 7 → ⊥) → (length s ≡ 13 → ⊥) → (length s ≡ 22 → ⊥) → (length s ≡ 25 → ⊥) → Only s 10
-only-none s n3 n4 n6 n7 n13 n22 n25 = only s 10 (rw (ne-eqb (length s) 3 n3, ne-eqb (length s) 4 n4, ne-eqb (length s) 6 n6, ne-eqb (length s) 7 n7, ne-eqb (length s) 13 n13, ne-eqb (length s) 22 n22, ne-eqb (length s) 25 n25)) (omega arith)
+only-none s n3 n4 n6 n7 n13 n22 n25 = only s 10
+    (rw (ne-eqb (length s) 3 n3, ne-eqb (length s) 4 n4, ne-eqb (length s) 6 n6, ne-eqb (length s) 7 n7, ne-eqb (length s) 13 n13, ne-eqb (length s) 22 n22, ne-eqb (length s) 25 n25))
+    (omega arith)
 
 -- ---- the call
 module _ (s : List ℕ) (k : ℕ) (O : Only s k) where

@@ -114,14 +114,17 @@ above-all (suc c) a (m ∷ s) ts e n b p =
     go zero more ih h z = ap (lessText a) (sym (nth-first (take m s) b more z)) ∙ h
     go (suc k) more ih h z = less-trans a (take m s) b h (ih k (sym (nth-later (take m s) more k) ∙ z))
 
-in-order : (c : ℕ) (before : Option (List ℕ)) (s : List ℕ) (ts : List (List ℕ)) → readTexts inTable before c s ≡ some ts → (i j : ℕ) (a b : List ℕ) → i < j → nth ts i ≡ some a → nth ts j ≡ some b → lessText a b ≡ true
+in-order : (c : ℕ) (before : Option (List ℕ)) (s : List ℕ) (ts : List (List ℕ)) → readTexts inTable before c s ≡ some ts → (i j : ℕ) (a b : List ℕ) → i < j → nth ts i ≡ some a
+    → nth ts j ≡ some b → lessText a b ≡ true
 in-order zero before s ts e i j a b h p q = absurd (none-left before s ts i a e p)
 in-order (suc c) before [] ts e i j a b h p q = absurd (never (sym (read-nil inTable before c) ∙ e))
 in-order (suc c) before (m ∷ s) ts e i j a b h p q =
     let T = texts-got inTable before c m s ts e in
-    go i j (T .more) h (above-all c (take m s) (drop m s) (T .more) (T .next)) (λ k l. in-order c (some (take m s)) (drop m s) (T .more) (T .next) k l a b) (sym (ap (λ x. nth x i) (T .is)) ∙ p) (sym (ap (λ x. nth x j) (T .is)) ∙ q)
+    go i j (T .more) h (above-all c (take m s) (drop m s) (T .more) (T .next)) (λ k l. in-order c (some (take m s)) (drop m s) (T .more) (T .next) k l a b)
+    (sym (ap (λ x. nth x i) (T .is)) ∙ p) (sym (ap (λ x. nth x j) (T .is)) ∙ q)
   where
-    go : (i j : ℕ) (more : List (List ℕ)) → i < j → ((n : ℕ) (b : List ℕ) → nth more n ≡ some b → lessText (take m s) b ≡ true) → ((k l : ℕ) → k < l → nth more k ≡ some a → nth more l ≡ some b → lessText a b ≡ true)
+    go : (i j : ℕ) (more : List (List ℕ)) → i < j → ((n : ℕ) (b : List ℕ) → nth more n ≡ some b → lessText (take m s) b ≡ true)
+        → ((k l : ℕ) → k < l → nth more k ≡ some a → nth more l ≡ some b → lessText a b ≡ true)
         → nth (take m s ∷ more) i ≡ some a → nth (take m s ∷ more) j ≡ some b → lessText a b ≡ true
     go i zero more h f g y z = absurd (omega arith)
     go zero (suc l) more h f g y z = ap (λ (x : List ℕ). lessText x b) (sym (nth-first (take m s) a more y)) ∙ f l b (sym (nth-later (take m s) more l) ∙ z)

@@ -11,7 +11,7 @@ use lib.Dec.{eqb}
 use borrow.Author.Tests.{ne-eqb}
 use Rattle.form.specs.Limits.{nameWidth}
 use Rattle.form.specs.Trees.{Val, v-context, Entries, no-entries, entry}
-use Rattle.form.specs.Form.{Bytes, encV, countEntries}
+use Rattle.form.specs.Form.{countEntries}
 use Rattle.form.specs.Outcome.{Outcome, done, refused, _>>=_}
 use Rattle.order.specs.Size.{size-entries}
 use Rattle.order.proofs.LeastSize.{length-encV}

@@ -64,7 +64,8 @@ unfolding joined below above value-of WfEntries
 split n k no-entries w = refl
 split n k (entry m v es) w = go (w .1 .1 .1) (split n (m + 1) es (w .1 .1 .1)) (ltb m n) (ltb n m) refl refl
   where
-    go : WfEntries es (m + 1) → es ≡ joined (below n es) (put n (value-of n es) (above n es)) → (p q : Bool) → ltb m n ≡ p → ltb n m ≡ q → entry m v es ≡ joined (below n (entry m v es)) (put n (value-of n (entry m v es)) (above n (entry m v es)))
+    go : WfEntries es (m + 1) → es ≡ joined (below n es) (put n (value-of n es) (above n es)) → (p q : Bool) → ltb m n ≡ p → ltb n m ≡ q
+        → entry m v es ≡ joined (below n (entry m v es)) (put n (value-of n (entry m v es)) (above n (entry m v es)))
     go more ih true q hp hq =
         let h = ltb-true m n hp in
         let d : n ≡ m → ⊥ = λ e. omega arith in
@@ -73,7 +74,8 @@ split n k (entry m v es) w = go (w .1 .1 .1) (split n (m + 1) es (w .1 .1 .1)) (
     go more ih false true hp hq =
         let h = ltb-true n m hq in
         let d : n ≡ m → ⊥ = λ e. omega arith in
-        let a : put n (value-of n (entry m v es)) (above n (entry m v es)) ≡ entry m v es = ap₂ (put n) (value-later n m v es d ∙ value-absent n (m + 1) es (from-well es (m + 1) more) (omega arith)) (above-here n m v es h) in
+        let a : put n (value-of n (entry m v es)) (above n (entry m v es)) ≡ entry m v es = ap₂ (put n)
+        (value-later n m v es d ∙ value-absent n (m + 1) es (from-well es (m + 1) more) (omega arith)) (above-here n m v es h) in
         sym (ap₂ joined (below-none n m v es (omega arith)) a)
     go more ih false false hp hq =
         let i = ltb-false m n hp in
@@ -219,7 +221,8 @@ module _ (l n : ℕ) (s : List ℕ) (es : Entries) (x : Val) (bs : Bytes s) (C :
   D = encEntries (above n es)
 
   three-pieces : drop 3 s ≡ A ++ (B ++ D)
-  three-pieces = text-entries l s es bs C ∙ ap encEntries (split-some n 0 x es (well-entries l s es bs C) e) ∙ enc-joined (below n es) (entry n x (above n es)) ∙ ap (λ z. A ++ z) (text-some n x (above n es))
+  three-pieces = text-entries l s es bs C ∙ ap encEntries (split-some n 0 x es (well-entries l s es bs C) e) ∙ enc-joined (below n es) (entry n x (above n es))
+      ∙ ap (λ z. A ++ z) (text-some n x (above n es))
 
   entry-length : length B ≡ nameWidth + size-val x
   entry-length = omega (arith, length-front nameWidth n (encV x), length-encV x)
@@ -241,7 +244,11 @@ module _ (l n : ℕ) (s : List ℕ) (es : Entries) (x : Val) (bs : Bytes s) (C :
   pub part-some : take (size-val x) (drop (entry-place n es + nameWidth) s) ≡ encV x
   part-some =
       let i = size-entries (below n es) in
-      ap (take (size-val x)) (sym (drop-drop nameWidth (3 + i) s) ∙ ap (drop nameWidth) (behind-first s A B D i (nameWidth + size-val x) three-pieces (length-entries (below n es)) entry-length (C .three) ∙ append-assoc (bytes nameWidth n) (encV x) D) ∙ drop-at (bytes nameWidth n) (encV x ++ D) nameWidth (length-bytes nameWidth n))
+      ap (take (size-val x))
+      (sym (drop-drop nameWidth (3 + i) s)
+      ∙ ap (drop nameWidth)
+      (behind-first s A B D i (nameWidth + size-val x) three-pieces (length-entries (below n es)) entry-length (C .three) ∙ append-assoc (bytes nameWidth n) (encV x) D)
+      ∙ drop-at (bytes nameWidth n) (encV x ++ D) nameWidth (length-bytes nameWidth n))
       ∙ take-at (encV x) D (size-val x) (length-encV x)
 
   pub child-whole : wholeAt (l - 1) (take (size-val x) (drop (entry-place n es + nameWidth) s)) ≡ some x

@@ -9,7 +9,6 @@ use Rattle.names.proofs.is_mark.Reads as is-mark-reads
 use Rattle.names.proofs.put_part.Reads as put-part-reads
 use Rattle.names.proofs.trim.Reads as trim-reads
 use Rattle.names.proofs.Naming.{trimmed-room, part-added}
-use native.Mathlib.Omega.{arith}
 
 pub add-part-spec : {M : Type 1} → statement M
 add-part-spec =

@@ -8,7 +8,6 @@ use Rattle.names.proofs.trim.Lts as lts
 use Rattle.names.proofs.trim_end.Reads as trim-end-reads
 use Rattle.names.proofs.trim_start.Reads as trim-start-reads
 use Rattle.names.proofs.Trimming.{trimmed-length, trimmed, trimmed-place, trimmed-part}
-use native.Mathlib.Omega.{arith}
 
 pub trim-spec : {M : Type 1} → statement M
 trim-spec =
