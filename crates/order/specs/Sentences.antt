@@ -1,5 +1,5 @@
--- Document 01's sentences on types and values, one by one and in its order, at its own relation. What it says of reduced answers, of their length and of demand 3
--- is in specs/Theorems.antt and specs/ValueTheorems.antt; its examples are in crate vote.
+-- Document 01's sentences from "Type against type" to "Type as the Rust infers it", one by one and in its order, at its own relation. What it says there of reduced
+-- answers, of their length and of demand 3 is in specs/Theorems.antt and specs/ValueTheorems.antt; scratch and refusals are in the calls, examples in crate vote.
 -- Assumes nothing.
 use Prim.Native.Nat.{ℕ}
 use mathlib.Core.Path.{_≡_}
