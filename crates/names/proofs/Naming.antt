@@ -91,7 +91,7 @@ space-length : (q : Bool) → length (space q) ≤ 1
 space-length true = omega arith
 space-length false = omega arith
 
-added-length : (index : ℕ) (prev : Bool) (part : List ℕ) → length (added index prev part) ≤ length part + 1
+pub added-length : (index : ℕ) (prev : Bool) (part : List ℕ) → length (added index prev part) ≤ length part + 1
 added-length index prev part = omega (arith, length-append (space (parted index prev part)) part, space-length (parted index prev part))
 
 module _ (part trimmed : List ℕ) (e : trimmed ≡ trim part) where
