@@ -7,14 +7,14 @@ use mathlib.Core.Path.{_≡_, refl, sym, ap, ap₂, subst, _∙_}
 use mathlib.Core.Bool.{Bool, true, false, cond, _&&_, _||_, false≢true}
 use mathlib.Core.Option.{Option, none, some}
 use mathlib.Core.List.{List, [], _∷_}
-use lib.ListN.{length, take, drop, getD, drop-of-length-le}
+use lib.ListN.{length, drop, getD, drop-of-length-le}
 use lib.Dec.{eqb}
 use borrow.Author.Tests.{eq-eqb, ne-eqb, eqb-true, eqb-false}
 use Rattle.form.specs.Trees.{Simple, decode}
 use Rattle.form.proofs.ExactTypes.{code-decode}
 use Rattle.order.proofs.Simple.{and-left, and-right}
 use Rattle.retrieval.specs.Retrieve.{mapped}
-use Rattle.names.specs.Texts.{nameOf, simples, command, sameText, Only, oneNamed, fromStr, isNamed, isBuiltInTypeName, letters, startOf}
+use Rattle.names.specs.Texts.{nameOf, simples, command, sameText, Only, oneNamed, fromStr, isNamed, isBuiltInTypeName}
 use Rattle.names.specs.Tables.{isRead}
 use Rattle.names.specs.Calls.{fromStrCall, known}
 use Rattle.names.specs.declared.Known.{Known}

@@ -8,7 +8,7 @@ use mathlib.Core.Bool.{Bool, true, false, cond, not, _&&_}
 use mathlib.Core.List.{List, [], _∷_, _++_}
 use lib.ListN.{length, take, drop, getD, drop-of-length-le, length-drop}
 use lib.Seq.{take-all, take-suc, drop-cons, length-take-le}
-use lib.Dec.{leb, eqb}
+use lib.Dec.{eqb}
 use denote.Ref.{RefT, now}
 use borrow.Author.Tests.{le-leb, lt-leb, ne-eqb, lt-ltb, eqb-true, eqb-false, not-true, not-false}
 use Rattle.form.specs.Limits.{mostBytes}
