@@ -174,7 +174,8 @@ only-joined f z o m (p ∷ ps) = go [] p ps (o p ∙ sym (one-part p))
     go : (front : List (List ℕ)) (p : List ℕ) (ps : List (List ℕ)) → f (front ++ (p ∷ [])) ≡ nameNew (front ++ (p ∷ [])) → f (front ++ (p ∷ ps)) ≡ nameNew (front ++ (p ∷ ps))
     go front p [] e = e
     go front p (q ∷ ps) e =
-        let more : f (front ++ (p ∷ q ∷ [])) ≡ nameNew (front ++ (p ∷ q ∷ [])) = m front p q ∙ ap (λ (x : List ℕ). x ++ (between (trim p) (trim q) ++ trim q)) e ∙ sym (pushed-more 0 false [] front p q) in
+        let more : f (front ++ (p ∷ q ∷ [])) ≡ nameNew (front ++ (p ∷ q ∷ [])) = m front p q
+        ∙ ap (λ (x : List ℕ). x ++ (between (trim p) (trim q) ++ trim q)) e ∙ sym (pushed-more 0 false [] front p q) in
         subst (λ (xs : List (List ℕ)). f xs ≡ nameNew xs) (append-assoc front (p ∷ []) (q ∷ ps))
         (go (front ++ (p ∷ [])) q ps (subst (λ (xs : List (List ℕ)). f xs ≡ nameNew xs) (sym (append-assoc front (p ∷ []) (q ∷ []))) more))
 

@@ -114,14 +114,17 @@ above-all (suc c) a (m ∷ s) ts e n b p =
     go zero more ih h z = ap (lessText a) (sym (nth-first (take m s) b more z)) ∙ h
     go (suc k) more ih h z = less-trans a (take m s) b h (ih k (sym (nth-later (take m s) more k) ∙ z))
 
-in-order : (c : ℕ) (before : Option (List ℕ)) (s : List ℕ) (ts : List (List ℕ)) → readTexts inTable before c s ≡ some ts → (i j : ℕ) (a b : List ℕ) → i < j → nth ts i ≡ some a → nth ts j ≡ some b → lessText a b ≡ true
+in-order : (c : ℕ) (before : Option (List ℕ)) (s : List ℕ) (ts : List (List ℕ)) → readTexts inTable before c s ≡ some ts
+    → (i j : ℕ) (a b : List ℕ) → i < j → nth ts i ≡ some a → nth ts j ≡ some b → lessText a b ≡ true
 in-order zero before s ts e i j a b h p q = absurd (none-left before s ts i a e p)
 in-order (suc c) before [] ts e i j a b h p q = absurd (never (sym (read-nil inTable before c) ∙ e))
 in-order (suc c) before (m ∷ s) ts e i j a b h p q =
     let T = texts-got inTable before c m s ts e in
-    go i j (T .more) h (above-all c (take m s) (drop m s) (T .more) (T .next)) (λ k l. in-order c (some (take m s)) (drop m s) (T .more) (T .next) k l a b) (sym (ap (λ x. nth x i) (T .is)) ∙ p) (sym (ap (λ x. nth x j) (T .is)) ∙ q)
+    go i j (T .more) h (above-all c (take m s) (drop m s) (T .more) (T .next)) (λ k l. in-order c (some (take m s)) (drop m s) (T .more) (T .next) k l a b)
+    (sym (ap (λ x. nth x i) (T .is)) ∙ p) (sym (ap (λ x. nth x j) (T .is)) ∙ q)
   where
-    go : (i j : ℕ) (more : List (List ℕ)) → i < j → ((n : ℕ) (b : List ℕ) → nth more n ≡ some b → lessText (take m s) b ≡ true) → ((k l : ℕ) → k < l → nth more k ≡ some a → nth more l ≡ some b → lessText a b ≡ true)
+    go : (i j : ℕ) (more : List (List ℕ)) → i < j → ((n : ℕ) (b : List ℕ) → nth more n ≡ some b → lessText (take m s) b ≡ true)
+        → ((k l : ℕ) → k < l → nth more k ≡ some a → nth more l ≡ some b → lessText a b ≡ true)
         → nth (take m s ∷ more) i ≡ some a → nth (take m s ∷ more) j ≡ some b → lessText a b ≡ true
     go i zero more h f g y z = absurd (omega arith)
     go zero (suc l) more h f g y z = ap (λ (x : List ℕ). lessText x b) (sym (nth-first (take m s) a more y)) ∙ f l b (sym (nth-later (take m s) more l) ∙ z)
@@ -193,7 +196,9 @@ small-types = record {
 small-table : OneText second-inside both-inside two-texts
 unfolding num kindOf front andThen orElse operand readRun named readNamed counted readFunction stepType stepT readT numberOf all readWhole _>>=_ _>>_ nth join text textBuilt textsOfFields textsOfTys printable lessText readTexts readTable displayCall
 small-table = record {
-  said = 0x63 ∷ 0x6F ∷ 0x6E ∷ 0x74 ∷ 0x65 ∷ 0x78 ∷ 0x74 ∷ 0x3C ∷ 0x3E ∷ 0x2C ∷ 0x20 ∷ 0x61 ∷ 0x3A ∷ 0x20 ∷ 0x63 ∷ 0x6F ∷ 0x6E ∷ 0x74 ∷ 0x65 ∷ 0x78 ∷ 0x74 ∷ 0x3C ∷ 0x3E ∷ 0x2C ∷ 0x20 ∷ 0x61 ∷ 0x3A ∷ 0x20 ∷ 0x63 ∷ 0x6F ∷ 0x6E ∷ 0x74 ∷ 0x65 ∷ 0x78 ∷ 0x74 ∷ 0x3C ∷ 0x3E ∷ 0x2C ∷ 0x20 ∷ 0x61 ∷ 0x3A ∷ 0x20 ∷ 0x41 ∷ 0x6E ∷ 0x79 ∷ 0x3E ∷ 0x3E ∷ [];
+  said = 0x63 ∷ 0x6F ∷ 0x6E ∷ 0x74 ∷ 0x65 ∷ 0x78 ∷ 0x74 ∷ 0x3C ∷ 0x3E ∷ 0x2C ∷ 0x20 ∷
+      0x61 ∷ 0x3A ∷ 0x20 ∷ 0x63 ∷ 0x6F ∷ 0x6E ∷ 0x74 ∷ 0x65 ∷ 0x78 ∷ 0x74 ∷ 0x3C ∷ 0x3E ∷ 0x2C ∷ 0x20 ∷ 0x61 ∷ 0x3A ∷ 0x20 ∷
+      0x63 ∷ 0x6F ∷ 0x6E ∷ 0x74 ∷ 0x65 ∷ 0x78 ∷ 0x74 ∷ 0x3C ∷ 0x3E ∷ 0x2C ∷ 0x20 ∷ 0x61 ∷ 0x3A ∷ 0x20 ∷ 0x41 ∷ 0x6E ∷ 0x79 ∷ 0x3E ∷ 0x3E ∷ [];
   first = refl;
   second = refl;
   apart = λ e. let z : _≡_ {A = ℕ} 2 1 = head-apart (tail-apart e) in omega arith;
