@@ -1,3 +1,2 @@
 pub mod Halving
-pub mod Texts
 pub mod LowWord

@@ -1,18 +1,19 @@
 -- Every answer is below 2^32: what is read is short, and what is made of it is bounded by it.
 -- Assumes nothing.
-use Prim.Native.Nat.{ℕ, _+_, _*_, _<_, _≤_}
+use Prim.Native.Nat.{ℕ, zero, suc, _+_, _*_, _<_, _≤_}
 use native.Mathlib.Omega.{arith}
-use mathlib.Core.Path.{_≡_, refl, ap, _∙_}
+use mathlib.Core.Path.{_≡_, refl, sym, ap, _∙_}
 use mathlib.Core.Bool.{Bool, true, false, _||_, cond}
 use mathlib.Core.Option.{Option, none, some}
-use mathlib.Core.List.{List}
-use lib.ListN.{length}
+use mathlib.Core.List.{List, [], _∷_, _++_}
+use lib.ListN.{length, take, drop, length-append, length-drop}
+use lib.Seq.{length-take-le}
 use lib.Dec.{leb, eqb}
 use borrow.Author.Tests.{leb-true}
-use Rattle.form.specs.Limits.{mostBytes, valueLevels}
+use Rattle.form.specs.Limits.{mostNames, mostBytes, valueLevels}
 use Rattle.form.specs.Form.{Bytes, enc, encV, levelV, countEntries}
 use Rattle.form.specs.Trees.{Simple, any, boolean, number, string, date, time, dateTime, daysAndTime, yearsAndMonths, null}
-use Rattle.form.specs.Trees.{Ty, leaf, built, function, no-params, param, Val, v-context, Entries, no-entries, entry}
+use Rattle.form.specs.Trees.{Ty, leaf, built, function, no-params, param, Val, v-context, Entries}
 use Rattle.form.specs.Outcome.{Outcome, done, refused, _>>=_, _>>_, pick, check, orRefuse, fits}
 use Rattle.form.specs.Answers.{lengthOf}
 use Rattle.form.specs.Read.{readValue, readType}
@@ -22,30 +23,35 @@ use Rattle.form.proofs.Types.{type-accepted, type-told}
 use Rattle.order.specs.Order.{fixed}
 use Rattle.order.specs.Document.{reducedForm, supertype, subtype}
 use Rattle.order.specs.Inferred.{leastType, typeOf}
-use Rattle.order.specs.Size.{size, size-val, size-entries}
+use Rattle.order.specs.Size.{size, size-val}
 use Rattle.order.proofs.Simple.{and-left}
 use Rattle.order.proofs.Size.{length-enc, size-sup, size-sub, size-reduce}
 use Rattle.order.proofs.LeastSize.{length-encV, size-least}
 use Rattle.order.proofs.TypeOf.{size-type-of}
 use Rattle.order.proofs.WellFormed.{asc-of}
+use Rattle.types.proofs.Reading.{never}
 use Rattle.bounds.specs.Calls.{combined, reducedCall}
 use Rattle.infer.specs.Calls.{leastTypeCall, typeOfCall}
+use Rattle.retrieval.proofs.Theorems.{mapped-is}
 use Rattle.retrieval.specs.Calls.{small, result, getValueCheckedCall, getConformantValueCall}
 use Rattle.coercion.specs.Calls.{coercedCall}
 use Rattle.ranges.specs.Calls.{bifTypeCall}
 use Rattle.paths.specs.Paths.{entries-of}
 use Rattle.paths.specs.Places.{Piece, piece}
-use Rattle.paths.specs.Calls.{mostNames, contextOf, lenCall}
+use Rattle.paths.specs.Calls.{contextOf, lenCall}
 use Rattle.paths.proofs.Whole.{of-context}
+use Rattle.updates.proofs.Entering.{count-size}
 use Rattle.names.specs.Texts.{command, fromStr, text}
-use Rattle.names.specs.Names.{trim, nameNew}
-use Rattle.names.specs.Tables.{readTable, readParts}
+use Rattle.names.specs.Names.{trim, isMark, added, pushed, nameNew}
+use Rattle.names.specs.Tables.{inParts, readTexts, countedParts, readTable, readParts}
 use Rattle.names.specs.Calls.{displayCall, nameNewCall, trimCall, fromStrCall}
-use Rattle.names.proofs.Naming.{trim-shorter}
+use Rattle.names.proofs.Displaying.{text-most}
+use Rattle.names.proofs.Locating.{table-named}
+use Rattle.names.proofs.Tabling.{provided-got, end-none, read-zero, read-nil, texts-got}
+use Rattle.names.proofs.Naming.{trim-shorter, added-length}
 use Rattle.feel.specs.Numbers.{high, Halves}
 use Rattle.feel.specs.LowWord.{Low, Short, Near, LowWord}
 use Rattle.feel.proofs.Halving.{halves-deep, halves-entry, halves-first}
-use Rattle.feel.proofs.Texts.{mapped-some, display-long, name-long-parts}
 
 -- ---- along a definition
 -- what is written has fewer bytes than 2^32
@@ -138,18 +144,53 @@ coerced-written : (v t : List ℕ) (room : ℕ) → Written (coercedCall v t roo
 unfolding coercedCall
 coerced-written v t room = after (readValue v) _ (λ w e. after (readType t) _ (λ u f. resulted room _))
 
+-- ---- a name
+-- the bytes of the parts with a length byte each
+abbrev total : List (List ℕ) → ℕ
+total [] = 0
+total (p ∷ ps) = suc (length p) + total ps
+
+parts-total : (before : Option (List ℕ)) (c : ℕ) (s : List ℕ) (ps : List (List ℕ)) → readTexts inParts before c s ≡ some ps → total ps ≤ length s
+parts-total before zero s ps e = omega (arith, ap total (end-none s ps (sym (read-zero inParts before s) ∙ e)))
+parts-total before (suc c) [] ps e = absurd (never (sym (read-nil inParts before c) ∙ e))
+parts-total before (suc c) (n ∷ s) ps e =
+    let T = texts-got inParts before c n s ps e in
+    omega (arith, ap total (T .is), length-take-le n s (T .fits), T .fits, length-drop n s, parts-total (some (take n s)) c (drop n s) (T .more) (T .next))
+
+pushed-long : (i : ℕ) (b : Bool) (r : List ℕ) (ps : List (List ℕ)) → length (pushed i b r ps) ≤ length r + total ps
+unfolding pushed
+pushed-long i b r [] = omega arith
+pushed-long i b r (p ∷ ps) =
+    omega (
+      arith,
+      pushed-long (suc i) (isMark (trim p)) (r ++ added i b (trim p)) ps,
+      length-append r (added i b (trim p)),
+      added-length i b (trim p),
+      trim-shorter p,
+    )
+
+name-long : (s : List ℕ) (ps : List (List ℕ)) → readParts s ≡ some ps → length (nameNew ps) ≤ mostBytes
+unfolding readParts
+name-long s ps e = let G = provided-got (leb (length s) mostBytes) (countedParts s) ps e in go s (leb-true (length s) mostBytes (G .0)) (G .1)
+  where
+    go : (s : List ℕ) → length s ≤ mostBytes → countedParts s ≡ some ps → length (nameNew ps) ≤ mostBytes
+    go [] k z = absurd (never z)
+    go (a ∷ s) k z = omega (arith, pushed-long 0 false [] ps, parts-total none a s ps z)
+
 -- ---- texts
-display-written : (t table : List ℕ) (room : ℕ) → Bytes t → Bytes table → Written (displayCall t table room)
+display-written : (t table : List ℕ) (room : ℕ) → Bytes t → Written (displayCall t table room)
 unfolding displayCall
-display-written t table room bt bs =
+display-written t table room bs =
     after (readType t) _
     (λ u e. after (orRefuse 19 (readTable table)) _
     (λ ts f. after (orRefuse 20 (text ts u)) _
-    (λ s g. fitted room s (omega (arith, display-long table ts bs (given-some 19 (readTable table) ts f) u s (given-some 20 (text ts u) s g), type-small t u bt e)))))
+    (λ s g.
+    fitted room s
+    (omega (arith, text-most ts (table-named table ts (given-some 19 (readTable table) ts f)) u s (given-some 20 (text ts u) s g), type-small t u bs e)))))
 
 name-written : (parts : List ℕ) (room : ℕ) → Written (nameNewCall parts room)
 unfolding nameNewCall
-name-written parts room = after (orRefuse 19 (readParts parts)) _ (λ ps e. fitted room (nameNew ps) (omega (arith, name-long-parts parts ps (given-some 19 (readParts parts) ps e))))
+name-written parts room = after (orRefuse 19 (readParts parts)) _ (λ ps e. fitted room (nameNew ps) (omega (arith, name-long parts ps (given-some 19 (readParts parts) ps e))))
 
 trim-written : (s : List ℕ) (room : ℕ) → Written (trimCall s room)
 unfolding trimCall _>>_
@@ -173,17 +214,12 @@ code-low yearsAndMonths = omega arith
 code-low null = omega arith
 
 known-low : (s : List ℕ) (c : ℕ) → fromStrCall s ≡ some c → c < high 1
-known-low s c e = let M = mapped-some command (fromStr s) c e in omega (arith, M .2, code-low (M .0))
+known-low s c e = let M = mapped-is command (fromStr s) c e in omega (arith, M .2, code-low (M .0))
 
 near : (o : Outcome (Option Piece)) → Halves o → Near o
 near (done none) h q e = absurd (let z : _≡_ {A = ℕ} 0 1 = cc in omega arith)
 near (done (some (piece p n))) h q e = omega (arith, h .0, h .1)
 near (refused k) h q e = absurd (refused-done e)
-
-count-small : (es : Entries) → countEntries es ≤ size-entries es
-unfolding countEntries size-entries
-count-small no-entries = omega arith
-count-small (entry n v es) = omega (arith, count-small es)
 
 len-low : (c : List ℕ) → Bytes c → Low (lenCall c)
 unfolding contextOf _>>=_ _>>_ size-val
@@ -193,7 +229,7 @@ len-low c bs n e = go (readValue c) refl e
     named v r none q z = absurd (refused-done z)
     named v r (some es) q z =
         let k : countEntries es ≡ n = cc in
-        omega (arith, count-small es, value-small c (v-context es) bs (r ∙ ap done (of-context v es q)))
+        omega (arith, count-size es, value-small c (v-context es) bs (r ∙ ap done (of-context v es q)))
 
     go : (o : Outcome Val) → readValue c ≡ o → (do es ← (do self ← o; check 11 (leb 0 mostNames); orRefuse 12 (entries-of self)); done (countEntries es)) ≡ done n → n < high 1
     go (refused m) r z = absurd (refused-done z)
@@ -225,7 +261,7 @@ low-word = record {
   set-entry = λ c n v room. written-short _ (after _ _ (λ g e. resulted room _));
   remove-entry = λ c n room. written-short _ (after _ _ (λ es e. resulted room _));
   set-null = λ c n room. written-short _ (after _ _ (λ es e. resulted room _));
-  display = λ t table room bt bs. written-short _ (display-written t table room bt bs);
+  display = λ t table room bs. written-short _ (display-written t table room bs);
   name-new = λ parts room. written-short _ (name-written parts room);
   trim = λ s room. written-short _ (trim-written s room);
 }

@@ -55,6 +55,6 @@ pub record LowWord : Type 0 where
   pub set-entry : (c : List ℕ) (n : ℕ) (v : List ℕ) (room : ℕ) → Short (setEntryCall c n v room)
   pub remove-entry : (c : List ℕ) (n room : ℕ) → Short (removeEntryCall c n room)
   pub set-null : (c : List ℕ) (n room : ℕ) → Short (setNullCall c n room)
-  pub display : (t table : List ℕ) (room : ℕ) → Bytes t → Bytes table → Short (displayCall t table room)
+  pub display : (t table : List ℕ) (room : ℕ) → Bytes t → Short (displayCall t table room)
   pub name-new : (parts : List ℕ) (room : ℕ) → Short (nameNewCall parts room)
   pub trim : (s : List ℕ) (room : ℕ) → Short (trimCall s room)

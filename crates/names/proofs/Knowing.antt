@@ -1,6 +1,6 @@
 -- The names of the simple types: equal texts, the one name that a text can be, and whether it is one.
 -- Assumes nothing.
-use Prim.Native.Nat.{ℕ, zero, suc, _+_, _<_, _≤_}
+use Prim.Native.Nat.{ℕ, zero, suc, _+_, _-_, _<_, _≤_}
 use native.Mathlib.Omega.{arith}
 use native.Mathlib.Numerals.{add-one}
 use mathlib.Core.Path.{_≡_, refl, sym, ap, ap₂, subst, _∙_}
@@ -129,8 +129,8 @@ pub only-string : (s : List ℕ) → length s ≡ 6 → (getD s 0 0 ≡ 0x6E →
 only-string s l d = only-long s 3 6 l (rw (ne-eqb (getD s 0 0) 0x6E d)) (omega arith)
 
 pub only-none : (s : List ℕ) → (length s ≡ 3 → ⊥) → (length s ≡ 4 → ⊥) → (length s ≡ 6 → ⊥) → (length s ≡ 7 → ⊥) → (length s ≡ 13 → ⊥) → (length s ≡ 22 → ⊥) → (length s ≡ 25 → ⊥) → Only s 10
-only-none s n3 n4 n6 n7 n13 n22 n25 = only s 10
-    (rw (ne-eqb (length s) 3 n3, ne-eqb (length s) 4 n4, ne-eqb (length s) 6 n6, ne-eqb (length s) 7 n7, ne-eqb (length s) 13 n13, ne-eqb (length s) 22 n22, ne-eqb (length s) 25 n25))
+only-none s n3 n4 n6 n7 n13 n22 n25 =
+    only s 10 (rw (ne-eqb (length s) 3 n3, ne-eqb (length s) 4 n4, ne-eqb (length s) 6 n6, ne-eqb (length s) 7 n7, ne-eqb (length s) 13 n13, ne-eqb (length s) 22 n22, ne-eqb (length s) 25 n25))
     (omega arith)
 
 -- ---- the call

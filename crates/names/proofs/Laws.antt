@@ -2,9 +2,9 @@
 -- Assumes nothing.
 use Prim.Native.Nat.{ℕ, suc, _-_}
 use native.Mathlib.Omega.{arith}
-use mathlib.Core.Path.{_≡_, refl, sym, ap, _∙_}
+use mathlib.Core.Path.{_≡_, refl, sym, ap, subst, _∙_}
 use mathlib.Core.Bool.{Bool, true, false, cond, _&&_}
-use mathlib.Core.List.{List, [], _∷_, _++_}
+use mathlib.Core.List.{List, [], _∷_, _++_, append-assoc}
 use lib.ListN.{length, getD, length-append}
 use Rattle.order.proofs.Simple.{and-left, and-right}
 use Rattle.names.specs.Names.{blank, trimStart, keep, trimEnd, trim, isMark, space, added, pushed, nameNew}
@@ -165,11 +165,26 @@ empty-first : nameNew ([] ∷ (0x62 ∷ []) ∷ []) ≡ 0x20 ∷ 0x62 ∷ []
 unfolding pushed trimStart trimEnd
 empty-first = refl
 
+-- by the parts in front of the last two
+only-joined : (f : List (List ℕ) → List ℕ) → f [] ≡ [] → ((p : List ℕ) → f (p ∷ []) ≡ trim p)
+    → ((ps : List (List ℕ)) (p q : List ℕ) → f (ps ++ (p ∷ q ∷ [])) ≡ f (ps ++ (p ∷ [])) ++ (between (trim p) (trim q) ++ trim q)) → (ps : List (List ℕ)) → f ps ≡ nameNew ps
+only-joined f z o m [] = z ∙ sym no-part
+only-joined f z o m (p ∷ ps) = go [] p ps (o p ∙ sym (one-part p))
+  where
+    go : (front : List (List ℕ)) (p : List ℕ) (ps : List (List ℕ)) → f (front ++ (p ∷ [])) ≡ nameNew (front ++ (p ∷ [])) → f (front ++ (p ∷ ps)) ≡ nameNew (front ++ (p ∷ ps))
+    go front p [] e = e
+    go front p (q ∷ ps) e =
+        let more : f (front ++ (p ∷ q ∷ [])) ≡ nameNew (front ++ (p ∷ q ∷ [])) = m front p q
+        ∙ ap (λ (x : List ℕ). x ++ (between (trim p) (trim q) ++ trim q)) e ∙ sym (pushed-more 0 false [] front p q) in
+        subst (λ (xs : List (List ℕ)). f xs ≡ nameNew xs) (append-assoc front (p ∷ []) (q ∷ ps))
+        (go (front ++ (p ∷ [])) q ps (subst (λ (xs : List (List ℕ)). f xs ≡ nameNew xs) (sym (append-assoc front (p ∷ []) (q ∷ []))) more))
+
 pub joining : Joining
 joining = record {
   no-part = no-part;
   one-part = one-part;
   two-parts = λ p q. pushed-more 0 false [] [] p q ∙ ap (λ (x : List ℕ). x ++ (between (trim p) (trim q) ++ trim q)) (one-part p);
   one-more = λ ps p q. pushed-more 0 false [] ps p q;
+  only = only-joined;
   empty-first = empty-first;
 }

@@ -91,14 +91,15 @@ space-length : (q : Bool) → length (space q) ≤ 1
 space-length true = omega arith
 space-length false = omega arith
 
-added-length : (index : ℕ) (prev : Bool) (part : List ℕ) → length (added index prev part) ≤ length part + 1
+pub added-length : (index : ℕ) (prev : Bool) (part : List ℕ) → length (added index prev part) ≤ length part + 1
 added-length index prev part = omega (arith, length-append (space (parted index prev part)) part, space-length (parted index prev part))
 
 module _ (part trimmed : List ℕ) (e : trimmed ≡ trim part) where
   pub trimmed-room : (at k : ℕ) → at + length part + 1 < k → at + length trimmed + 1 < k
   trimmed-room at k h = omega (arith, ap length e, trim-shorter part)
 
-  pub part-added : (index : ℕ) (prev : Bool) (at n : ℕ) (m : Bool) (old new : List ℕ) → (n ≡ at + length (added index prev trimmed)) × (new ≡ puts at (added index prev trimmed) old) → m ≡ isMark trimmed
+  pub part-added : (index : ℕ) (prev : Bool) (at n : ℕ) (m : Bool) (old new : List ℕ)
+      → (n ≡ at + length (added index prev trimmed)) × (new ≡ puts at (added index prev trimmed) old) → m ≡ isMark trimmed
       → (n ≡ at + length (added index prev (trim part))) × ((m ≡ isMark (trim part)) × (new ≡ puts at (added index prev (trim part)) old))
   part-added index prev at n m old new f g =
       (f .0 ∙ ap (λ (x : List ℕ). at + length (added index prev x)) e, (g ∙ ap isMark e, f .1 ∙ ap (λ (x : List ℕ). puts at (added index prev x) old) e))
@@ -222,9 +223,13 @@ module _ {parts old : List ℕ} {count : ℕ} {out : List ℕ} {prev : Bool} {to
         upto = omega arith;
         inside = naming-end;
         ps = H .more;
-        read = sym (parts-any (some (take (getD parts at 0) (drop (at + 1) parts))) (count - (index + 1)) (drop (at + 1 + n) parts)) ∙ ap (λ (x : List ℕ). readTexts inParts (some (take (getD parts at 0) (drop (at + 1) parts))) (count - (index + 1)) x) (sym (drop-drop n (at + 1) parts) ∙ ap (λ (k : ℕ). drop k (drop (at + 1) parts)) en) ∙ H .next;
+        read = sym (parts-any (some (take (getD parts at 0) (drop (at + 1) parts))) (count - (index + 1)) (drop (at + 1 + n) parts))
+            ∙ ap (λ (x : List ℕ). readTexts inParts (some (take (getD parts at 0) (drop (at + 1) parts))) (count - (index + 1)) x)
+            (sym (drop-drop n (at + 1) parts) ∙ ap (λ (k : ℕ). drop k (drop (at + 1) parts)) en) ∙ H .next;
         said = Q .said ++ added index prev (trim part);
-        same = Q .same ∙ ap (pushed index prev (Q .said)) (H .is ∙ ap (λ (x : List ℕ). x ∷ H .more) (sym part-is)) ∙ next-pushed index prev (Q .said) part (H .more) ∙ ap₂ (λ (i : ℕ) (b : Bool). pushed i b (Q .said ++ added index prev (trim part)) (H .more)) (sym (add-one index)) (sym (f .1 .0));
+        same = Q .same ∙ ap (pushed index prev (Q .said)) (H .is ∙ ap (λ (x : List ℕ). x ∷ H .more) (sym part-is))
+            ∙ next-pushed index prev (Q .said) part (H .more)
+            ∙ ap₂ (λ (i : ℕ) (b : Bool). pushed i b (Q .said ++ added index prev (trim part)) (H .more)) (sym (add-one index)) (sym (f .1 .0));
         long = f .0 ∙ omega (arith, Q .long, length-append (Q .said) (added index prev (trim part)));
         wrote = put-then (Q .said) (added index prev (trim part)) old out new to (Q .wrote) (sym (Q .long)) (f .1 .1);
         small = omega (arith, f .0, added-length index prev (trim part), trim-shorter part, part-long, Q .small);

@@ -114,8 +114,8 @@ above-all (suc c) a (m ∷ s) ts e n b p =
     go zero more ih h z = ap (lessText a) (sym (nth-first (take m s) b more z)) ∙ h
     go (suc k) more ih h z = less-trans a (take m s) b h (ih k (sym (nth-later (take m s) more k) ∙ z))
 
-in-order : (c : ℕ) (before : Option (List ℕ)) (s : List ℕ) (ts : List (List ℕ)) → readTexts inTable before c s ≡ some ts → (i j : ℕ) (a b : List ℕ) → i < j → nth ts i ≡ some a
-    → nth ts j ≡ some b → lessText a b ≡ true
+in-order : (c : ℕ) (before : Option (List ℕ)) (s : List ℕ) (ts : List (List ℕ)) → readTexts inTable before c s ≡ some ts
+    → (i j : ℕ) (a b : List ℕ) → i < j → nth ts i ≡ some a → nth ts j ≡ some b → lessText a b ≡ true
 in-order zero before s ts e i j a b h p q = absurd (none-left before s ts i a e p)
 in-order (suc c) before [] ts e i j a b h p q = absurd (never (sym (read-nil inTable before c) ∙ e))
 in-order (suc c) before (m ∷ s) ts e i j a b h p q =
@@ -196,7 +196,9 @@ small-types = record {
 small-table : OneText second-inside both-inside two-texts
 unfolding num kindOf front andThen orElse operand readRun named readNamed counted readFunction stepType stepT readT numberOf all readWhole _>>=_ _>>_ nth join text textBuilt textsOfFields textsOfTys printable lessText readTexts readTable displayCall
 small-table = record {
-  said = 0x63 ∷ 0x6F ∷ 0x6E ∷ 0x74 ∷ 0x65 ∷ 0x78 ∷ 0x74 ∷ 0x3C ∷ 0x3E ∷ 0x2C ∷ 0x20 ∷ 0x61 ∷ 0x3A ∷ 0x20 ∷ 0x63 ∷ 0x6F ∷ 0x6E ∷ 0x74 ∷ 0x65 ∷ 0x78 ∷ 0x74 ∷ 0x3C ∷ 0x3E ∷ 0x2C ∷ 0x20 ∷ 0x61 ∷ 0x3A ∷ 0x20 ∷ 0x63 ∷ 0x6F ∷ 0x6E ∷ 0x74 ∷ 0x65 ∷ 0x78 ∷ 0x74 ∷ 0x3C ∷ 0x3E ∷ 0x2C ∷ 0x20 ∷ 0x61 ∷ 0x3A ∷ 0x20 ∷ 0x41 ∷ 0x6E ∷ 0x79 ∷ 0x3E ∷ 0x3E ∷ [];
+  said = 0x63 ∷ 0x6F ∷ 0x6E ∷ 0x74 ∷ 0x65 ∷ 0x78 ∷ 0x74 ∷ 0x3C ∷ 0x3E ∷ 0x2C ∷ 0x20 ∷
+      0x61 ∷ 0x3A ∷ 0x20 ∷ 0x63 ∷ 0x6F ∷ 0x6E ∷ 0x74 ∷ 0x65 ∷ 0x78 ∷ 0x74 ∷ 0x3C ∷ 0x3E ∷ 0x2C ∷ 0x20 ∷ 0x61 ∷ 0x3A ∷ 0x20 ∷
+      0x63 ∷ 0x6F ∷ 0x6E ∷ 0x74 ∷ 0x65 ∷ 0x78 ∷ 0x74 ∷ 0x3C ∷ 0x3E ∷ 0x2C ∷ 0x20 ∷ 0x61 ∷ 0x3A ∷ 0x20 ∷ 0x41 ∷ 0x6E ∷ 0x79 ∷ 0x3E ∷ 0x3E ∷ [];
   first = refl;
   second = refl;
   apart = λ e. let z : _≡_ {A = ℕ} 2 1 = head-apart (tail-apart e) in omega arith;

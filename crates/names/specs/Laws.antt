@@ -44,5 +44,8 @@ pub record Joining : Type 0 where
   pub two-parts : (p q : List ℕ) → nameNew (p ∷ q ∷ []) ≡ trim p ++ (between (trim p) (trim q) ++ trim q)
   -- each further part behind those before it
   pub one-more : (ps : List (List ℕ)) (p q : List ℕ) → nameNew (ps ++ (p ∷ q ∷ [])) ≡ nameNew (ps ++ (p ∷ [])) ++ (between (trim p) (trim q) ++ trim q)
+  -- and nothing else is so
+  pub only : (f : List (List ℕ) → List ℕ) → f [] ≡ [] → ((p : List ℕ) → f (p ∷ []) ≡ trim p)
+      → ((ps : List (List ℕ)) (p q : List ℕ) → f (ps ++ (p ∷ q ∷ [])) ≡ f (ps ++ (p ∷ [])) ++ (between (trim p) (trim q) ++ trim q)) → (ps : List (List ℕ)) → f ps ≡ nameNew ps
   -- parts "", "b" give " b"
   pub empty-first : nameNew ([] ∷ (0x62 ∷ []) ∷ []) ≡ 0x20 ∷ 0x62 ∷ []

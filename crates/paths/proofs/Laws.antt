@@ -10,17 +10,19 @@ use lib.ListN.{length, take, drop}
 use lib.Dec.{eqb}
 use borrow.Author.Tests.{ne-eqb}
 use Rattle.form.specs.Limits.{nameWidth}
-use Rattle.form.specs.Trees.{Val, v-context, Entries, no-entries, entry}
-use Rattle.form.specs.Form.{countEntries}
-use Rattle.form.specs.Outcome.{Outcome, done, refused, _>>=_}
-use Rattle.order.specs.Size.{size-entries}
+use Rattle.form.specs.Trees.{l-boolean, Val, v-leaf, v-context, Entries, no-entries, entry}
+use Rattle.form.specs.Form.{num, countEntries}
+use Rattle.form.specs.Outcome.{Outcome, done, refused, _>>=_, _>>_}
+use Rattle.form.specs.Layout.{kindOf}
+use Rattle.form.specs.Read.{front, andThen, orElse, operand, named, readNamed, readFlag, counted, stepValue, stepV, readV, numberOf, all, readWhole}
+use Rattle.order.specs.Size.{size-val, size-entries}
 use Rattle.order.proofs.LeastSize.{length-encV}
 use Rattle.retrieval.specs.Retrieve.{mapped}
 use Rattle.retrieval.proofs.Contexts.{size-none}
-use Rattle.paths.specs.Paths.{value-of, entries-of, given, is-some, isContext, isEmpty, getFirst, search, containsDeep, entry-place, place}
+use Rattle.paths.specs.Paths.{value-of, below, entries-of, given, is-some, isContext, isEmpty, getFirst, search, containsDeep, entry-place, place}
 use Rattle.paths.specs.Places.{Spot, spot, spotIn}
 use Rattle.paths.specs.Calls.{contextOf, searchDeepCall, getEntryCall, getFirstCall, containsDeepCall}
-use Rattle.paths.specs.Laws.{holdsContext, StandsAt, Lookups}
+use Rattle.paths.specs.Laws.{twice, holdsContext, StandsAt, Lookups}
 use Rattle.paths.proofs.Whole.{of-context}
 use Rattle.paths.proofs.Finding.{value-first, below-none}
 use Rattle.paths.proofs.Searching.{contains-deep, Stands}
@@ -106,6 +108,10 @@ stands c o q v h e =
     let S : Stands c q v = subst (AllStand c) e h in
     record { inside = omega (arith, S .within, length-encV v); bytes = ap (λ (k : ℕ). take k (drop q c)) (length-encV v) ∙ S .text }
 
+second : searchDeepCall twice (2 ∷ []) ≡ done (some (spot 9 (v-leaf (l-boolean true))))
+unfolding num kindOf front andThen orElse operand named readNamed readFlag counted stepValue stepV readV numberOf all readWhole contextOf value-of search below place size-val size-entries _>>=_ _>>_
+second = refl
+
 pub lookups : Lookups
 lookups = record {
   entry-tree = entry-tree;
@@ -127,4 +133,5 @@ lookups = record {
   deep-stands = λ c p q v bs e. stands c (searchDeepCall c p) q v (stand-deep c p bs) e;
   entry-stands = λ c n q v bs e. stands c (getEntryCall c n) q v (stand-entry c n bs) e;
   first-stands = λ c q v bs e. stands c (getFirstCall c) q v (stand-first c bs) e;
+  second = second;
 }

@@ -7,12 +7,16 @@ use mathlib.Core.Option.{Option, none, some}
 use mathlib.Core.List.{List, [], _∷_}
 use lib.ListN.{length, take, drop}
 use lib.Dec.{eqb}
-use Rattle.form.specs.Trees.{Val, v-context, Entries, no-entries, entry}
+use Rattle.form.specs.Trees.{l-boolean, Val, v-leaf, v-context, Entries, no-entries, entry}
 use Rattle.form.specs.Form.{Bytes, encV}
 use Rattle.form.specs.Outcome.{done, _>>=_}
 use Rattle.paths.specs.Paths.{value-of, entries-of, is-some, containsEntry, isContext, len, isEmpty, getFirst, search, containsDeep}
 use Rattle.paths.specs.Places.{Spot, spot}
 use Rattle.paths.specs.Calls.{contextOf, searchDeepCall, getEntryCall, getFirstCall, containsDeepCall, containsEntryCall, isContextCall, isEmptyCall, lenCall}
+
+-- the context {1: true, 2: true}: both values have the same bytes
+abbrev pub twice : List ℕ
+twice = 0x0B ∷ 0x02 ∷ 0x00 ∷ 0x01 ∷ 0x00 ∷ 0x01 ∷ 0x01 ∷ 0x02 ∷ 0x00 ∷ 0x01 ∷ 0x01 ∷ []
 
 -- whether what was found is a context
 abbrev pub holdsContext : Option Spot → Bool
@@ -52,3 +56,5 @@ pub record Lookups : Type 0 where
   pub deep-stands : (c p : List ℕ) (q : ℕ) (v : Val) → Bytes c → searchDeepCall c p ≡ done (some (spot q v)) → StandsAt c q v
   pub entry-stands : (c : List ℕ) (n q : ℕ) (v : Val) → Bytes c → getEntryCall c n ≡ done (some (spot q v)) → StandsAt c q v
   pub first-stands : (c : List ℕ) (q : ℕ) (v : Val) → Bytes c → getFirstCall c ≡ done (some (spot q v)) → StandsAt c q v
+  -- so of two equal values the one that was asked for
+  pub second : searchDeepCall twice (2 ∷ []) ≡ done (some (spot 9 (v-leaf (l-boolean true))))

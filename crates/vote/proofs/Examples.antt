@@ -1,6 +1,10 @@
 -- The examples hold: each row by computing it, example 12 by the law of crate `context`.
 -- Assumes nothing.
+use Prim.Native.Nat.{ℕ, _+_}
+use native.Mathlib.Omega.{arith}
 use mathlib.Core.Path.{_≡_, refl}
+use mathlib.Core.List.{List}
+use lib.ListN.{length}
 use Rattle.form.specs.Limits.{mostBytes}
 use Rattle.form.specs.Outcome.{done, refused, _>>=_, _>>_}
 use Rattle.form.specs.Form.{bytes, num, countFields, countTys, countVals, countEntries, enc, encLeaf, encV, level, levelV}
@@ -23,10 +27,14 @@ use Rattle.context.proofs.Example12.{example12}
 use Rattle.vote.specs.Vote.{AcceptedValue}
 use Rattle.vote.specs.Examples.{Fitting, Holds, All, one, null, yes, pair, full, part, inferred, least-of, nested, times, longest, lists, longest-type, table}
 
+longer : (v : List ℕ) → length (created v) ≡ 10 + length v
+longer v = refl
+
 create-every : (v : AcceptedValue) → Fitting v
     → createEntriesCall self path (v .bytes) mostBytes ≡ done (created (v .bytes))
 create-every v f =
-    example12 .create (v .bytes) (record { are-bytes = v .are-bytes; value = v .value; read = v .accepted }) mostBytes (record { level = f .low; bytes = f .short }) (f .short)
+    example12 .create (v .bytes) (record { are-bytes = v .are-bytes; value = v .value; read = v .accepted }) mostBytes
+    (record { level = f .low; bytes = omega (arith, longer (v .bytes), f .short) }) (omega (arith, longer (v .bytes), f .short))
 
 apply-every : (v : AcceptedValue) → applyEntriesCall self path (v .bytes) mostBytes ≡ refused 16
 apply-every v = example12 .apply (v .bytes) (record { are-bytes = v .are-bytes; value = v .value; read = v .accepted }) mostBytes
