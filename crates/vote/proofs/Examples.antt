@@ -28,7 +28,7 @@ use Rattle.vote.specs.Vote.{AcceptedValue}
 use Rattle.vote.specs.Examples.{Fitting, Holds, All, one, null, yes, pair, full, part, inferred, least-of, nested, times, longest, lists, longest-type, table}
 
 longer : (v : List ℕ) → length (created v) ≡ 10 + length v
-longer v = refl
+longer v = omega arith
 
 create-every : (v : AcceptedValue) → Fitting v
     → createEntriesCall self path (v .bytes) mostBytes ≡ done (created (v .bytes))
