@@ -32,7 +32,7 @@
  *   16  a value on the way of the path is no context
  *   17  the result would have more than 16,384 bytes or a level over 31
  *   18  output too short for the answer
- *   19  texts: table or parts malformed, or with bytes left over; more than 16,384 bytes to trim
+ *   19  texts: table or parts malformed, or with bytes left over
  *   20  texts: a name's number is not in the table
  */
 #ifndef FEEL_H
@@ -181,7 +181,7 @@ uint64_t feel_context_set_null(const uint8_t *c, size_t c_len, uint16_t name, ui
 /* TEXTS. A table gives the names of a type their texts: a 16-bit count, then for each text a length byte and as many bytes 20 to 7E, neither
  * the first nor the last of them 20; the texts ascend strictly by their bytes and are numbered from 0. The parts of a name are a count byte,
  * then for each part a length byte and as many bytes 00 to 7F. Either has at most 16,384 bytes with nothing left over; what has not this form
- * is refused 19. Blanks are the bytes 09 to 0D and 20. */
+ * is refused 19, and so is a name of more than 16,384 bytes to trim. Blanks are the bytes 09 to 0D and 20. */
 
 /* Display of FeelType: the text of the type t with the names that the table gives, at the front of out. Answers its length, or t's refusal 6 to
  * 10; 19; 20 where the table does not have the number of a name; 18. 20 is given before 18. */
