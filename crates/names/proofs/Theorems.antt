@@ -184,7 +184,8 @@ two-texts = 0x02 ∷ 0x00 ∷ 0x04 ∷ 0x3E ∷ 0x2C ∷ 0x20 ∷ 0x61 ∷ 0x01 
 
 -- "context<: Any, a: Any>"
 small-types : OneText two-entries one-entry three-texts
-unfolding num kindOf front andThen orElse operand readRun named readNamed counted readFunction stepType stepT readT numberOf all readWhole _>>=_ _>>_ nth join text textBuilt textsOfFields textsOfTys printable lessText readTexts readTable displayCall
+unfolding num kindOf front andThen orElse operand readRun named readNamed counted readFunction stepType stepT readT numberOf all readWhole _>>=_ _>>_ nth join text
+    textBuilt textsOfFields textsOfTys printable lessText readTexts readTable displayCall
 small-types = record {
   said = 0x63 ∷ 0x6F ∷ 0x6E ∷ 0x74 ∷ 0x65 ∷ 0x78 ∷ 0x74 ∷ 0x3C ∷ 0x3A ∷ 0x20 ∷ 0x41 ∷ 0x6E ∷ 0x79 ∷ 0x2C ∷ 0x20 ∷ 0x61 ∷ 0x3A ∷ 0x20 ∷ 0x41 ∷ 0x6E ∷ 0x79 ∷ 0x3E ∷ [];
   first = refl;
@@ -194,7 +195,8 @@ small-types = record {
 
 -- "context<>, a: context<>, a: context<>, a: Any>>"
 small-table : OneText second-inside both-inside two-texts
-unfolding num kindOf front andThen orElse operand readRun named readNamed counted readFunction stepType stepT readT numberOf all readWhole _>>=_ _>>_ nth join text textBuilt textsOfFields textsOfTys printable lessText readTexts readTable displayCall
+unfolding num kindOf front andThen orElse operand readRun named readNamed counted readFunction stepType stepT readT numberOf all readWhole _>>=_ _>>_ nth join text
+    textBuilt textsOfFields textsOfTys printable lessText readTexts readTable displayCall
 small-table = record {
   said = 0x63 ∷ 0x6F ∷ 0x6E ∷ 0x74 ∷ 0x65 ∷ 0x78 ∷ 0x74 ∷ 0x3C ∷ 0x3E ∷ 0x2C ∷ 0x20 ∷
       0x61 ∷ 0x3A ∷ 0x20 ∷ 0x63 ∷ 0x6F ∷ 0x6E ∷ 0x74 ∷ 0x65 ∷ 0x78 ∷ 0x74 ∷ 0x3C ∷ 0x3E ∷ 0x2C ∷ 0x20 ∷ 0x61 ∷ 0x3A ∷ 0x20 ∷
