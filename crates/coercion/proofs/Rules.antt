@@ -1,4 +1,8 @@
 -- The rules of coercion, one by one, as the code asks them; and the results that they give.
+-- Idea: each helper says a test of the two trees (`SaysAt`); the result is the definition's at those answers.
+-- Index: `value-says`, `function-says`, `bif-function`, `bif-sqrt`, `bif-any` (conformance); `keeps-definition`, `keeps-built-in`, `keeps-other` (`keeps`); `listed`, `one-item`, `item-no`,
+-- `item-says` (`takes_item`); `inner-no`, `inner-says` (`meets_inner`); `give-conformant`, `give-same`, `give-item`, `give-no-item`, `give-single`, `give-failed` (results);
+-- `wrap-long`, `wrap-deep`, `wrap-short`, `wrap-done` (`wrap`); `first-refused`, `second-refused`, `ready` (arguments).
 -- Assumes nothing.
 use Prim.Native.Nat.{ℕ, zero, suc, _+_, _-_, _<_, _≤_}
 use native.Mathlib.Omega.{arith}
@@ -26,7 +30,7 @@ use Rattle.form.proofs.Types.{type-told}
 use Rattle.form.proofs.Values.{value-accepted, value-told, read-upV}
 use Rattle.form.proofs.Runs.{rest, length-rest}
 use Rattle.order.specs.Types.{cmp}
-use Rattle.order.specs.Size.{size, size-val}
+use Rattle.order.specs.Size.{size, sizeVal}
 use Rattle.order.specs.Document.{conformsTo}
 use Rattle.order.specs.Inferred.{valueConformsTo}
 use Rattle.order.proofs.Size.{size-positive, size-val-positive}
@@ -34,23 +38,21 @@ use Rattle.types.specs.At.{seen, typeAt, Ok}
 use Rattle.types.specs.Conform.{judge, conformBy, conformOf, Met}
 use Rattle.types.specs.Calls.{isYes}
 use Rattle.types.proofs.Reading.{is-ok, ok-got, seen-got, got-seen, cmd, cmd-is, some-byte, is-list}
-use Rattle.types.proofs.Calling.{whole-type}
+use Rattle.types.proofs.CallContracts.{whole-type}
 use Rattle.values.specs.At.{valueAt, itemsAt}
 use Rattle.values.specs.Held.{held}
-use Rattle.values.specs.Calls.{isConformant}
-use Rattle.values.proofs.Calling.{whole-value}
+use Rattle.values.specs.Calls.{isConformant, Accepted}
+use Rattle.values.proofs.CallContracts.{whole-value, not-held}
 use Rattle.values.proofs.Definitions.{type-up}
 use Rattle.values.proofs.Reading as reading
 use Rattle.values.proofs.Reading.{next-item, no-item}
-use Rattle.bounds.proofs.Laws.{onto-three, back, length-onto}
-use Rattle.bounds.proofs.Outcomes.{built-refused, built-short, built-wrote}
-use Rattle.retrieval.specs.Filling.{Accepted}
-use Rattle.retrieval.specs.Calls.{result}
-use Rattle.retrieval.proofs.Calling.{not-held}
+use Rattle.output.proofs.OntoLaws.{onto-three, back, length-onto}
+use Rattle.output.proofs.Outcomes.{built-refused, built-short, built-wrote}
 use Rattle.ranges.specs.Ranges.{bifType}
-use Rattle.coercion.specs.Coerce.{failed, single, unchanged, item-conforms, itemConforms, first-item, innerConforms, to-single, converted, coerced}
+use Rattle.coercion.specs.Coerce.{failed, single, unchanged, soleItemConforms, itemConforms, firstItem, innerConforms, toSingle, converted, coerced}
 use Rattle.coercion.specs.Calls.{coercedCall, Ready, wrapped, Says, SaysAt, BifSays}
 use Rattle.coercion.proofs.Theorems.{same-if}
+use Rattle.output.specs.Result.{result}
 
 single-bytes : (w : Val) → encV (single w) ≡ 0x0A ∷ 1 ∷ 0 ∷ encV w
 unfolding encV countVals bytes
@@ -82,7 +84,7 @@ module _ {X Y : Type 0} (test : X → Y → Bool) where
   met-says sx sy positive none q r u m = ap not (eq-eqb r 0 m)
 
 pub value-says : (v t : List ℕ) (r u : ℕ) → Met (held (valueAt valueLevels v) (typeAt typeLevels t)) r u → SaysAt valueConformsTo v t (not (eqb r 0))
-value-says v t r u m = met-says valueConformsTo size-val size size-val-positive (valueAt valueLevels v) (typeAt typeLevels t) r u m
+value-says v t r u m = met-says valueConformsTo sizeVal size size-val-positive (valueAt valueLevels v) (typeAt typeLevels t) r u m
 
 -- ---- built-in functions
 abbrev number-to-number : Ty
@@ -264,9 +266,9 @@ module _ (t v : List ℕ) (A : Accepted t v) where
   item-count : (l n : ℕ) (s : List ℕ) (vs : Vals) → itemsAt l n s ≡ some vs → countVals vs ≡ n
   unfolding countVals
   item-count l zero s vs e = ap countVals (no-item l s vs e)
-  item-count l (suc n) s vs e = let I = next-item l n s vs e in ap countVals (I .is) ∙ ap suc (item-count l n (drop (size-val (I .v)) s) (I .more) (I .second))
+  item-count l (suc n) s vs e = let I = next-item l n s vs e in ap countVals (I .is) ∙ ap suc (item-count l n (drop (sizeVal (I .v)) s) (I .more) (I .second))
 
-  not-one : (vs : Vals) (u : Ty) → (countVals vs ≡ 1 → ⊥) → item-conforms vs u ≡ false
+  not-one : (vs : Vals) (u : Ty) → (countVals vs ≡ 1 → ⊥) → soleItemConforms vs u ≡ false
   unfolding countVals
   not-one no-items u h = refl
   not-one (item x no-items) u h = absurd (h refl)
@@ -278,7 +280,7 @@ module _ (t v : List ℕ) (A : Accepted t v) where
       says itemConforms false (sym (ap (λ x. itemConforms x (A .type)) (L .is) ∙ not-one (L .vs) (A .type)
       (λ z. h (e ∙ sym (item-count (valueLevels - 1) (numAt 2 1 v) (drop 3 v) (L .vs) (L .read)) ∙ z))))
 
-  is-one : (vs : Vals) (u : Ty) → item-conforms vs u ≡ true → countVals vs ≡ 1
+  is-one : (vs : Vals) (u : Ty) → soleItemConforms vs u ≡ true → countVals vs ≡ 1
   unfolding countVals
   is-one no-items u h = absurd (false≢true h)
   is-one (item x no-items) u h = refl
@@ -305,7 +307,7 @@ module _ (t v : List ℕ) (A : Accepted t v) where
   one-item c n =
       let L = listed c in
       let I = next-item (valueLevels - 1) 0 (drop 3 v) (L .vs) (ap (λ k. itemsAt (valueLevels - 1) k (drop 3 v)) (sym n) ∙ L .read) in
-      let none-more = no-item (valueLevels - 1) (drop (size-val (I .v)) (drop 3 v)) (I .more) (I .second) in
+      let none-more = no-item (valueLevels - 1) (drop (sizeVal (I .v)) (drop 3 v)) (I .more) (I .second) in
       let is-one : A .value ≡ v-list (item (I .v) no-items) = L .is ∙ ap v-list (I .is ∙ ap (item (I .v)) none-more) in
       let C = value-accepted v (A .bytes-v) (A .value) (A .read-v) in
       let whole : v ≡ encV (v-list (item (I .v) no-items)) = C .bytes ∙ ap encV is-one in
@@ -395,15 +397,15 @@ module _ (t v : List ℕ) (A : Accepted t v) where
     pub give-no-item : getD v 0 0 ≡ 0x0A → (q : Bool) → SaysAt itemConforms v t q → q ≡ false → (room : ℕ) → fits room (0 ∷ 1 ∷ []) ≡ coercedCall v t room
     give-no-item c q g f room =
         let L = listed c in
-        let y : item-conforms (L .vs) (A .type) ≡ false = sym (ap (λ x. itemConforms x (A .type)) (L .is)) ∙ sym (was itemConforms q g) ∙ f in
-        let z : converted (A .value) (A .type) ≡ failed = ap (λ x. converted x (A .type)) (L .is) ∙ ap (λ b. cond b (first-item (L .vs)) failed) y in
+        let y : soleItemConforms (L .vs) (A .type) ≡ false = sym (ap (λ x. itemConforms x (A .type)) (L .is)) ∙ sym (was itemConforms q g) ∙ f in
+        let z : converted (A .value) (A .type) ≡ failed = ap (λ x. converted x (A .type)) (L .is) ∙ ap (λ b. cond b (firstItem (L .vs)) failed) y in
         sym (call-is room ∙ ap (result room) (changed ∙ z) ∙ failed-is room)
 
     -- no list
-    other-is : (getD v 0 0 ≡ 0x0A → ⊥) → converted (A .value) (A .type) ≡ to-single (A .value) (A .type)
+    other-is : (getD v 0 0 ≡ 0x0A → ⊥) → converted (A .value) (A .type) ≡ toSingle (A .value) (A .type)
     other-is c = go (A .value) (length v) node
       where
-        go : (x : Val) (n : ℕ) → NodeV (valueLevels - 1) v x n → converted x (A .type) ≡ to-single x (A .type)
+        go : (x : Val) (n : ℕ) → NodeV (valueLevels - 1) v x n → converted x (A .type) ≡ toSingle x (A .type)
         go x n (nNull p k y) = refl
         go x n (nBoolean p k y) = refl
         go x n (nNumber p k) = refl
@@ -420,12 +422,12 @@ module _ (t v : List ℕ) (A : Accepted t v) where
     module _ (c : getD v 0 0 ≡ 0x0A → ⊥) (q : Bool) (g : SaysAt innerConforms v t q) where
       pub give-failed : q ≡ false → (room : ℕ) → fits room (0 ∷ 1 ∷ []) ≡ coercedCall v t room
       give-failed f room =
-          let z : to-single (A .value) (A .type) ≡ failed = ap (λ b. cond b (single (A .value)) failed) (sym (was innerConforms q g) ∙ f) in
+          let z : toSingle (A .value) (A .type) ≡ failed = ap (λ b. cond b (single (A .value)) failed) (sym (was innerConforms q g) ∙ f) in
           sym (call-is room ∙ ap (result room) (changed ∙ other-is c ∙ z) ∙ failed-is room)
 
       pub give-single : q ≡ true → (lv : ℕ) → lv ≡ levelV (A .value) → (room : ℕ) → wrapped v lv room ≡ coercedCall v t room
       give-single f lv l room =
-          let z : to-single (A .value) (A .type) ≡ single (A .value) = ap (λ b. cond b (single (A .value)) failed) (sym (was innerConforms q g) ∙ f) in
+          let z : toSingle (A .value) (A .type) ≡ single (A .value) = ap (λ b. cond b (single (A .value)) failed) (sym (was innerConforms q g) ∙ f) in
           sym (call-is room ∙ ap (result room) (changed ∙ other-is c ∙ z) ∙ single-result room (A .value) v lv (accepted-value .0) l)
 
   pub long-value : length v ≤ mostBytes

@@ -1,4 +1,4 @@
--- What is stated of coercion holds. Idea: the last two rules end in one of three ways (`End`), and each statement is read off the way.
+-- What is stated of coercion holds (`coercion`). Idea: the last two rules end in one of three ways (`End`, `ends`), and each statement is read off the way.
 -- Assumes nothing.
 use mathlib.Core.Path.{_≡_, refl, sym, ap, _∙_}
 use mathlib.Core.Bool.{Bool, true, false, cond, _&&_, _||_, false≢true}
@@ -7,25 +7,25 @@ use Rattle.form.specs.Trees.{Ty, leaf, built, list, range, context, function, L
 use Rattle.form.specs.Trees.{v-type, v-irrelevant, Vals, no-items, item}
 use Rattle.order.specs.Order.{fixed}
 use Rattle.order.specs.Types.{cmp}
-use Rattle.order.specs.Values.{conforms, is-data, are-data}
+use Rattle.order.specs.Values.{conforms, isDataBy, areData}
 use Rattle.order.specs.Dmn.{dmnConformsTo}
 use Rattle.order.specs.Inferred.{valueConformsTo, isData, leastType}
 use Rattle.order.proofs.DataDmn.{data-is-dmn}
 use Rattle.ranges.specs.Ranges.{bifType}
 use Rattle.order.specs.Document.{conformsTo}
-use Rattle.coercion.specs.Coerce.{failed, single, unchanged, item-conforms, first-item, innerConforms, converted, coerced}
-use Rattle.coercion.specs.Dmn.{dmn-from, dmn-to, dmn-converted}
-use Rattle.coercion.specs.Coercion.{converts, is-nil-leaf, is-nil, one-nil, is-one-nil, Coercion}
+use Rattle.coercion.specs.Coerce.{failed, single, unchanged, soleItemConforms, firstItem, innerConforms, converted, coerced}
+use Rattle.coercion.specs.Dmn.{dmnFrom, dmnTo, dmnConverted}
+use Rattle.coercion.specs.Coercion.{converts, isNilLeaf, isNil, oneNil, isOneNil, Coercion}
 
 -- a value that is not Null is not the null of a failed coercion
-not-failed : (v : Val) → is-nil v ≡ false → v ≡ failed → ⊥
-not-failed v h e = false≢true (sym h ∙ ap is-nil e)
+not-failed : (v : Val) → isNil v ≡ false → v ≡ failed → ⊥
+not-failed v h e = false≢true (sym h ∙ ap isNil e)
 
 single-not : (v : Val) → single v ≡ failed → ⊥
 single-not v e = not-failed (single v) refl e
 
 -- Null conforms to every type
-nil-leaf : (l : Leaf) (t : Ty) → is-nil-leaf l ≡ true → valueConformsTo (v-leaf l) t ≡ true
+nil-leaf : (l : Leaf) (t : Ty) → isNilLeaf l ≡ true → valueConformsTo (v-leaf l) t ≡ true
 unfolding conforms cmp
 nil-leaf (l-null x) (leaf s) h = refl
 nil-leaf (l-null x) (built y) h = refl
@@ -34,7 +34,7 @@ nil-leaf (l-number x) t h = absurd (false≢true h)
 nil-leaf (l-string x) t h = absurd (false≢true h)
 nil-leaf (l-temporal k x) t h = absurd (false≢true h)
 
-nil-conforms : (v : Val) (t : Ty) → is-nil v ≡ true → valueConformsTo v t ≡ true
+nil-conforms : (v : Val) (t : Ty) → isNil v ≡ true → valueConformsTo v t ≡ true
 nil-conforms (v-leaf l) t h = nil-leaf l t h
 nil-conforms (v-range i j v w) t h = absurd (false≢true h)
 nil-conforms (v-list vs) t h = absurd (false≢true h)
@@ -77,7 +77,7 @@ to-end v (built (range u)) = fails
 to-end v (built (context fs)) = fails
 to-end v (built (function ps r)) = fails
 
-from-end : (vs : Vals) (t : Ty) → End (v-list vs) t (cond (item-conforms vs t) (first-item vs) failed) (item-conforms vs t)
+from-end : (vs : Vals) (t : Ty) → End (v-list vs) t (cond (soleItemConforms vs t) (firstItem vs) failed) (soleItemConforms vs t)
 from-end no-items t = fails
 from-end (item v no-items) t = go (valueConformsTo v t) refl
   where
@@ -97,12 +97,12 @@ ends (v-type a) t = to-end (v-type a) t
 ends v-irrelevant t = to-end v-irrelevant t
 
 -- ---- it fails exactly when no rule applies
-end-fails : (v : Val) (t : Ty) (w : Val) (q : Bool) → End v t w q → is-one-nil v ≡ false → (w ≡ failed) ↔ (q ≡ false)
+end-fails : (v : Val) (t : Ty) (w : Val) (q : Bool) → End v t w q → isOneNil v ≡ false → (w ≡ failed) ↔ (q ≡ false)
 end-fails v t w q fails h = (λ e. refl, λ e. refl)
-end-fails v t w q (item-of x p c) h = (λ e. absurd (not-failed x (sym (ap is-one-nil p) ∙ h) e), λ e. absurd (false≢true (sym e)))
+end-fails v t w q (item-of x p c) h = (λ e. absurd (not-failed x (sym (ap isOneNil p) ∙ h) e), λ e. absurd (false≢true (sym e)))
 end-fails v t w q (list-of u p c) h = (λ e. absurd (single-not v e), λ e. absurd (false≢true (sym e)))
 
-fails-by : (v w : Val) (q r : Bool) → is-nil v ≡ false → (w ≡ failed) ↔ (r ≡ false) → (cond q v w ≡ failed) ↔ (q || r ≡ false)
+fails-by : (v w : Val) (q r : Bool) → isNil v ≡ false → (w ≡ failed) ↔ (r ≡ false) → (cond q v w ≡ failed) ↔ (q || r ≡ false)
 fails-by v w true r h f = (λ e. absurd (not-failed v h e), λ e. absurd (false≢true (sym e)))
 fails-by v w false r h f = f
 
@@ -130,12 +130,12 @@ or-right false b h = h
 or-left : (a b : Bool) → a ≡ true → a || b ≡ true
 or-left a b h = ap (λ q. q || b) h
 
-one-nil-items : (vs : Vals) (t : Ty) → one-nil vs ≡ true → item-conforms vs t ≡ true
+one-nil-items : (vs : Vals) (t : Ty) → oneNil vs ≡ true → soleItemConforms vs t ≡ true
 one-nil-items no-items t h = absurd (false≢true h)
 one-nil-items (item v no-items) t h = nil-conforms v t h
 one-nil-items (item v (item w vs)) t h = absurd (false≢true h)
 
-one-nil-converts : (v : Val) (t : Ty) → is-one-nil v ≡ true → converts v t ≡ true
+one-nil-converts : (v : Val) (t : Ty) → isOneNil v ≡ true → converts v t ≡ true
 one-nil-converts (v-leaf l) t h = absurd (false≢true h)
 one-nil-converts (v-range i j v w) t h = absurd (false≢true h)
 one-nil-converts (v-list vs) t h = one-nil-items vs t h
@@ -145,15 +145,15 @@ one-nil-converts (v-built-in b) t h = absurd (false≢true h)
 one-nil-converts (v-type a) t h = absurd (false≢true h)
 one-nil-converts v-irrelevant t h = absurd (false≢true h)
 
-dmn-to-is : (v : Val) (t : Ty) → isData v ≡ true → cond (innerConforms v t) (single v) failed ≡ dmn-to v t
+dmn-to-is : (v : Val) (t : Ty) → isData v ≡ true → cond (innerConforms v t) (single v) failed ≡ dmnTo v t
 dmn-to-is v (leaf s) h = refl
 dmn-to-is v (built (list u)) h = ap (λ q. cond q (single v) failed) (data-is-dmn v u h)
 dmn-to-is v (built (range u)) h = refl
 dmn-to-is v (built (context fs)) h = refl
 dmn-to-is v (built (function ps r)) h = refl
 
-dmn-from-is : (vs : Vals) (t : Ty) → are-data fixed vs ≡ true → cond (item-conforms vs t) (first-item vs) failed ≡ dmn-from vs t
-unfolding is-data
+dmn-from-is : (vs : Vals) (t : Ty) → areData fixed vs ≡ true → cond (soleItemConforms vs t) (firstItem vs) failed ≡ dmnFrom vs t
+unfolding isDataBy
 dmn-from-is no-items t h = refl
 dmn-from-is (item v no-items) t h = ap (λ q. cond q v failed) (data-is-dmn v t (first-true (isData v) true h))
   where
@@ -162,8 +162,8 @@ dmn-from-is (item v no-items) t h = ap (λ q. cond q v failed) (data-is-dmn v t 
     first-true false b e = e
 dmn-from-is (item v (item w vs)) t h = refl
 
-dmn-is : (v : Val) (t : Ty) → isData v ≡ true → converted v t ≡ dmn-converted v t
-unfolding is-data
+dmn-is : (v : Val) (t : Ty) → isData v ≡ true → converted v t ≡ dmnConverted v t
+unfolding isDataBy
 dmn-is (v-leaf l) t h = dmn-to-is (v-leaf l) t h
 dmn-is (v-range i j v w) t h = dmn-to-is (v-range i j v w) t h
 dmn-is (v-list vs) t h = dmn-from-is vs t h
@@ -174,7 +174,7 @@ dmn-is (v-type a) t h = absurd (false≢true h)
 dmn-is v-irrelevant t h = absurd (false≢true h)
 
 data-unchanged : (v : Val) (t : Ty) → isData v ≡ true → unchanged v t ≡ dmnConformsTo (leastType v) t
-unfolding is-data
+unfolding isDataBy
 data-unchanged v t h = go v h ∙ data-is-dmn v t h
   where
     go : (w : Val) → isData w ≡ true → unchanged w t ≡ valueConformsTo w t

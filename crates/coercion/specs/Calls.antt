@@ -16,9 +16,9 @@ use Rattle.order.specs.Document.{conformsTo}
 use Rattle.types.specs.At.{typeAt}
 use Rattle.values.specs.At.{valueAt}
 use Rattle.ranges.specs.Ranges.{bifType}
-use Rattle.retrieval.specs.Filling.{Accepted}
-use Rattle.retrieval.specs.Calls.{result}
 use Rattle.coercion.specs.Coerce.{coerced}
+use Rattle.output.specs.Result.{result}
+use Rattle.values.specs.Calls.{Accepted}
 
 -- Value::coerced: self, then the target; 17 and 18 of the result
 unfoldable pub coercedCall : List ℕ → List ℕ → ℕ → Outcome (List ℕ)

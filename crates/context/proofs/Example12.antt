@@ -15,12 +15,12 @@ use Rattle.form.specs.Form.{bytes, countEntries, encLeaf, encV, levelV, WfLeaf,
 use Rattle.form.specs.Outcome.{Outcome, done, refused, _>>=_, _>>_, fits, pick}
 use Rattle.form.specs.Read.{readValue}
 use Rattle.form.proofs.Values.{value-accepted, value-accepts}
-use Rattle.retrieval.specs.Calls.{result}
-use Rattle.paths.specs.Paths.{value-of}
+use Rattle.paths.specs.Paths.{valueOf}
 use Rattle.updates.specs.Update as update
 use Rattle.context.specs.Calls.{givenOf, createEntriesCall, applyEntriesCall}
 use Rattle.context.specs.Example12.{self, path, created, Accepted, Within, Example12}
-use Rattle.context.proofs.Calling.{result-small, result-long, result-deep}
+use Rattle.context.proofs.CallContracts.{result-small, result-long, result-deep}
+use Rattle.output.specs.Result.{result}
 
 -- {1: true}, as a tree and read
 one-true : Entries
@@ -48,11 +48,11 @@ module _ (v : List ℕ) (a : Accepted v) (room : ℕ) where
   text = nested-text (a .value) ∙ ap created (sym (value-accepted v (a .are-bytes) (a .value) (a .read) .bytes))
 
   create-is : createEntriesCall self path v room ≡ result room (nested (a .value))
-  unfolding givenOf _>>=_ _>>_ one-true nested value-of update.create update.insert
+  unfolding givenOf _>>=_ _>>_ one-true nested valueOf update.create update.insert
   create-is = rw (self-read, a .read)
 
   apply-is : applyEntriesCall self path v room ≡ refused 16
-  unfolding givenOf _>>=_ _>>_ one-true value-of update.apply
+  unfolding givenOf _>>=_ _>>_ one-true valueOf update.apply
   apply-is = rw (self-read, a .read)
 
   fits-is : Within v a → createEntriesCall self path v room ≡ fits room (created v)

@@ -1,2 +1,2 @@
-pub mod Calling
+pub mod CallContracts
 pub mod Example12

@@ -9,8 +9,8 @@ use Rattle.form.specs.Limits.{nameWidth, mostBytes}
 use Rattle.form.specs.Trees.{Val, v-context, Entries}
 use Rattle.form.specs.Form.{encV, levelV, WfV}
 use Rattle.form.specs.Outcome.{Outcome, done, _>>=_, orRefuse}
-use Rattle.retrieval.specs.Calls.{result}
 use Rattle.context.specs.Calls.{Given}
+use Rattle.output.specs.Result.{result}
 
 -- A context is built in a spare place, looked at there, and given where it fits:
 -- the first n bytes of the spare place are w's, where w is not over 16,384 bytes

@@ -9,10 +9,10 @@ use Rattle.form.specs.Limits.{mostNames}
 use Rattle.form.specs.Trees.{Val, v-context, Entries}
 use Rattle.form.specs.Outcome.{Outcome, done, _>>=_, _>>_, check, orRefuse}
 use Rattle.form.specs.Read.{readValue}
-use Rattle.retrieval.specs.Calls.{result}
-use Rattle.paths.specs.Paths.{entries-of}
+use Rattle.paths.specs.Paths.{entriesOf}
 use Rattle.paths.specs.Calls.{contextOf}
 use Rattle.updates.specs.Update.{create, apply, zip, overwrite, moveEntry, setEntry, setNull, removeEntry}
+use Rattle.output.specs.Result.{result}
 
 -- ---- the arguments
 pub record Given : Type 0 where
@@ -25,7 +25,7 @@ givenOf c names v = do
   self ← readValue c
   check 11 (leb names mostNames)
   x ← readValue v
-  es ← orRefuse 12 (entries-of self)
+  es ← orRefuse 12 (entriesOf self)
   done (record { entries = es; value = x })
 
 pub record Two : Type 0 where
@@ -37,8 +37,8 @@ unfoldable pub twoOf : List ℕ → List ℕ → Outcome Two
 twoOf c o = do
   self ← readValue c
   other ← readValue o
-  es ← orRefuse 12 (entries-of self)
-  gs ← orRefuse 12 (entries-of other)
+  es ← orRefuse 12 (entriesOf self)
+  gs ← orRefuse 12 (entriesOf other)
   done (record { entries = es; others = gs })
 
 -- ---- the calls

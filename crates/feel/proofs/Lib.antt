@@ -1,2 +1,2 @@
-pub mod Halving
+pub mod PartPlaces
 pub mod LowWord

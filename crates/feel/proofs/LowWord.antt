@@ -1,4 +1,5 @@
--- Every answer is below 2^32: what is read is short, and what is made of it is bounded by it.
+-- Every answer is below 2^32 (`low-word`): what is read is short, and what is made of it is bounded by it.
+-- Idea: a bound on each answer is carried along the lines of its call's definition.
 -- Assumes nothing.
 use Prim.Native.Nat.{ℕ, zero, suc, _+_, _*_, _<_, _≤_}
 use native.Mathlib.Omega.{arith}
@@ -23,7 +24,7 @@ use Rattle.form.proofs.Types.{type-accepted, type-told}
 use Rattle.order.specs.Order.{fixed}
 use Rattle.order.specs.Document.{reducedForm, supertype, subtype}
 use Rattle.order.specs.Inferred.{leastType, typeOf}
-use Rattle.order.specs.Size.{size, size-val}
+use Rattle.order.specs.Size.{size, sizeVal}
 use Rattle.order.proofs.Simple.{and-left}
 use Rattle.order.proofs.Size.{length-enc, size-sup, size-sub, size-reduce}
 use Rattle.order.proofs.LeastSize.{length-encV, size-least}
@@ -32,26 +33,31 @@ use Rattle.order.proofs.WellFormed.{asc-of}
 use Rattle.types.proofs.Reading.{never}
 use Rattle.bounds.specs.Calls.{combined, reducedCall}
 use Rattle.infer.specs.Calls.{leastTypeCall, typeOfCall}
-use Rattle.retrieval.proofs.Theorems.{mapped-is}
-use Rattle.retrieval.specs.Calls.{small, result, getValueCheckedCall, getConformantValueCall}
+use Rattle.retrieval.specs.Calls.{getValueCheckedCall, getConformantValueCall}
 use Rattle.coercion.specs.Calls.{coercedCall}
 use Rattle.ranges.specs.Calls.{bifTypeCall}
-use Rattle.paths.specs.Paths.{entries-of}
+use Rattle.paths.specs.Paths.{entriesOf}
 use Rattle.paths.specs.Places.{Piece, piece}
 use Rattle.paths.specs.Calls.{contextOf, lenCall}
 use Rattle.paths.proofs.Whole.{of-context}
-use Rattle.updates.proofs.Entering.{count-size}
-use Rattle.names.specs.Texts.{command, fromStr, text}
-use Rattle.names.specs.Names.{trim, isMark, added, pushed, nameNew}
-use Rattle.names.specs.Tables.{inParts, readTexts, countedParts, readTable, readParts}
-use Rattle.names.specs.Calls.{displayCall, nameNewCall, trimCall, fromStrCall}
-use Rattle.names.proofs.Displaying.{text-most}
-use Rattle.names.proofs.Locating.{table-named}
-use Rattle.names.proofs.Tabling.{provided-got, end-none, read-zero, read-nil, texts-got}
-use Rattle.names.proofs.Naming.{trim-shorter, added-length}
+use Rattle.updates.proofs.Builders.{count-size}
 use Rattle.feel.specs.Numbers.{high, Halves}
 use Rattle.feel.specs.LowWord.{Low, Short, Near, LowWord}
-use Rattle.feel.proofs.Halving.{halves-deep, halves-entry, halves-first}
+use Rattle.feel.proofs.PartPlaces.{halves-deep, halves-entry, halves-first}
+use Rattle.output.specs.Result.{small, result}
+use Rattle.form.proofs.Options.{map-is}
+use Rattle.names.specs.BuiltInNames.{command, fromStr}
+use Rattle.names.specs.Reader.{readTexts}
+use Rattle.names.specs.Parts.{inParts, countedParts, readParts}
+use Rattle.names.specs.Calls.{nameNewCall, trimCall, fromStrCall}
+use Rattle.names.proofs.Reader.{provided-got, end-none, read-zero, read-nil, texts-got}
+use Rattle.names.proofs.NameNew.{trim-shorter, added-length}
+use Rattle.display.specs.Texts.{text}
+use Rattle.display.specs.Tables.{readTable}
+use Rattle.display.specs.Calls.{displayCall}
+use Rattle.display.proofs.Texts.{text-most}
+use Rattle.display.proofs.Marks.{table-named}
+use Rattle.names.specs.Names.{trim, isMark, added, pushed, nameNew}
 
 -- ---- along a definition
 -- what is written has fewer bytes than 2^32
@@ -97,7 +103,7 @@ resulted room v = go (small v) refl
 type-small : (t : List ℕ) (u : Ty) → Bytes t → readType t ≡ done u → size u ≤ mostBytes
 type-small t u bs e = let A = type-accepted t bs u e in omega (arith, A .short, ap length (A .bytes), length-enc u)
 
-value-small : (v : List ℕ) (w : Val) → Bytes v → readValue v ≡ done w → size-val w ≤ mostBytes
+value-small : (v : List ℕ) (w : Val) → Bytes v → readValue v ≡ done w → sizeVal w ≤ mostBytes
 value-small v w bs e = let A = value-accepted v bs w e in omega (arith, A .short, ap length (A .bytes), length-encV w)
 
 type-fitted : (room : ℕ) (t : Ty) → size t ≤ 2 * mostBytes → Written (fits room (enc t))
@@ -214,7 +220,7 @@ code-low yearsAndMonths = omega arith
 code-low null = omega arith
 
 known-low : (s : List ℕ) (c : ℕ) → fromStrCall s ≡ some c → c < high 1
-known-low s c e = let M = mapped-is command (fromStr s) c e in omega (arith, M .2, code-low (M .0))
+known-low s c e = let M = map-is command (fromStr s) c e in omega (arith, M .2, code-low (M .0))
 
 near : (o : Outcome (Option Piece)) → Halves o → Near o
 near (done none) h q e = absurd (let z : _≡_ {A = ℕ} 0 1 = cc in omega arith)
@@ -222,18 +228,18 @@ near (done (some (piece p n))) h q e = omega (arith, h .0, h .1)
 near (refused k) h q e = absurd (refused-done e)
 
 len-low : (c : List ℕ) → Bytes c → Low (lenCall c)
-unfolding contextOf _>>=_ _>>_ size-val
+unfolding contextOf _>>=_ _>>_ sizeVal
 len-low c bs n e = go (readValue c) refl e
   where
-    named : (v : Val) → readValue c ≡ done v → (o : Option Entries) → entries-of v ≡ o → (do es ← orRefuse 12 o; done (countEntries es)) ≡ done n → n < high 1
+    named : (v : Val) → readValue c ≡ done v → (o : Option Entries) → entriesOf v ≡ o → (do es ← orRefuse 12 o; done (countEntries es)) ≡ done n → n < high 1
     named v r none q z = absurd (refused-done z)
     named v r (some es) q z =
         let k : countEntries es ≡ n = cc in
         omega (arith, count-size es, value-small c (v-context es) bs (r ∙ ap done (of-context v es q)))
 
-    go : (o : Outcome Val) → readValue c ≡ o → (do es ← (do self ← o; check 11 (leb 0 mostNames); orRefuse 12 (entries-of self)); done (countEntries es)) ≡ done n → n < high 1
+    go : (o : Outcome Val) → readValue c ≡ o → (do es ← (do self ← o; check 11 (leb 0 mostNames); orRefuse 12 (entriesOf self)); done (countEntries es)) ≡ done n → n < high 1
     go (refused m) r z = absurd (refused-done z)
-    go (done v) r z = named v r (entries-of v) refl z
+    go (done v) r z = named v r (entriesOf v) refl z
 
 pub low-word : LowWord
 low-word = record {

@@ -16,7 +16,8 @@ use Rattle.ranges.specs.Calls.{bifTypeCall}
 use Rattle.paths.specs.Places.{extentOf, Piece}
 use Rattle.paths.specs.Calls.{searchDeepCall, getEntryCall, getFirstCall, lenCall}
 use Rattle.context.specs.Calls.{createEntriesCall, applyEntriesCall, zipCall, overwriteCall, moveEntryCall, setEntryCall, removeEntryCall, setNullCall}
-use Rattle.names.specs.Calls.{displayCall, nameNewCall, trimCall, fromStrCall}
+use Rattle.names.specs.Calls.{nameNewCall, trimCall, fromStrCall}
+use Rattle.display.specs.Calls.{displayCall}
 use Rattle.feel.specs.Numbers.{high, parted}
 
 -- the answer, where there is one, is below 2^32

@@ -15,12 +15,14 @@ ghost use Rattle.paths.specs.Places.{found, extentOf};
 ghost use Rattle.paths.specs.Calls.{searchDeepCall, getEntryCall, getFirstCall, containsDeepCall, containsEntryCall, isContextCall, isEmptyCall, lenCall, count};
 ghost use Rattle.context.specs.Calls.{createEntriesCall, applyEntriesCall, zipCall, overwriteCall, moveEntryCall, setEntryCall, removeEntryCall, setNullCall};
 ghost use Rattle.form.specs.Outcome.{done};
-ghost use Rattle.names.specs.Texts.{isBuiltInTypeName};
-ghost use Rattle.names.specs.Calls.{displayCall, nameNewCall, trimCall, fromStrCall, known};
+ghost use Rattle.names.specs.BuiltInNames.{isBuiltInTypeName};
+ghost use Rattle.names.specs.Calls.{nameNewCall, trimCall, fromStrCall, known};
+ghost use Rattle.display.specs.Calls.{displayCall};
 ghost use Rattle.feel.specs.Numbers.{numbered, judged, parted, named, Halves, Exported};
 use form::Checked;
 use form::Verdict;
 use form::Written;
+use form::refusals;
 use names::Known;
 use paths::Count;
 use paths::Found;
@@ -65,7 +67,7 @@ fn interval_number(i: u8, yes: bool) -> u64
     ensures { λ r. ⌜ r ≡ judged (interval (λ x. yes) i) ⌝ }
 {
     if 3 < i {
-        return REFUSED + 2;
+        return REFUSED + refusals::VALUE_SHAPE as u64;
     }
     yes_number(yes)
 }
@@ -423,7 +425,7 @@ pub extern "C" fn feel_context_create_entries(
     written_number(context::create_entries(c, path, v, out))
 }
 
-// The same, refused where a value on the way is no context.
+// The context with the value at the path; refused where a value on the way is no context.
 #[no_mangle]
 pub extern "C" fn feel_context_apply_entries(
     c: &[u8],
@@ -489,7 +491,7 @@ pub extern "C" fn feel_context_set_null(c: &[u8], name: u16, out: &mut [u8]) -> 
 pub extern "C" fn feel_names_display(t: &[u8], table: &[u8], out: &mut [u8]) -> u64
     ensures { λ r. ⌜ Exported (displayCall (now (t .entry)) (now (table .entry)) (length (now (out .entry)))) (now (out .entry)) (now (out .exit)) r ⌝ }
 {
-    written_number(names::display(t, table, out))
+    written_number(display::display(t, table, out))
 }
 
 // The command of the type with this name, or unknown.

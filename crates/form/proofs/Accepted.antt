@@ -1,4 +1,7 @@
 -- A whole is accepted exactly when it is the encoding of a well-formed tree within the limits, whatever is read.
+-- Idea: the tests of `readWhole` are passed one by one; what a sound reader found and fills all bytes is the encoding.
+-- Index: `whole-accepted`, `whole-accepts` (both directions); `whole-got`, `whole-short` (read whole, within the limit); `read-same` (equal bytes, equal trees);
+-- `level-told`, `level-refused` (from the answer of a check back to that of the reader).
 -- Assumes nothing.
 use Prim.Native.Nat.{ℕ, _+_, _<_, _≤_}
 use mathlib.Core.Path.{_≡_, refl, sym, ap, subst, _∙_}

@@ -1,4 +1,5 @@
 -- An answer has passed every line of its definition: one law for each kind of line of a `do` block.
+-- Index: `bind-done`, `check-done`, `fits-done` (the lines); `done-same` (one answer only).
 -- Assumes nothing.
 use Prim.Native.Nat.{ℕ, _≤_}
 use mathlib.Core.Path.{_≡_, refl, sym}

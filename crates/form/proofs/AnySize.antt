@@ -1,5 +1,6 @@
 -- A type of any size: the reader without limits refuses for no level and no length, and an accepted type is one within the limits.
 -- Idea: as many levels as bytes are enough, since every level takes a byte (`read-fair`).
+-- Index: `Fair`, `read-fair` (no fault of the level); `any-numbers` (the refusals that are left); `any-some`; `accepted-any` (the reader with and without limits).
 -- Assumes nothing.
 use Prim.Native.Nat.{ℕ, zero, suc, _+_, _<_, _≤_}
 use mathlib.Core.Path.{_≡_, sym}

@@ -1,4 +1,4 @@
--- The statements of the byte form hold: the laws of types, values and refusals, gathered.
+-- The statements of the byte form hold (`byte-form`): the laws of types, values and refusals, gathered.
 -- Assumes nothing.
 use Rattle.form.specs.Limits.{typeLevels, valueLevels, typeRefusals, valueRefusals}
 use Rattle.form.specs.Form.{enc, encV, level, levelV, Wf, WfV}

@@ -1,4 +1,7 @@
 -- What a reader accepts is exactly an encoding: the laws of the combinators and of the runs, whatever is read.
+-- Idea: two directions. An encoding is read back whatever follows it; what was read is taken apart, and its parts are encodings (`Found`, `Sound`).
+-- Index: `front-read`, `then-read`, `item-read`, `named-read`, `operand-read`, `counted-read` (read back); `front-parts`, `then-parts`, `operand-parts`, `orElse-parts` (taken apart);
+-- `front-found`, `then-found`, `found-behind` (an encoding from its parts); `run-sound`, `named-sound`, `counted-sound` (runs, from `RunLaws` and `NamedLaws`).
 -- Assumes nothing.
 use Prim.Native.Nat.{ℕ, zero, suc, _+_, _<_, _≤_, _^_, max}
 use mathlib.Core.Path.{_≡_, refl, sym, ap, ap₂, subst, _∙_}

@@ -1,19 +1,20 @@
 -- `readT` accepts exactly the encodings of the well-formed types of the level that is left.
+-- Idea: induction on the tree in one direction, on the level in the other; each command is one law of Exact.
+-- Index: `read-enc` (an encoding is read back), `enc-read` (what is read is an encoding); `decode-code`, `code-decode`, `code-small` (simple types as bytes).
 -- Assumes nothing.
-use Prim.Native.Nat.{ℕ, zero, suc, _+_, _*_, _-_, _/_, _%_, _<_, _≤_, max}
-use mathlib.Core.Path.{_≡_, refl, sym, ap, ap₂, subst, _∙_}
-use mathlib.Core.Bool.{Bool, true, false}
-use mathlib.Core.List.{List, [], _∷_, _++_, append-assoc, append-nil}
+use Prim.Native.Nat.{ℕ, zero, suc, _+_, _-_, _<_, _≤_}
+use mathlib.Core.Path.{_≡_, refl, sym, ap, ap₂, _∙_}
+use mathlib.Core.List.{List, [], _∷_, _++_}
 use native.Mathlib.Omega.{arith}
-use lib.ListN.{length, take, drop, length-append}
-use lib.Seq.{drop-append-seam, take-append-seam}
-use Rattle.form.specs.Trees.{Simple, any, boolean, number, string, date, time, dateTime, daysAndTime, yearsAndMonths, null, Ty, leaf, built, Built, list, range, context, function, Fields, no-fields, field, Tys, no-params, param, code, decode}
-use Rattle.form.specs.Limits.{nameWidth}
+use lib.ListN.{length, drop}
+use Rattle.form.specs.Trees.{Simple, any, boolean, number, string, date, time, dateTime, daysAndTime, yearsAndMonths, null, Ty, leaf, built, Built, list, range, context}
+use Rattle.form.specs.Trees.{function, Fields, no-fields, field, Tys, no-params, param, code, decode}
 use Rattle.form.specs.Form.{bytes, Bytes, enc, encBuilt, encFields, encTys, level, levelBuilt, levelFields, levelTys, Wf, WfBuilt, WfFields, WfTys, countFields, countTys}
-use Rattle.form.specs.Layout.{TypeKind, tSimple, tList, tRange, tContext, tFunction, Kind, ofValue, ofType, noCommand, kindOf}
-use Rattle.form.specs.Read.{Got, got, bad, front, readRun, readNamed, readFields, readTys, ascending, readFunction, stepType, stepT, readT}
-use Rattle.form.proofs.Commands.{ViewT, isSimpleT, isListT, isRangeT, isContextT, isFunctionT, View, isValue, isType, isGap, isBeyond, view, kind-simple}
-use Rattle.form.proofs.Exact.{got-is, bad-got, bytes-head, bytes-drop, front-read, then-read, item-read, named-read, counted-read, Found, Sound, found-as, got-parts, front-parts, then-parts, front-found, then-found, RunLaws, run-sound, NamedLaws, named-sound, counted-sound}
+use Rattle.form.specs.Layout.{TypeKind, Kind, kindOf}
+use Rattle.form.specs.Read.{Got, got, front, readRun, readNamed, readFields, readTys, ascending, readFunction, stepType, stepT, readT}
+use Rattle.form.proofs.CommandKinds.{ViewT, isSimpleT, isListT, isRangeT, isContextT, isFunctionT, View, isValue, isType, isGap, isBeyond, view, kind-simple}
+use Rattle.form.proofs.Exact.{got-is, bad-got, bytes-head, bytes-drop, front-read, then-read, item-read, named-read, counted-read, Found, Sound, found-as, got-parts}
+use Rattle.form.proofs.Exact.{front-parts, then-parts, front-found, then-found, RunLaws, run-sound, NamedLaws, named-sound, counted-sound}
 
 pub decode-code : (s : Simple) → decode (code s) ≡ s
 decode-code any = refl
@@ -72,15 +73,22 @@ mutual
   built-enc (list t) l rest g h = front-read (λ t. built (list t)) 1 (enc t) t (readT l (enc t ++ rest)) (read-enc t l rest g h) ∙ got-is (omega arith)
   built-enc (range t) l rest g h = front-read (λ t. built (range t)) 1 (enc t) t (readT l (enc t ++ rest)) (read-enc t l rest g h) ∙ got-is (omega arith)
   built-enc (context fs) l rest g h = counted-read (λ fs. built (context fs)) (λ c r. readFields (readT l) c 0 r) (countFields fs) (encFields fs) rest fs (g .0) (fields-enc fs l 0 rest (g .1) h)
-  built-enc (function ts t) l rest g h = then-read (λ ts t. built (function ts t)) 2 (readTys (readT l) (countTys ts)) (readT l) (encTys ts) (enc t) rest ts t (tys-enc ts l (enc t ++ rest) (g .1 .0) (omega arith)) (read-enc t l rest (g .1 .1) (omega arith)) ∙ got-is (omega arith)
+  built-enc (function ts t) l rest g h =
+      then-read (λ ts t. built (function ts t)) 2 (readTys (readT l) (countTys ts)) (readT l) (encTys ts) (enc t) rest ts t
+      (tys-enc ts l (enc t ++ rest) (g .1 .0) (omega arith)) (read-enc t l rest (g .1 .1) (omega arith)) ∙ got-is (omega arith)
 
-  fields-enc : (fs : Fields) (l least : ℕ) (rest : List ℕ) → WfFields fs least → levelFields fs ≤ l → readFields (readT l) (countFields fs) least (encFields fs ++ rest) ≡ got fs (length (encFields fs))
+  fields-enc : (fs : Fields) (l least : ℕ) (rest : List ℕ) → WfFields fs least → levelFields fs ≤ l
+      → readFields (readT l) (countFields fs) least (encFields fs ++ rest) ≡ got fs (length (encFields fs))
   fields-enc no-fields l least rest g h = refl
-  fields-enc (field m t fs) l least rest g h = named-read no-fields field ascending (readT l) m least (enc t) (encFields fs) rest t fs (countFields fs) (g .0) (g .1 .0) (read-enc t l (encFields fs ++ rest) (g .1 .1 .0) (omega arith)) (fields-enc fs l (m + 1) rest (g .1 .1 .1) (omega arith))
+  fields-enc (field m t fs) l least rest g h =
+      named-read no-fields field ascending (readT l) m least (enc t) (encFields fs) rest t fs (countFields fs) (g .0) (g .1 .0)
+      (read-enc t l (encFields fs ++ rest) (g .1 .1 .0) (omega arith)) (fields-enc fs l (m + 1) rest (g .1 .1 .1) (omega arith))
 
   tys-enc : (ts : Tys) (l : ℕ) (rest : List ℕ) → WfTys ts → levelTys ts ≤ l → readTys (readT l) (countTys ts) (encTys ts ++ rest) ≡ got ts (length (encTys ts))
   tys-enc no-params l rest g h = refl
-  tys-enc (param t ts) l rest g h = item-read no-params param (readT l) (enc t) (encTys ts) rest t ts (countTys ts) (read-enc t l (encTys ts ++ rest) (g .0) (omega arith)) (tys-enc ts l rest (g .1) (omega arith))
+  tys-enc (param t ts) l rest g h =
+      item-read no-params param (readT l) (enc t) (encTys ts) rest t ts (countTys ts) (read-enc t l (encTys ts ++ rest) (g .0) (omega arith))
+      (tys-enc ts l rest (g .1) (omega arith))
 
 -- ---- WHAT IS READ IS AN ENCODING
 fields-laws : NamedLaws enc Wf level encFields WfFields levelFields countFields no-fields field ascending
@@ -99,7 +107,9 @@ module _ (child : List ℕ → Got Ty) (l : ℕ) (snd : Sound enc Wf level l chi
       let d : b ≡ 32 + code (decode (b - 32)) = omega arith in
       got-parts (leaf (decode (b - 32))) t 1 n e (λ x y. found-as x y (record { rest = s; bytes = ap (λ (a : ℕ). a ∷ s) d; took = refl; well = tt; low = omega arith }))
 
-  one-sound : (mk : Ty → Built) (cmd : ℕ) → ((t : Ty) → enc (built (mk t)) ≡ cmd ∷ enc t) → ((t : Ty) → Wf t → Wf (built (mk t))) → ((t : Ty) → level (built (mk t)) ≡ suc (level t)) → (b : ℕ) (s : List ℕ) → b ≡ cmd → Bytes s → (t : Ty) (n : ℕ) → front (λ t. built (mk t)) 1 (child s) ≡ got t n → Found enc Wf level (suc l) (b ∷ s) t n
+  one-sound : (mk : Ty → Built) (cmd : ℕ) → ((t : Ty) → enc (built (mk t)) ≡ cmd ∷ enc t) → ((t : Ty) → Wf t → Wf (built (mk t)))
+      → ((t : Ty) → level (built (mk t)) ≡ suc (level t)) → (b : ℕ) (s : List ℕ) → b ≡ cmd → Bytes s → (t : Ty) (n : ℕ) → front (λ t. built (mk t)) 1 (child s) ≡ got t n
+      → Found enc Wf level (suc l) (b ∷ s) t n
   one-sound mk cmd e g v b s be bs t n eq =
       front-parts (λ t. built (mk t)) 1 (child s) t n eq (λ x m px pz pn.
       let F = snd s bs x m px in
@@ -123,7 +133,9 @@ module _ (child : List ℕ → Got Ty) (l : ℕ) (snd : Sound enc Wf level l chi
   type-sound b s bs k (isSimpleT p q) t n e = simple-sound b s p q t n e
   type-sound b s bs k (isListT p) t n e = one-sound list 0x2A (λ x. refl) (λ x g. g) (λ x. refl) b s p bs t n e
   type-sound b s bs k (isRangeT p) t n e = one-sound range 0x2B (λ x. refl) (λ x g. g) (λ x. refl) b s p bs t n e
-  type-sound b s bs k (isContextT p) t n e = counted-sound {goodR = λ fs. WfFields fs 0} {count = countFields} l (λ fs. built (context fs)) (λ c r. readFields child c 0 r) 0x2C (λ x. refl) (λ x c g. (c, g)) (λ x. refl) (λ c. named-sound fields-laws child l snd c 0) b p s bs t n e
+  type-sound b s bs k (isContextT p) t n e =
+      counted-sound {goodR = λ fs. WfFields fs 0} {count = countFields} l (λ fs. built (context fs)) (λ c r. readFields child c 0 r) 0x2C (λ x. refl) (λ x c g. (c, g))
+      (λ x. refl) (λ c. named-sound fields-laws child l snd c 0) b p s bs t n e
   type-sound b s bs k (isFunctionT p) t n e = function-sound b s p bs t n e
 
   step-sound : (b : ℕ) (s : List ℕ) → Bytes s → (k : Kind) → View b k → (t : Ty) (n : ℕ) → stepT child k b s ≡ got t n → Found enc Wf level (suc l) (b ∷ s) t n

@@ -1,4 +1,6 @@
 -- `readV` accepts exactly the encodings of the well-formed values of the level that is left.
+-- Idea: induction on the tree in one direction, on the level in the other; each command is one law of Exact.
+-- Index: `read-encV` (an encoding is read back), `enc-readV` (what is read is an encoding); `decode-code`, `code-decode`, `code-small-temporal` (temporal kinds as bytes).
 -- Assumes nothing.
 use Prim.Native.Nat.{ℕ, zero, suc, _+_, _-_, _<_, _≤_, _^_}
 use mathlib.Core.Path.{_≡_, refl, sym, ap, ap₂, _∙_}
@@ -9,8 +11,8 @@ use lib.ListN.{length, take, drop, take-append-drop}
 use lib.Dec.{leb, eqb}
 use borrow.Author.Tests.{le-leb, leb-true}
 use Rattle.form.specs.Trees.{Ty, Temporal, on-date, at-time, at-dateTime, for-daysAndTime, for-yearsAndMonths, Leaf, l-null, l-boolean, l-number, l-string, l-temporal, Params, no-parameters}
-use Rattle.form.specs.Trees.{parameter, Val, v-leaf, v-range, v-list, v-context, v-function, v-built-in, v-type, v-irrelevant, Vals, no-items, item, Entries, no-entries, entry, code-temporal}
-use Rattle.form.specs.Trees.{decode-temporal}
+use Rattle.form.specs.Trees.{parameter, Val, v-leaf, v-range, v-list, v-context, v-function, v-built-in, v-type, v-irrelevant, Vals, no-items, item, Entries, no-entries, entry, codeTemporal}
+use Rattle.form.specs.Trees.{decodeTemporal}
 use Rattle.form.specs.Limits.{nameWidth}
 use Rattle.form.specs.Form.{bytes, num, bit, Bytes, enc, encParams, encLeaf, encV, encVals, encEntries, level, levelParams, levelV, levelVals, levelEntries, Wf, WfParams, WfLeaf, WfV, WfVals}
 use Rattle.form.specs.Form.{WfEntries, countParams, countVals, countEntries}
@@ -18,8 +20,9 @@ use Rattle.form.specs.Layout.{ValueKind, Kind, kindOf}
 use Rattle.form.specs.Read.{Got, got, front, andThen, orElse, readRun, readNamed, readVals, readEntries, readParams, ascending, anyOrder, readFlag, readKey, readRange, signature, readDefinition}
 use Rattle.form.specs.Read.{readT, stepValue, stepV, readV}
 use Rattle.form.specs.Faults.{Shape}
-use Rattle.form.proofs.Commands.{ViewV, isNull, isBoolean, isNumber, isString, isTemporal, isRange, isList, isContext, isDefinition, isBuiltIn, isFeelType, isIrrelevant, View, isValue, isType}
-use Rattle.form.proofs.Commands.{isGap, isBeyond, view, kind-temporal}
+use Rattle.form.proofs.CommandKinds.{ViewV, isNull, isBoolean, isNumber, isString, isTemporal, isRange, isList, isContext, isDefinition, isBuiltIn, isFeelType, isIrrelevant}
+use Rattle.form.proofs.CommandKinds.{View, isValue, isType}
+use Rattle.form.proofs.CommandKinds.{isGap, isBeyond, view, kind-temporal}
 use Rattle.form.proofs.First.{length-front}
 use Rattle.form.proofs.Exact.{got-is, bad-got, bytes-head, bytes-drop, operand-read, front-read, then-read, item-read, named-read, counted-read, Found, Sound, found-as}
 use Rattle.form.proofs.Exact.{orElse-parts, got-parts, operand-parts, operand-below, operand-bytes, front-parts, then-parts, front-found, then-found, found-behind, RunLaws, run-sound}
@@ -27,21 +30,21 @@ use Rattle.form.proofs.Exact.{NamedLaws, named-sound, counted-sound}
 use Rattle.form.proofs.ExactTypes.{read-enc, enc-read}
 use Rattle.form.proofs.Numbers.{length-bytes, take-length}
 
-pub decode-code : (t : Temporal) → decode-temporal (code-temporal t) ≡ t
+pub decode-code : (t : Temporal) → decodeTemporal (codeTemporal t) ≡ t
 decode-code on-date = refl
 decode-code at-time = refl
 decode-code at-dateTime = refl
 decode-code for-daysAndTime = refl
 decode-code for-yearsAndMonths = refl
 
-pub code-decode : (n : ℕ) → n < 5 → code-temporal (decode-temporal n) ≡ n
+pub code-decode : (n : ℕ) → n < 5 → codeTemporal (decodeTemporal n) ≡ n
 code-decode zero h = refl
 code-decode (suc zero) h = refl
 code-decode (suc (suc zero)) h = refl
 code-decode (suc (suc (suc zero))) h = refl
 code-decode (suc (suc (suc (suc n)))) h = omega arith
 
-pub code-small-temporal : (t : Temporal) → code-temporal t < 5
+pub code-small-temporal : (t : Temporal) → codeTemporal t < 5
 code-small-temporal on-date = omega arith
 code-small-temporal at-time = omega arith
 code-small-temporal at-dateTime = omega arith
@@ -70,13 +73,13 @@ key-read : (k : ℕ) (mk : ℕ → Val) (x : ℕ) (r : List ℕ) → x < 256 ^ k
 unfolding readKey
 key-read k mk x r h = rw (append-nil (bytes k x)) at (operand-read k (λ y q. got (mk y) (1 + k)) x [] r h)
 
-temporal-enc : (t : Temporal) (k l : ℕ) (rest : List ℕ) → k < 256 ^ 8 → readV (suc l) ((4 + code-temporal t) ∷ (bytes 8 k ++ rest)) ≡ got (v-leaf (l-temporal t k)) (suc (length (bytes 8 k)))
+temporal-enc : (t : Temporal) (k l : ℕ) (rest : List ℕ) → k < 256 ^ 8 → readV (suc l) ((4 + codeTemporal t) ∷ (bytes 8 k ++ rest)) ≡ got (v-leaf (l-temporal t k)) (suc (length (bytes 8 k)))
 unfolding readV stepV stepValue
 temporal-enc t k l rest g =
     let h = code-small-temporal t in
-    let e : 4 + code-temporal t - 4 ≡ code-temporal t = omega arith in
+    let e : 4 + codeTemporal t - 4 ≡ codeTemporal t = omega arith in
     let z = length-bytes 8 k in
-    rw (kind-temporal (4 + code-temporal t) (omega arith) (omega arith), e, decode-code t) (key-read 8 (λ x. v-leaf (l-temporal t x)) k rest g ∙ got-is (omega arith))
+    rw (kind-temporal (4 + codeTemporal t) (omega arith) (omega arith), e, decode-code t) (key-read 8 (λ x. v-leaf (l-temporal t x)) k rest g ∙ got-is (omega arith))
 
 leaf-enc : (x : Leaf) (l : ℕ) (rest : List ℕ) → WfLeaf x → readV (suc l) (encLeaf x ++ rest) ≡ got (v-leaf x) (length (encLeaf x))
 unfolding readV stepV stepValue kindOf encLeaf WfLeaf
@@ -239,13 +242,13 @@ module _ (child : List ℕ → Got Val) (type : List ℕ → Got Ty) (l : ℕ) (
   unfolding encV levelV WfV
   irrelevant-sound b s be v n eq = got-parts v-irrelevant v 1 n eq (λ p q. found-as p q (record { rest = s; bytes = ap (λ (a : ℕ). a ∷ s) be; took = refl; well = tt; low = omega arith }))
 
-  temporal-sound : (b : ℕ) (s : List ℕ) → 4 ≤ b → b < 9 → Bytes s → (v : Val) (n : ℕ) → readKey 8 (λ x. v-leaf (l-temporal (decode-temporal (b - 4)) x)) s ≡ got v n
+  temporal-sound : (b : ℕ) (s : List ℕ) → 4 ≤ b → b < 9 → Bytes s → (v : Val) (n : ℕ) → readKey 8 (λ x. v-leaf (l-temporal (decodeTemporal (b - 4)) x)) s ≡ got v n
       → Found encV WfV levelV (suc l) (b ∷ s) v n
   unfolding encV encLeaf levelV WfV WfLeaf
   temporal-sound b s p q bs v n eq =
-      let c : code-temporal (decode-temporal (b - 4)) ≡ b - 4 = code-decode (b - 4) (omega arith) in
-      let d : b ≡ 4 + code-temporal (decode-temporal (b - 4)) = omega arith in
-      key-sound l 8 (λ x. v-leaf (l-temporal (decode-temporal (b - 4)) x)) (4 + code-temporal (decode-temporal (b - 4))) (λ x. refl) (λ x g. g) (λ x. refl) b d s bs v n eq
+      let c : codeTemporal (decodeTemporal (b - 4)) ≡ b - 4 = code-decode (b - 4) (omega arith) in
+      let d : b ≡ 4 + codeTemporal (decodeTemporal (b - 4)) = omega arith in
+      key-sound l 8 (λ x. v-leaf (l-temporal (decodeTemporal (b - 4)) x)) (4 + codeTemporal (decodeTemporal (b - 4))) (λ x. refl) (λ x g. g) (λ x. refl) b d s bs v n eq
 
   value-sound : (b : ℕ) (s : List ℕ) → Bytes s → (k : ValueKind) → ViewV b k → (v : Val) (n : ℕ) → stepValue child type k b s ≡ got v n → Found encV WfV levelV (suc l) (b ∷ s) v n
   unfolding stepValue encV encLeaf levelV WfV WfLeaf

@@ -1,5 +1,6 @@
 -- The order inside one argument: no byte before the level, and a name before its entry's child.
 -- Idea: the readers' own first tests.
+-- Index: `no-byte`, `level-next`, `name-first`; `operand-front`, `length-front` (a number that stands in front).
 -- Assumes nothing.
 use Prim.Native.Nat.{ℕ, zero, suc, _+_, _<_, _^_}
 use native.Mathlib.Omega.{arith}

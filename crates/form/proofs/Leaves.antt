@@ -1,5 +1,6 @@
 -- The short ways past leaves are exact. A leaf that was read has its command and its operands at the front (from the reader's nodes), so there is
 -- none where one of them is missing; where all are there it is read (from the walk's laws), and its node says that it is a leaf.
+-- Index: `simple-none`, `simple-some` (a simple type); `LeafHere`, `leaf-none`, `leaf-some`, `key-end` (a leaf of data).
 -- Assumes nothing.
 use Prim.Native.Nat.{ℕ, _+_, _-_, _<_, _≤_}
 use mathlib.Core.Path.{_≡_, refl, sym, ap, _∙_}
@@ -15,7 +16,7 @@ use Rattle.form.specs.Layout.{tSimple, ofType, kindOf, operands, operand
 use Rattle.form.specs.Read.{Got, got, bad, readT, stepType, stepT, readV}
 use Rattle.form.specs.Walks.{walkOf, leafIn, Short, operandEnd}
 use Rattle.form.specs.Walks as walk
-use Rattle.form.proofs.Commands.{kind-simple, key-width}
+use Rattle.form.proofs.CommandKinds.{kind-simple, key-width}
 use Rattle.form.proofs.Runs.{end-stop, first-at}
 use Rattle.form.proofs.Nodes.{NodeT, nSimple, nList, nRange, nContext, nFunction, type-read, value-read}
 use Rattle.form.proofs.Nodes.{NodeV, nNull, nBoolean, nNumber, nString, nTemporal, nRangeV, nListV, nContextV, nDefinition, nBuiltIn, nType, nIrrelevant}

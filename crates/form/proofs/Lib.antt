@@ -1,9 +1,9 @@
 pub mod Numbers
 pub mod First
 pub mod Table
-pub mod Commands
+pub mod CommandKinds
 pub mod Runs
-pub mod Told
+pub mod WalkAnswers
 pub mod Loops
 pub mod TypeLaws
 pub mod ValueLaws
@@ -17,8 +17,9 @@ pub mod Answered
 pub mod Types
 pub mod Values
 pub mod AnySize
-pub mod Fuel
+pub mod MoreLevels
 pub mod Nodes
 pub mod Leaves
 pub mod Encoded
 pub mod ByteForm
+pub mod Options

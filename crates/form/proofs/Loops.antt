@@ -1,4 +1,7 @@
 -- The loops over children, whatever is read: what a turn, a fault and the end owe, from what the child's walk told.
+-- Idea: the answer of the whole is the answer from here (`RunInv` of Runs); each exit of a loop is one law, for runs with and without names.
+-- Index: `items-short`, `items-walk`, `items-fault`, `items-end` (children one behind the other); `names-short`, `names-walk`, `names-none`, `names-fall`, `names-fault`,
+-- `names-end` (each behind its name); `DeepInv`, `deep-start`, `deep-turn`, `deep-is` (loops whose `deep` starts at 1); `none-told` (no children); `fits`, `level-some`.
 -- Assumes nothing.
 use Prim.Native.Nat.{ℕ, _+_, _-_, _<_, _≤_, max}
 use mathlib.Core.Path.{_≡_, refl, sym, ap}
@@ -13,13 +16,13 @@ use Rattle.form.specs.Read.{Got, got, bad, readRun, readNamed}
 use Rattle.form.specs.Walks.{Walk, walkOf, walkBy, up, Told, Short}
 use Rattle.form.specs.Walks as walk
 use Rattle.form.proofs.Runs.{RunInv, run-start, run-done, run-fault, run-turn, run-none, item-fault, item-turn, named-none, named-ends, named-names, named-fault, named-turn}
-use Rattle.form.proofs.Told.{told-end, short-end, told-part, told-stop, told-fault, told-run}
+use Rattle.form.proofs.WalkAnswers.{told-end, short-end, told-part, told-stop, told-fault, told-run}
 
 -- what a child's walk told on the part from a
 abbrev pub ToldAt : {X : Type 0} → (X → ℕ) → (List ℕ → Got X) → List ℕ → ℕ → ℕ → ℕ → Type 0
 ToldAt lx child s a r t = Told (walkOf lx (child (take (length s - a) (drop a s)))) (length (take (length s - a) (drop a s))) r t
 
--- the same, on what is left from a
+-- on what is left from a
 abbrev pub Here : {X : Type 0} → (X → ℕ) → (List ℕ → Got X) → List ℕ → ℕ → ℕ → ℕ → Type 0
 Here lx child s a r t = Told (walkOf lx (child (drop a s))) (length s - a) r t
 

@@ -1,4 +1,6 @@
 -- For the walks that come after the reader: what was read, node by node, in the terms of the code (an element, a part from an index).
+-- Idea: the reader's step is taken apart once for each command; a walk then matches on the node.
+-- Index: `TypeRead`, `NodeT`, `type-read` (a type); `ValueRead`, `NodeV`, `value-read` (a value); `item-parts`, `named-parts` (the first child of a run).
 -- Assumes nothing.
 use Prim.Native.Nat.{ℕ, zero, suc, _+_, _-_, _<_, _≤_}
 use mathlib.Core.Path.{_≡_, sym, subst}
@@ -8,15 +10,15 @@ use lib.ListN.{length, getD, take, drop}
 use lib.Dec.{leb, eqb}
 use borrow.Author.Tests.{leb-true}
 use Rattle.form.specs.Trees.{Ty, leaf, built, list, range, context, function, Fields, Tys, l-null, l-boolean, l-number, l-string, l-temporal, Params, Val, v-leaf, v-range, v-list, v-context}
-use Rattle.form.specs.Trees.{v-function, v-built-in, v-type, v-irrelevant, Vals, Entries, decode, decode-temporal}
+use Rattle.form.specs.Trees.{v-function, v-built-in, v-type, v-irrelevant, Vals, Entries, decode, decodeTemporal}
 use Rattle.form.specs.Limits.{nameWidth}
 use Rattle.form.specs.Form.{num, numAt}
 use Rattle.form.specs.Layout.{ValueKind, TypeKind, Kind, kindOf}
 use Rattle.form.specs.Read.{Got, got, front, andThen, orElse, named, readRun, readNamed, readFields, readTys, readVals, readEntries, readParams, readFlag, readKey, counted, readFunction}
 use Rattle.form.specs.Read.{readRange, signature, readDefinition, stepType, stepT, readT, stepValue, stepV, readV}
 use Rattle.form.specs.Faults.{Shape, Names}
-use Rattle.form.proofs.Commands.{ViewV, isNull, isBoolean, isNumber, isString, isTemporal, isRange, isList, isContext, isDefinition, isBuiltIn, isFeelType, isIrrelevant, ViewT, isSimpleT}
-use Rattle.form.proofs.Commands.{isListT, isRangeT, isContextT, isFunctionT, View, isValue, isType, isGap, isBeyond, view}
+use Rattle.form.proofs.CommandKinds.{ViewV, isNull, isBoolean, isNumber, isString, isTemporal, isRange, isList, isContext, isDefinition, isBuiltIn, isFeelType, isIrrelevant, ViewT, isSimpleT}
+use Rattle.form.proofs.CommandKinds.{isListT, isRangeT, isContextT, isFunctionT, View, isValue, isType, isGap, isBeyond, view}
 use Rattle.form.proofs.Exact.{bad-got, orElse-parts, got-parts, operand-parts, front-parts, then-parts}
 
 -- ---- runs
@@ -96,7 +98,7 @@ pub data NodeV (left : ℕ) (s : List ℕ) : Val → ℕ → Type 0 where
   nBoolean : getD s 0 0 ≡ 1 → 2 ≤ length s → getD s 1 0 ≤ 1 → NodeV left s (v-leaf (l-boolean (eqb (getD s 1 0) 1))) 2
   nNumber : getD s 0 0 ≡ 2 → 9 ≤ length s → NodeV left s (v-leaf (l-number (numAt 8 1 s))) 9
   nString : getD s 0 0 ≡ 3 → 1 + nameWidth ≤ length s → NodeV left s (v-leaf (l-string (numAt nameWidth 1 s))) (1 + nameWidth)
-  nTemporal : 4 ≤ getD s 0 0 → getD s 0 0 < 9 → 9 ≤ length s → NodeV left s (v-leaf (l-temporal (decode-temporal (getD s 0 0 - 4)) (numAt 8 1 s))) 9
+  nTemporal : 4 ≤ getD s 0 0 → getD s 0 0 < 9 → 9 ≤ length s → NodeV left s (v-leaf (l-temporal (decodeTemporal (getD s 0 0 - 4)) (numAt 8 1 s))) 9
   nRangeV : getD s 0 0 ≡ 9 → 3 ≤ length s → getD s 1 0 ≤ 3 → getD s 2 0 ≤ 3 → (v : Val) (m : ℕ) → readV left (drop 3 s) ≡ got v m → (w : Val) (n : ℕ) → readV left (drop m (drop 3 s)) ≡ got w n
       → NodeV left s (v-range (getD s 1 0) (getD s 2 0) v w) (3 + m + n)
   nListV : getD s 0 0 ≡ 10 → 3 ≤ length s → (vs : Vals) (n : ℕ) → readVals (readV left) (numAt 2 1 s) (drop 3 s) ≡ got vs n → NodeV left s (v-list vs) (3 + n)
@@ -160,7 +162,7 @@ value-node l b s k (isNull p) v n e = flag-node l b 3 (λ x. v-leaf (l-null x)) 
 value-node l b s k (isBoolean p) v n e = flag-node l b 1 (λ x. v-leaf (l-boolean (eqb x 1))) s v n e (nBoolean p)
 value-node l b s k (isNumber p) v n e = key-node l b 8 (λ x. v-leaf (l-number x)) s v n e (nNumber p)
 value-node l b s k (isString p) v n e = key-node l b nameWidth (λ x. v-leaf (l-string x)) s v n e (nString p)
-value-node l b s k (isTemporal p q) v n e = key-node l b 8 (λ x. v-leaf (l-temporal (decode-temporal (b - 0x04)) x)) s v n e (nTemporal p q)
+value-node l b s k (isTemporal p q) v n e = key-node l b 8 (λ x. v-leaf (l-temporal (decodeTemporal (b - 0x04)) x)) s v n e (nTemporal p q)
 value-node l b s k (isRange p) v n e = range-node l b s p v n e
 value-node l b s k (isList p) v n e = list-node l b s p v n e
 value-node l b s k (isContext p) v n e = entries-node l b s p v n e

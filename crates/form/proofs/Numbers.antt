@@ -1,4 +1,5 @@
 -- A number in k bytes, and back, at every width.
+-- Index: `num-bytes`, `bytes-num` (both ways); `num-below`, `length-bytes` (bounds); `word-is` (a 16-bit number from its two bytes); `bytes-take`, `take-length`.
 -- Assumes nothing.
 use Prim.Native.Nat.{ℕ, zero, suc, _+_, _*_, _/_, _%_, _<_, _≤_, _^_}
 use mathlib.Core.Path.{_≡_, refl, ap, ap₂, _∙_}

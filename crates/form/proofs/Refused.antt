@@ -1,5 +1,6 @@
 -- What each refusal of a reader of a whole means: the length, the first fault from the left, or bytes left over; whatever is read.
--- Idea: the three tests of `readWhole` are taken apart once (`Outcomes`); every number is then told from the others by its distance from the base.
+-- Idea: the three tests of `readWhole` are taken apart once (`cause`); every number is then told from the others by its distance from the base.
+-- Index: `refused-length`, `refused-fault`, `refused-rest`, `refused-left` (each refusal, both directions); `refused-numbers` (no others); `Cause`, `cause`; `refused-same`, `place-same`.
 -- Assumes nothing.
 use Prim.Native.Nat.{ℕ, _+_, _<_, _≤_}
 use mathlib.Core.Path.{_≡_, refl, sym, ap, subst, _∙_}

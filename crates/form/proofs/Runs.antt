@@ -1,8 +1,11 @@
 -- The reader's equations in the terms of the code. One law for each combinator and each kind of run, whatever is read.
+-- Idea: a loop over children keeps that the answer of the whole is the answer from here (`RunInv`).
+-- Index: `front-up`, `front-run`, `then-end`, `then-fault`, `then-up`, `pair-end`, `pair-fault` (combinators); `RunInv`, `run-start`, `run-turn`, `run-fault`, `run-done` (a loop);
+-- `item-turn`, `item-fault`, `run-snoc` (a run); `named-turn`, `named-ends`, `named-names`, `named-fault` (a named run); `operand-at`, `operand-short`, `counted-is`, `counted-short`.
 -- Assumes nothing.
 use Prim.Native.Nat.{ℕ, zero, suc, _+_, _-_, _<_, _≤_, max}
 use mathlib.Core.Path.{_≡_, refl, sym, ap, ap₂, _∙_}
-use mathlib.Core.List.{List, []}
+use mathlib.Core.List.{List}
 use native.Mathlib.Omega.{arith}
 use native.Mathlib.Nat.{add-zero}
 use lib.ListN.{length, getD, take, drop, length-drop}
@@ -236,3 +239,7 @@ module _ {X Y : Type 0} (lx : X → ℕ) (ly : Y → ℕ) (s : List ℕ) (more :
   unfolding pairWalk walkOf
   pair-fault f (got x n) e = absurd (end-stop e)
   pair-fault f (bad g) e = e
+
+-- what `&s[n..]` is
+abbrev pub behind : ℕ → List ℕ → List ℕ
+behind n s = take (length s - n) (drop n s)

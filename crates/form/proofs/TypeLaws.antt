@@ -1,4 +1,7 @@
--- The reader of types in the terms of the code.
+-- The reader of types in the terms of the code: what its walk says by the length, the level that is left and the command.
+-- Idea: one step of `readT`, and the laws of Runs at the kind of the command.
+-- Index: `t-none`, `t-level`, `t-step` (the start); `t-simple`, `t-one-run`, `t-context`, `t-function`, `t-short`, `t-other` (by the command); `one-is` (one type as a run of one);
+-- `fields-law`, `tys-law`, `simple-level` (levels).
 -- Assumes nothing.
 use Prim.Native.Nat.{ℕ, zero, suc, _-_, _<_, _≤_, max}
 use mathlib.Core.Path.{_≡_, refl, sym, ap, _∙_}
@@ -14,7 +17,7 @@ use Rattle.form.specs.Read.{Got, got, bad, front, andThen, readRun, read
 use Rattle.form.specs.Walks.{walkOf, walkBy, up}
 use Rattle.form.specs.Faults.{Shape, Level}
 use Rattle.form.specs.Walks as walk
-use Rattle.form.proofs.Commands.{ViewT, isSimpleT, isListT, isRangeT, isContextT, isFunctionT, View, isValue, isType, isGap, isBeyond, view, there, value-below}
+use Rattle.form.proofs.CommandKinds.{ViewT, isSimpleT, isListT, isRangeT, isContextT, isFunctionT, View, isValue, isType, isGap, isBeyond, view, there, value-below}
 use Rattle.form.proofs.Runs.{end-is, front-up, then-up, counted-is, counted-short, run-snoc}
 
 pub fields-law : (m : ℕ) (t : Ty) (fs : Fields) → levelFields (field m t fs) ≡ max (level t) (levelFields fs)

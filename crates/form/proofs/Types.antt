@@ -1,4 +1,7 @@
--- The laws of the byte form of types.
+-- The laws of the byte form of types: accepted exactly when an encoding of a well-formed tree within the limits; equal bytes are equal types.
+-- Idea: the laws of a whole (Accepted) at the reader of types (ExactTypes).
+-- Index: `AcceptedType`, `type-accepted`, `type-accepts`, `type-exact` (acceptance); `enc-same`, `took-enc`, `read-inside` (bytes and trees);
+-- `level-length`, `any-accepts`, `any-accepted`, `any-exact`, `any-same` (types of any size); `TypeTold`, `type-told` (the tree behind the code's answer).
 -- Assumes nothing.
 use Prim.Native.Nat.{ℕ, suc, _+_, _<_, _≤_}
 use mathlib.Core.Path.{_≡_, sym, ap, subst}
@@ -9,7 +12,7 @@ use lib.ListN.{length, take, length-append}
 use lib.Seq.{take-append-seam}
 use Rattle.form.specs.Trees.{Ty, leaf, built, Built, list, range, context, function, Fields, no-fields, field, Tys, no-params, param}
 use Rattle.form.specs.Limits.{nameWidth, typeLevels, typeRefusals}
-use Rattle.form.specs.Outcome.{done, _>>=_}
+use Rattle.form.specs.Outcome.{done}
 use Rattle.form.specs.Form.{bytes, Bytes, enc, encBuilt, encFields, encTys, level, levelBuilt, levelFields, levelTys, countFields, Wf}
 use Rattle.form.specs.Read.{got, readT, readType, readAnyType, checkType}
 use Rattle.form.proofs.First.{length-front}
@@ -90,13 +93,6 @@ any-exact s bs t = (any-accepted s bs t, λ a. subst (λ (r : List ℕ). readAny
 -- an accepted type is read the same without the limits
 pub any-same : (s : List ℕ) → Bytes s → (t : Ty) → readType s ≡ done t → readAnyType s ≡ done t
 any-same s bs t e = let A = type-accepted s bs t e in rw (A .bytes) (any-accepts t (A .well))
-
--- with more levels left the same is read
-pub read-up : (l k : ℕ) (s : List ℕ) → Bytes s → (t : Ty) (n : ℕ) → l ≤ k → readT l s ≡ got t n → readT k s ≡ got t n
-read-up l k s bs t n h e =
-    let F = enc-read l s bs t n e in
-    let f = F .low in
-    rw (F .took, F .bytes) (read-enc t k (F .rest) (F .well) (omega arith))
 
 -- ---- what a caller has from the code's answer: the tree
 pub record TypeTold (s : List ℕ) (n : ℕ) : Type 0 where

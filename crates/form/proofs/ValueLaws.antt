@@ -1,4 +1,7 @@
--- The reader of values in the terms of the code.
+-- The reader of values in the terms of the code: what its walk says by the length, the level that is left and the command.
+-- Idea: one step of `readV`, and the laws of Runs at the kind of the command.
+-- Index: `v-none`, `v-level`, `v-step`, `v-short`, `v-other` (the start); `v-null`, `v-boolean`, `v-key`, `v-built-in-is`, `v-irrelevant-is`, `leaf-is` (leaves);
+-- `v-range-is`, `v-list-is`, `v-context-is`, `v-definition`, `v-type-is` (parents); `vals-law`, `entries-law`, `params-law`, `value-level`, `leaf-level` (levels).
 -- Assumes nothing.
 use Prim.Native.Nat.{ℕ, zero, suc, _+_, _-_, _<_, _≤_, max}
 use mathlib.Core.Path.{_≡_, refl, sym, ap, _∙_}
@@ -10,7 +13,7 @@ use lib.Seq.{getD-drop, drop-drop}
 use lib.Dec.{leb, eqb}
 use borrow.Author.Tests.{le-leb, lt-leb}
 use Rattle.form.specs.Trees.{Ty, Params, no-parameters, parameter, l-null, l-boolean, l-number, l-string, l-temporal, Val, v-leaf, v-range, v-list, v-context, v-function, v-built-in, v-type}
-use Rattle.form.specs.Trees.{v-irrelevant, Vals, no-items, item, Entries, no-entries, entry, isDataLeaf, decode-temporal}
+use Rattle.form.specs.Trees.{v-irrelevant, Vals, no-items, item, Entries, no-entries, entry, isDataLeaf, decodeTemporal}
 use Rattle.form.specs.Form.{numAt, level, levelParams, levelTys, levelV, levelVals, levelEntries}
 use Rattle.form.specs.Layout.{ValueKind, kNull, kBoolean, kNumber, kString, kTemporal, kRange, kList, kContext, kDefinition, kBuiltIn, kType, kIrrelevant, Kind, ofValue, ofType, noCommand}
 use Rattle.form.specs.Layout.{kindOf, operands, operandsV, slot, widthOf}
@@ -21,8 +24,9 @@ use Rattle.form.specs.Read.{stepValue, stepV, readV}
 use Rattle.form.specs.Walks.{walkOf, walkBy, pairWalk, up, operandEnd, flagWalk}
 use Rattle.form.specs.Faults.{Shape, Level}
 use Rattle.form.specs.Walks as walk
-use Rattle.form.proofs.Commands.{ViewV, isNull, isBoolean, isNumber, isString, isTemporal, isRange, isList, isContext, isDefinition, isBuiltIn, isFeelType, isIrrelevant, View, isValue, isType}
-use Rattle.form.proofs.Commands.{isGap, isBeyond, view, type-within, there, width-is}
+use Rattle.form.proofs.CommandKinds.{ViewV, isNull, isBoolean, isNumber, isString, isTemporal, isRange, isList, isContext, isDefinition, isBuiltIn, isFeelType, isIrrelevant}
+use Rattle.form.proofs.CommandKinds.{View, isValue, isType}
+use Rattle.form.proofs.CommandKinds.{isGap, isBeyond, view, type-within, there, width-is}
 use Rattle.form.proofs.TypeLaws.{one-is}
 use Rattle.form.proofs.Runs.{end-is, front-up, then-up, operand-short, operand-at, counted-is, counted-short}
 
@@ -177,7 +181,7 @@ value-short child type kNull b s h = flag-short 3 (λ x. v-leaf (l-null x)) s h
 value-short child type kBoolean b s h = flag-short 1 (λ x. v-leaf (l-boolean (eqb x 1))) s h
 value-short child type kNumber b s h = key-short 8 (λ x. v-leaf (l-number x)) s h
 value-short child type kString b s h = key-short nameWidth (λ x. v-leaf (l-string x)) s h
-value-short child type kTemporal b s h = key-short 8 (λ x. v-leaf (l-temporal (decode-temporal (b - 0x04)) x)) s h
+value-short child type kTemporal b s h = key-short 8 (λ x. v-leaf (l-temporal (decodeTemporal (b - 0x04)) x)) s h
 value-short child type kRange b [] h = refl
 value-short child type kRange b (x ∷ []) h = refl
 value-short child type kRange b (x ∷ y ∷ s) h = absurd (omega arith)
@@ -273,7 +277,7 @@ module _ (l : ℕ) (s : List ℕ) (h : 0 < length s) (p : 0 < l) where
 
     v-temporal : (w : ℕ) → w ≡ widthOf (getD s 0 0) → kindOf (getD s 0 0) ≡ ofValue kTemporal → walkOf levelV (readV l s) ≡ walk.End (w + 1) 1
     unfolding stepValue operandsV levelV
-    v-temporal w we e = v-kind kTemporal e ∙ key-is 8 (λ x. v-leaf (l-temporal (decode-temporal (getD s 0 0 - 0x04)) x)) (λ x. refl) s (off kTemporal e) w (wide-as kTemporal e w we)
+    v-temporal w we e = v-kind kTemporal e ∙ key-is 8 (λ x. v-leaf (l-temporal (decodeTemporal (getD s 0 0 - 0x04)) x)) (λ x. refl) s (off kTemporal e) w (wide-as kTemporal e w we)
 
     -- a number, a text or a temporal
     key-value : (w : ℕ) → w ≡ widthOf (getD s 0 0) → 2 ≤ getD s 0 0 → getD s 0 0 < 9 → (k : ValueKind) → ViewV (getD s 0 0) k → kindOf (getD s 0 0) ≡ ofValue k

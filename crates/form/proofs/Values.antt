@@ -1,4 +1,7 @@
--- The laws of the byte form of values.
+-- The laws of the byte form of values: accepted exactly when an encoding of a well-formed tree within the limits; equal bytes are equal values.
+-- Idea: the laws of a whole (Accepted) at the reader of values (ExactValues).
+-- Index: `AcceptedValue`, `value-accepted`, `value-accepts`, `value-exact` (acceptance); `encV-same`, `took-encV`, `read-insideV`, `read-upV` (bytes and trees);
+-- `ValueTold`, `value-told` (the tree behind the code's answer).
 -- Assumes nothing.
 use Prim.Native.Nat.{ℕ, _+_, _<_, _≤_}
 use mathlib.Core.Path.{_≡_, ap}
@@ -9,7 +12,7 @@ use lib.ListN.{length, take}
 use lib.Seq.{take-append-seam}
 use Rattle.form.specs.Trees.{l-null, l-boolean, l-number, l-string, l-temporal, Val, v-leaf, v-range, v-list, v-context, v-function, v-built-in, v-type, v-irrelevant}
 use Rattle.form.specs.Limits.{valueLevels, valueRefusals}
-use Rattle.form.specs.Outcome.{done, _>>=_}
+use Rattle.form.specs.Outcome.{done}
 use Rattle.form.specs.Form.{Bytes, encLeaf, encV, levelV, WfV}
 use Rattle.form.specs.Read.{got, readV, readValue, checkValue}
 use Rattle.form.proofs.Exact.{found-inside}

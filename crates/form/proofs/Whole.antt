@@ -1,4 +1,5 @@
 -- The reader of a whole, in the terms of the code: length first, leftovers last. And a slice's elements are bytes.
+-- Index: `bytes-of` (a slice); `whole-empty`, `whole-long`, `whole-read` (`check_type`, `check_value`); `settled-fault`, `settled-end`, `settled-left`, `place-small` (`settle`).
 -- Assumes nothing.
 use Prim.Native.Nat.{ℕ, suc, _+_, _<_, _≤_}
 use mathlib.Core.Path.{_≡_, refl}

@@ -5,7 +5,9 @@ use mathlib.Core.Bool.{Bool, true, false}
 use mathlib.Core.List.{List, [], _∷_, _++_}
 use lib.ListN.{take, drop}
 use Rattle.form.specs.Limits.{nameWidth, nameEnd}
-use Rattle.form.specs.Trees.{Simple, Ty, leaf, built, Built, list, range, context, function, Fields, no-fields, field, Tys, no-params, param, Temporal, Leaf, l-null, l-boolean, l-number, l-string, l-temporal, Params, no-parameters, parameter, Val, v-leaf, v-range, v-list, v-context, v-function, v-built-in, v-type, v-irrelevant, Vals, no-items, item, Entries, no-entries, entry, code, code-temporal}
+use Rattle.form.specs.Trees.{Ty, leaf, built, Built, list, range, context, function, Fields, no-fields, field, Tys, no-params, param, Leaf, l-null, l-boolean, l-number}
+use Rattle.form.specs.Trees.{l-string, l-temporal, Params, no-parameters, parameter, Val, v-leaf, v-range, v-list, v-context, v-function, v-built-in, v-type, v-irrelevant}
+use Rattle.form.specs.Trees.{Vals, no-items, item, Entries, no-entries, entry, code, codeTemporal}
 
 -- ---- a number in k bytes, little endian, and back
 unfoldable pub bytes : ℕ → ℕ → List ℕ
@@ -75,7 +77,7 @@ encLeaf (l-null t) = 0x00 ∷ t ∷ []
 encLeaf (l-boolean b) = 0x01 ∷ bit b ∷ []
 encLeaf (l-number k) = 0x02 ∷ bytes 8 k
 encLeaf (l-string n) = 0x03 ∷ bytes nameWidth n
-encLeaf (l-temporal t k) = (0x04 + code-temporal t) ∷ bytes 8 k
+encLeaf (l-temporal t k) = (0x04 + codeTemporal t) ∷ bytes 8 k
 
 unfoldable mutual
   pub encV : Val → List ℕ

@@ -9,3 +9,4 @@ pub mod Answers
 pub mod Walks
 pub mod ByteForm
 pub mod Parts
+pub mod Options

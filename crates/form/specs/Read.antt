@@ -5,10 +5,13 @@ use mathlib.Core.Bool.{Bool, true, false}
 use mathlib.Core.List.{List, [], _∷_}
 use lib.ListN.{length, take, drop}
 use lib.Dec.{ltb, leb, eqb}
-use Rattle.form.specs.Trees.{Ty, leaf, built, list, range, context, function, Fields, no-fields, field, Tys, no-params, param, l-null, l-boolean, l-number, l-string, l-temporal, Params, no-parameters, parameter, Val, v-leaf, v-range, v-list, v-context, v-function, v-built-in, v-type, v-irrelevant, Vals, no-items, item, Entries, no-entries, entry, decode, decode-temporal}
+use Rattle.form.specs.Trees.{Ty, leaf, built, list, range, context, function, Fields, no-fields, field, Tys, no-params, param, l-null, l-boolean, l-number, l-string}
+use Rattle.form.specs.Trees.{l-temporal, Params, no-parameters, parameter, Val, v-leaf, v-range, v-list, v-context, v-function, v-built-in, v-type, v-irrelevant, Vals}
+use Rattle.form.specs.Trees.{no-items, item, Entries, no-entries, entry, decode, decodeTemporal}
 use Rattle.form.specs.Limits.{nameWidth, mostBytes, valueLevels, typeLevels, valueRefusals, typeRefusals}
 use Rattle.form.specs.Form.{num, level, levelV}
-use Rattle.form.specs.Layout.{ValueKind, kNull, kBoolean, kNumber, kString, kTemporal, kRange, kList, kContext, kDefinition, kBuiltIn, kType, kIrrelevant, TypeKind, tSimple, tList, tRange, tContext, tFunction, Kind, ofValue, ofType, noCommand, kindOf}
+use Rattle.form.specs.Layout.{ValueKind, kNull, kBoolean, kNumber, kString, kTemporal, kRange, kList, kContext, kDefinition, kBuiltIn, kType, kIrrelevant, TypeKind, tSimple}
+use Rattle.form.specs.Layout.{tList, tRange, tContext, tFunction, Kind, ofValue, ofType, noCommand, kindOf}
 use Rattle.form.specs.Outcome.{Outcome, done, refused, _>>=_, _>>_, pick, check}
 use Rattle.form.specs.Faults.{Fault, Shape, Names, Level, place}
 
@@ -133,7 +136,7 @@ stepValue child type kNull b s = readFlag 3 (λ x. v-leaf (l-null x)) s
 stepValue child type kBoolean b s = readFlag 1 (λ x. v-leaf (l-boolean (eqb x 1))) s
 stepValue child type kNumber b s = readKey 8 (λ x. v-leaf (l-number x)) s
 stepValue child type kString b s = readKey nameWidth (λ x. v-leaf (l-string x)) s
-stepValue child type kTemporal b s = readKey 8 (λ x. v-leaf (l-temporal (decode-temporal (b - 0x04)) x)) s
+stepValue child type kTemporal b s = readKey 8 (λ x. v-leaf (l-temporal (decodeTemporal (b - 0x04)) x)) s
 stepValue child type kRange b s = readRange child s
 stepValue child type kList b s = counted v-list (λ c r. readVals child c r) s
 stepValue child type kContext b s = counted v-context (λ c r. readEntries child c 0 r) s

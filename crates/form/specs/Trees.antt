@@ -1,6 +1,6 @@
 -- Types and values as trees: what the bytes mean. Nothing here speaks of bytes.
 -- Assumes nothing.
-use Prim.Native.Nat.{ℕ, zero, suc, _<_}
+use Prim.Native.Nat.{ℕ, zero, suc}
 use mathlib.Core.Bool.{Bool, true, false}
 
 -- the types 20 to 29, in this order
@@ -107,16 +107,20 @@ decode (suc (suc (suc (suc (suc (suc (suc (suc zero)))))))) = yearsAndMonths
 decode (suc (suc (suc (suc (suc (suc (suc (suc (suc n))))))))) = null
 
 -- the place of a temporal kind among the bytes 04 to 08
-abbrev pub code-temporal : Temporal → ℕ
-code-temporal on-date = 0
-code-temporal at-time = 1
-code-temporal at-dateTime = 2
-code-temporal for-daysAndTime = 3
-code-temporal for-yearsAndMonths = 4
+abbrev pub codeTemporal : Temporal → ℕ
+codeTemporal on-date = 0
+codeTemporal at-time = 1
+codeTemporal at-dateTime = 2
+codeTemporal for-daysAndTime = 3
+codeTemporal for-yearsAndMonths = 4
 
-abbrev pub decode-temporal : ℕ → Temporal
-decode-temporal zero = on-date
-decode-temporal (suc zero) = at-time
-decode-temporal (suc (suc zero)) = at-dateTime
-decode-temporal (suc (suc (suc zero))) = for-daysAndTime
-decode-temporal (suc (suc (suc (suc n)))) = for-yearsAndMonths
+abbrev pub decodeTemporal : ℕ → Temporal
+decodeTemporal zero = on-date
+decodeTemporal (suc zero) = at-time
+decodeTemporal (suc (suc zero)) = at-dateTime
+decodeTemporal (suc (suc (suc zero))) = for-daysAndTime
+decodeTemporal (suc (suc (suc (suc n)))) = for-yearsAndMonths
+
+-- null with a trace
+abbrev pub nothing : ℕ → Val
+nothing trace = v-leaf (l-null trace)

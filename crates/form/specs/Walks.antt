@@ -20,7 +20,7 @@ unfoldable pub walkOf : {X : Type 0} → (X → ℕ) → Got X → Walk
 walkOf lv (got x n) = End n (lv x)
 walkOf lv (bad f) = Stop f
 
--- the same, behind `at` bytes of level `deep`
+-- the bytes that were taken and the level, with `at` bytes of level `deep` in front
 unfoldable pub walkBy : {X : Type 0} → (X → ℕ) → ℕ → ℕ → Got X → Walk
 walkBy lv at deep (got x n) = End (at + n) (max deep (lv x))
 walkBy lv at deep (bad f) = Stop f

@@ -1,4 +1,7 @@
 -- The loop that writes the entries of a context: what is left of them, and what stands at the front of the output.
+-- Idea: what was written and the text of what is left make the text of all entries (`EntriesInv`).
+-- Index: `EntriesInv`, `entries-start`, `entries-done`; `entry-name`, `entry-room`, `entry-fits`, `name-len`, `entry-read`, `entry-wrote`, `entry-next` (an entry);
+-- `entry-some`, `entry-low`, `entry-leaf-read`, `entry-leaf-wrote`, `entry-leaf` (an entry that is a leaf).
 -- Assumes nothing.
 use Prim.Native.Nat.{ℕ, suc, _+_, _-_, _<_, _≤_}
 use mathlib.Core.Path.{_≡_, refl, sym, ap, subst, _∙_}
@@ -10,26 +13,26 @@ use lib.ListN.{length, getD, drop, set, length-append, length-drop}
 use lib.Seq.{drop-drop}
 use borrow.Rule.Slice.PartMut.{putMid, same-len-mid}
 use Rattle.form.specs.Limits.{nameWidth, mostBytes}
-use Rattle.form.specs.Trees.{Val, Entries, no-entries, entry}
+use Rattle.form.specs.Trees.{Val, Entries, no-entries}
 use Rattle.form.specs.Form.{bytes, numAt, Bytes, encFields, WfV}
 use Rattle.form.proofs.Exact.{bytes-drop}
 use Rattle.form.proofs.Numbers.{length-bytes}
 use Rattle.form.proofs.Runs.{rest, length-rest}
 use Rattle.order.specs.Order.{fixed}
-use Rattle.order.specs.Size.{size-val, size-entries}
-use Rattle.order.specs.Values.{hold-data}
+use Rattle.order.specs.Size.{sizeVal, sizeEntries}
+use Rattle.order.specs.Values.{holdData}
 use Rattle.order.specs.Inferred.{isData}
 use Rattle.order.proofs.Size.{length-enc}
-use Rattle.types.proofs.Entries.{step}
+use Rattle.types.proofs.Entries.{step, enc-field, enc-none}
 use Rattle.values.specs.At.{valueAt, entriesAt}
-use Rattle.values.proofs.Reading.{some-byte, v-inside, Entry, next-entry, no-entry}
-use Rattle.bounds.specs.Writing.{over}
-use Rattle.bounds.proofs.Laws.{length-over}
-use Rattle.bounds.proofs.Trees.{enc-field, enc-none}
+use Rattle.values.proofs.Reading.{some-byte, v-inside, Entry, next-entry, no-entry, encoded}
+use Rattle.output.proofs.OntoLaws.{length-over}
 use Rattle.infer.specs.Typing.{typeBy, fieldsBy, FitVal, FitEntries, Plain, Starts, Wrote, Typed, typeText, fieldsText}
 use Rattle.infer.proofs.Trees.{fine, fields-none, fields-entry, data-entry}
-use Rattle.infer.proofs.Writing.{starts, lent-starts, over-starts, encoded, open-fit, fit, typed, typed-is, behind}
-use Rattle.infer.proofs.Commands.{plain-free, plain-put, plain-byte, plain-told}
+use Rattle.infer.proofs.OutputFront.{starts, lent-starts, over-starts, open-fit, fit, typed, typed-is, behind}
+use Rattle.infer.proofs.ByCommand.{plain-free, plain-put, plain-byte, plain-told}
+use Rattle.output.specs.Output.{over}
+use Rattle.values.proofs.EntriesAt.{size-next}
 
 pub record EntriesInv (m : Bool) (l : ℕ) (v : List ℕ) (n : ℕ) (old spare₀ out spare : List ℕ) (at to i : ℕ) : Type 0 where
   -- all, what is left of them, and what was written
@@ -41,14 +44,14 @@ pub record EntriesInv (m : Bool) (l : ℕ) (v : List ℕ) (n : ℕ) (old spare�
   pub below : i ≤ n
   pub in-v : at ≤ length v
   pub read : entriesAt l (n - i) name (drop at v) ≡ some left
-  pub sized : at + size-entries left ≡ size-entries whole
+  pub sized : at + sizeEntries left ≡ sizeEntries whole
   pub text : done ++ fieldsText m left ≡ fieldsText m whole
   pub long : length done ≡ to
   pub low : to ≤ at
-  pub apt : m ≡ true → hold-data fixed left ≡ true
-  pub room : size-entries whole ≤ length old
-  pub spared : size-entries whole ≤ length spare₀
-  pub small : size-entries whole ≤ mostBytes
+  pub apt : m ≡ true → holdData fixed left ≡ true
+  pub room : sizeEntries whole ≤ length old
+  pub spared : sizeEntries whole ≤ length spare₀
+  pub small : sizeEntries whole ≤ mostBytes
   pub out-len : length out ≡ length old
   pub spare-len : length spare ≡ length spare₀
   pub state : Starts done out
@@ -88,18 +91,14 @@ pub record Here (m : Bool) (l n at : ℕ) (s : List ℕ) (es : Entries) : Type 0
   pub named : name ≡ numAt nameWidth at s
   pub first : valueAt l (behind (at + nameWidth) s) ≡ some v
   pub well : WfV v
-  pub fits : at + nameWidth + size-val v ≤ length s
-  pub second : entriesAt l n (suc name) (drop (at + nameWidth + size-val v) s) ≡ some more
-  pub sized : size-entries es ≡ nameWidth + size-val v + size-entries more
+  pub fits : at + nameWidth + sizeVal v ≤ length s
+  pub second : entriesAt l n (suc name) (drop (at + nameWidth + sizeVal v) s) ≡ some more
+  pub sized : sizeEntries es ≡ nameWidth + sizeVal v + sizeEntries more
   pub text : fieldsText m es ≡ bytes nameWidth name ++ (typeText m v ++ fieldsText m more)
-  pub apt : (m ≡ true → hold-data fixed es ≡ true) → (m ≡ true → isData v ≡ true) × (m ≡ true → hold-data fixed more ≡ true)
+  pub apt : (m ≡ true → holdData fixed es ≡ true) → (m ≡ true → isData v ≡ true) × (m ≡ true → holdData fixed more ≡ true)
 
-size-entry : (n : ℕ) (v : Val) (es : Entries) → size-entries (entry n v es) ≡ nameWidth + size-val v + size-entries es
-unfolding size-entries
-size-entry n v es = refl
-
-size-no-entries : size-entries no-entries ≡ 0
-unfolding size-entries
+size-no-entries : sizeEntries no-entries ≡ 0
+unfolding sizeEntries
 size-no-entries = refl
 
 here : (m : Bool) (l i n at k : ℕ) (s : List ℕ) (es : Entries) → Bytes s → i < n → at ≤ length s → entriesAt l (n - i) k (drop at s) ≡ some es → Here m l (n - (i + 1)) at s es
@@ -120,10 +119,10 @@ here m l i n at k s es bs h in-s e = go (next-entry l (n - (i + 1)) k (drop at s
           first = ap (valueAt l) r ∙ f;
           well = encoded l (drop (at + nameWidth) s) (E .v) (bytes-drop (at + nameWidth) s bs) f .well;
           fits = omega (arith, two, simp length-drop at (v-inside l (drop (at + nameWidth) s) (E .v) f));
-          second = ap (entriesAt l (n - (i + 1)) (suc (E .name))) (sym (drop-drop (size-val (E .v)) (at + nameWidth) s) ∙ ap (drop (size-val (E .v))) (sym d)) ∙ E .second;
-          sized = ap size-entries (E .is) ∙ size-entry (E .name) (E .v) (E .more);
+          second = ap (entriesAt l (n - (i + 1)) (suc (E .name))) (sym (drop-drop (sizeVal (E .v)) (at + nameWidth) s) ∙ ap (drop (sizeVal (E .v))) (sym d)) ∙ E .second;
+          sized = ap sizeEntries (E .is) ∙ size-next (E .name) (E .v) (E .more);
           text = ap (fieldsText m) (E .is) ∙ ap encFields (fields-entry m (E .name) (E .v) (E .more)) ∙ enc-field (E .name) (typeBy m (E .v)) (fieldsBy m (E .more));
-          apt = λ d. data-entry m (E .name) (E .v) (E .more) (λ q. ap (hold-data fixed) (sym (E .is)) ∙ d q);
+          apt = λ d. data-entry m (E .name) (E .v) (E .more) (λ q. ap (holdData fixed) (sym (E .is)) ∙ d q);
         }
 
 module _ {m : Bool} {l : ℕ} {s : List ℕ} {n : ℕ} {old spare₀ out spare : List ℕ} {at to i : ℕ} (Q : EntriesInv m l s n old spare₀ out spare at to i) (bs : Bytes s) where
@@ -154,8 +153,8 @@ module _ {m : Bool} {l : ℕ} {s : List ℕ} {n : ℕ} {old spare₀ out spare :
 
     -- the name was copied, and the type written behind it
     module _ (xs ys : List ℕ) (e w : ℕ) (named : xs ≡ over to (bytes nameWidth (numAt nameWidth at s)) out)
-        (T : Typed size-val (typeText m) (valueAt l (behind (at + nameWidth) s)) (behind (to + nameWidth) xs) ys e w) where
-      abbrev W : Wrote size-val (typeText m) (H .v) (behind (to + nameWidth) xs) ys e w
+        (T : Typed sizeVal (typeText m) (valueAt l (behind (at + nameWidth) s)) (behind (to + nameWidth) xs) ys e w) where
+      abbrev W : Wrote sizeVal (typeText m) (H .v) (behind (to + nameWidth) xs) ys e w
       W = typed-is (valueAt l (behind (at + nameWidth) s)) (H .v) (behind (to + nameWidth) xs) ys e w (H .first) T
 
       pub entry-read : at + nameWidth + e ≤ length s
@@ -213,7 +212,7 @@ module _ {m : Bool} {l : ℕ} {s : List ℕ} {n : ℕ} {old spare₀ out spare :
       abbrev b : ℕ
       b = getD s (at + nameWidth) 0 + 32
 
-      told : Typed size-val (typeText m) (valueAt l (behind (at + nameWidth) s)) (behind (to + nameWidth) xs) (set (behind (to + nameWidth) xs) 0 b) k 1
+      told : Typed sizeVal (typeText m) (valueAt l (behind (at + nameWidth) s)) (behind (to + nameWidth) xs) (set (behind (to + nameWidth) xs) 0 b) k 1
       told = plain-told m l s (at + nameWidth) xs (to + nameWidth) spare fits bs k P
 
       pub entry-low : getD s (at + nameWidth) 0 < 9
@@ -233,7 +232,7 @@ module _ {m : Bool} {l : ℕ} {s : List ℕ} {n : ℕ} {old spare₀ out spare :
           subst (λ (z : List ℕ). EntriesInv m l s n old spare₀ z spare (at + nameWidth + k) (to + nameWidth + 1) (i + 1)) (plain-put m l s (at + nameWidth) xs (to + nameWidth) spare fits bs b)
           (entry-next xs (set (behind (to + nameWidth) xs) 0 b) k 1 named told spare refl)
 
-  pub entries-done : n ≤ i → Typed size-entries (fieldsText m) (entriesAt l n 0 s) old out at to
+  pub entries-done : n ≤ i → Typed sizeEntries (fieldsText m) (entriesAt l n 0 s) old out at to
   entries-done h =
       let z : n - i ≡ 0 = omega arith in
       let e : Q .left ≡ no-entries = no-entry l (Q .name) (drop at s) (Q .left) (ap (λ (k : ℕ). entriesAt l k (Q .name) (drop at s)) (sym z) ∙ Q .read) in
@@ -241,7 +240,7 @@ module _ {m : Bool} {l : ℕ} {s : List ℕ} {n : ℕ} {old spare₀ out spare :
       sym (append-nil (Q .done)) ∙ ap (λ (k : List ℕ). Q .done ++ k) (sym (ap (fieldsText m) e ∙ ap encFields (fields-none m) ∙ enc-none)) ∙ Q .text in
       typed (entriesAt l n 0 s) (Q .whole) old out at to (Q .read-all)
       (record {
-        all = omega (arith, Q .sized, ap size-entries e, size-no-entries);
+        all = omega (arith, Q .sized, ap sizeEntries e, size-no-entries);
         long = sym (Q .long) ∙ ap length t;
         out = subst (λ (k : List ℕ). Starts k out) t (Q .state);
         kept = Q .out-len;

@@ -1,4 +1,7 @@
 -- The loop that writes one type for all items: what is left of them, and the type so far at the front of the output.
+-- Idea: the type so far, joined with the types of what is left, is the type of all items (`ItemsInv`).
+-- Index: `ItemsInv`, `items-none`, `items-first`, `items-start`, `items-done`; `item-room`, `item-fits`, `item-read`, `item-sides`, `item-reduced`, `item-next` (an item);
+-- `item-some`, `item-low`, `leaf-read`, `leaf-sides`, `leaf-reduced`, `leaf-next` (an item that is a leaf).
 -- Assumes nothing.
 use Prim.Native.Nat.{ℕ, _+_, _-_, _<_, _≤_}
 use mathlib.Core.Path.{_≡_, refl, sym, ap, subst, _∙_}
@@ -16,19 +19,19 @@ use Rattle.form.proofs.Exact.{bytes-drop}
 use Rattle.form.proofs.Runs.{rest, length-rest}
 use Rattle.order.specs.Order.{fixed}
 use Rattle.order.specs.Types.{reduce}
-use Rattle.order.specs.Size.{size, size-val, size-vals}
-use Rattle.order.specs.Values.{are-data}
+use Rattle.order.specs.Size.{size, sizeVal, sizeVals}
+use Rattle.order.specs.Values.{areData}
 use Rattle.order.specs.Inferred.{isData}
 use Rattle.order.proofs.Size.{length-enc}
 use Rattle.types.specs.At.{typeAt}
 use Rattle.types.proofs.Entries.{step}
 use Rattle.values.specs.At.{valueAt, itemsAt}
-use Rattle.values.proofs.Reading.{some-byte, v-inside, Item, next-item, no-item}
-use Rattle.bounds.proofs.Laws.{onto-first}
+use Rattle.values.proofs.Reading.{some-byte, v-inside, Item, next-item, no-item, encoded, size-item}
+use Rattle.output.proofs.OntoLaws.{onto-first}
 use Rattle.infer.specs.Typing.{typeBy, joined, taken, inner, FitVal, FitItems, Plain, Starts, Wrote, Typed, typeText, innerText, Sides, Reduced, Joined}
 use Rattle.infer.proofs.Trees.{Fine, fine, Sound, sound, type-reduced, joined-reduced, data-item}
-use Rattle.infer.proofs.Writing.{starts-onto, starts-read, lent-front, lent-back, encoded, Opened, open-fit, fit, typed, typed-is, sides, reduced, joined-is, behind}
-use Rattle.infer.proofs.Commands.{plain-free, plain-put, plain-byte, plain-told}
+use Rattle.infer.proofs.OutputFront.{starts-onto, starts-read, lent-front, lent-back, Opened, open-fit, fit, typed, typed-is, sides, reduced, joined-is, behind}
+use Rattle.infer.proofs.ByCommand.{plain-free, plain-put, plain-byte, plain-told}
 
 pub record ItemsInv (m equal : Bool) (l : ℕ) (v : List ℕ) (n : ℕ) (old spare₀ out spare : List ℕ) (at to i : ℕ) : Type 0 where
   -- all, what is left of them, and the type so far
@@ -39,27 +42,23 @@ pub record ItemsInv (m equal : Bool) (l : ℕ) (v : List ℕ) (n : ℕ) (old spa
   pub below : i ≤ n
   pub in-v : at ≤ length v
   pub read : itemsAt l (n - i) (drop at v) ≡ some left
-  pub sized : at + size-vals left ≡ size-vals whole
+  pub sized : at + sizeVals left ≡ sizeVals whole
   pub type : taken m equal t left ≡ inner m equal whole
   pub wf : Wf t
   pub reduced : m ≡ true → reduce fixed t ≡ t
   pub long : size t ≡ to
   pub low : to ≤ at
   pub levels : level t ≤ typeLevels
-  pub apt : m ≡ true → are-data fixed left ≡ true
-  pub room : size-vals whole + 1 ≤ length old
-  pub spared : size-vals whole + 1 ≤ length spare₀
-  pub small : size-vals whole + 1 ≤ mostBytes
+  pub apt : m ≡ true → areData fixed left ≡ true
+  pub room : sizeVals whole + 1 ≤ length old
+  pub spared : sizeVals whole + 1 ≤ length spare₀
+  pub small : sizeVals whole + 1 ≤ mostBytes
   pub out-len : length out ≡ length old
   pub spare-len : length spare ≡ length spare₀
   pub state : Starts (enc t) out
 
-size-item : (v : Val) (vs : Vals) → size-vals (item v vs) ≡ size-val v + size-vals vs
-unfolding size-vals
-size-item v vs = refl
-
-size-no-items : size-vals no-items ≡ 0
-unfolding size-vals
+size-no-items : sizeVals no-items ≡ 0
+unfolding sizeVals
 size-no-items = refl
 
 leaf-text : enc (leaf null) ≡ 41 ∷ []
@@ -89,11 +88,11 @@ pub record Nth (m : Bool) (l n at : ℕ) (s : List ℕ) (vs : Vals) : Type 0 whe
   pub first : valueAt l (drop at s) ≡ some v
   pub well : WfV v
   pub depth : levelV v ≤ l
-  pub fits : at + size-val v ≤ length s
-  pub second : itemsAt l n (drop (at + size-val v) s) ≡ some more
+  pub fits : at + sizeVal v ≤ length s
+  pub second : itemsAt l n (drop (at + sizeVal v) s) ≡ some more
   pub is : vs ≡ item v more
-  pub sized : size-vals vs ≡ size-val v + size-vals more
-  pub apt : (m ≡ true → are-data fixed vs ≡ true) → (m ≡ true → isData v ≡ true) × (m ≡ true → are-data fixed more ≡ true)
+  pub sized : sizeVals vs ≡ sizeVal v + sizeVals more
+  pub apt : (m ≡ true → areData fixed vs ≡ true) → (m ≡ true → isData v ≡ true) × (m ≡ true → areData fixed more ≡ true)
 
 nth : (m : Bool) (l i n at : ℕ) (s : List ℕ) (vs : Vals) → Bytes s → i < n → at ≤ length s → itemsAt l (n - i) (drop at s) ≡ some vs → Nth m l (n - (i + 1)) at s vs
 nth m l i n at s vs bs h in-s e = go (next-item l (n - (i + 1)) (drop at s) vs (ap (λ (z : ℕ). itemsAt l z (drop at s)) (sym (step i n h)) ∙ e))
@@ -108,26 +107,26 @@ nth m l i n at s vs bs h in-s e = go (next-item l (n - (i + 1)) (drop at s) vs (
           well = F .well;
           depth = F .low;
           fits = omega (arith, simp length-drop at (v-inside l (drop at s) (E .v) (E .first)));
-          second = ap (itemsAt l (n - (i + 1))) (sym (drop-drop (size-val (E .v)) at s)) ∙ E .second;
+          second = ap (itemsAt l (n - (i + 1))) (sym (drop-drop (sizeVal (E .v)) at s)) ∙ E .second;
           is = E .is;
-          sized = ap size-vals (E .is) ∙ size-item (E .v) (E .more);
-          apt = λ d. data-item m (E .v) (E .more) (λ q. ap (are-data fixed) (sym (E .is)) ∙ d q);
+          sized = ap sizeVals (E .is) ∙ size-item (E .v) (E .more);
+          apt = λ d. data-item m (E .v) (E .more) (λ q. ap (areData fixed) (sym (E .is)) ∙ d q);
         }
 
 module _ (m equal : Bool) (l : ℕ) (s : List ℕ) (n : ℕ) (old spare₀ : List ℕ) (p : FitItems m (itemsAt l n s) (length old) (length spare₀)) where
-  abbrev K : Opened WfVals (are-data fixed) (λ vs. size-vals vs + 1) m (itemsAt l n s) (length old) (length spare₀)
+  abbrev K : Opened WfVals (areData fixed) (λ vs. sizeVals vs + 1) m (itemsAt l n s) (length old) (length spare₀)
   K = open-fit (itemsAt l n s) (length old) (length spare₀) p
 
   pub items-one : 1 ≤ length old
   items-one = omega (arith, K .fits .roomy)
 
-  pub items-none : n ≡ 0 → Typed size-vals (innerText m equal) (itemsAt l n s) old (set old 0 41) 0 1
+  pub items-none : n ≡ 0 → Typed sizeVals (innerText m equal) (itemsAt l n s) old (set old 0 41) 0 1
   items-none z =
       let e : K .x ≡ no-items = no-item l s (K .x) (ap (λ (k : ℕ). itemsAt l k s) (sym z) ∙ K .read) in
       let t : innerText m equal (K .x) ≡ 41 ∷ [] = ap (innerText m equal) e ∙ ap enc (inner-none m equal) ∙ leaf-text in
       typed (itemsAt l n s) (K .x) old (set old 0 41) 0 1 (K .read)
       (record {
-        all = sym (ap size-vals e ∙ size-no-items);
+        all = sym (ap sizeVals e ∙ size-no-items);
         long = sym (ap length t);
         out = subst (λ (k : List ℕ). Starts k (set old 0 41)) (sym t) (starts-onto (41 ∷ []) old (set old 0 41) (onto-first old 41 items-one));
         kept = length-set old 0 41;
@@ -148,14 +147,14 @@ module _ (m equal : Bool) (l : ℕ) (s : List ℕ) (n : ℕ) (old spare₀ : Lis
           small = omega (arith, K .fits .small, F .sized);
         })
 
-    pub items-kept : (out : List ℕ) (e w : ℕ) → Typed size-val (typeText m) (valueAt l s) old out e w → length out ≡ length old
+    pub items-kept : (out : List ℕ) (e w : ℕ) → Typed sizeVal (typeText m) (valueAt l s) old out e w → length out ≡ length old
     items-kept out e w T = typed-is (valueAt l s) (F .v) old out e w (F .first) T .kept
 
-    pub items-start : (out spare : List ℕ) (e w : ℕ) → Typed size-val (typeText m) (valueAt l s) old out e w → length spare ≡ length spare₀ → ItemsInv m equal l s n out spare out spare e w 1
+    pub items-start : (out spare : List ℕ) (e w : ℕ) → Typed sizeVal (typeText m) (valueAt l s) old out e w → length spare ≡ length spare₀ → ItemsInv m equal l s n out spare out spare e w 1
     items-start out spare e w T k =
         let W = typed-is (valueAt l s) (F .v) old out e w (F .first) T in
         let G = fine m (F .v) (F .well) (omega (arith, K .fits .small, F .sized)) in
-        let z : 0 + size-val (F .v) ≡ e = omega (arith, W .all) in
+        let z : 0 + sizeVal (F .v) ≡ e = omega (arith, W .all) in
         record {
           whole = K .x;
           left = F .more;
@@ -202,8 +201,8 @@ module _ {m equal : Bool} {l : ℕ} {s : List ℕ} {n : ℕ} {old spare₀ out s
           small = omega (arith, Q .small, Q .sized, N .sized);
         })
 
-    module _ (levels : l ≤ valueLevels) (ys sp : List ℕ) (e w : ℕ) (T : Typed size-val (typeText m) (valueAt l (behind at s)) (behind to out) ys e w) (k : length sp ≡ length spare) where
-      abbrev W : Wrote size-val (typeText m) (N .v) (behind to out) ys e w
+    module _ (levels : l ≤ valueLevels) (ys sp : List ℕ) (e w : ℕ) (T : Typed sizeVal (typeText m) (valueAt l (behind at s)) (behind to out) ys e w) (k : length sp ≡ length spare) where
+      abbrev W : Wrote sizeVal (typeText m) (N .v) (behind to out) ys e w
       W = typed-is (valueAt l (behind at s)) (N .v) (behind to out) ys e w first-behind T
 
       abbrev xs : List ℕ
@@ -298,7 +297,7 @@ module _ {m equal : Bool} {l : ℕ} {s : List ℕ} {n : ℕ} {old spare₀ out s
       abbrev ys : List ℕ
       ys = set (behind to out) 0 b
 
-      told : Typed size-val (typeText m) (valueAt l (behind at s)) (behind to out) ys k 1
+      told : Typed sizeVal (typeText m) (valueAt l (behind at s)) (behind to out) ys k 1
       told = plain-told m l s at out to spare item-fits bs k P
 
       put : putMid to (length out - to) out ys ≡ set out to b
@@ -321,14 +320,14 @@ module _ {m equal : Bool} {l : ℕ} {s : List ℕ} {n : ℕ} {old spare₀ out s
       leaf-next zs sp r J e =
           item-next levels ys spare k 1 told refl zs sp r (subst (λ (z : List ℕ). Joined m equal (typeAt typeLevels z) (typeAt typeLevels (drop to z)) z zs r) (sym put) J) e
 
-  pub items-done : n ≤ i → (first : List ℕ) → length old ≡ length first → Typed size-vals (innerText m equal) (itemsAt l n s) first out at to
+  pub items-done : n ≤ i → (first : List ℕ) → length old ≡ length first → Typed sizeVals (innerText m equal) (itemsAt l n s) first out at to
   items-done h first k =
       let z : n - i ≡ 0 = omega arith in
       let e : Q .left ≡ no-items = no-item l (drop at s) (Q .left) (ap (λ (k : ℕ). itemsAt l k (drop at s)) (sym z) ∙ Q .read) in
       let t : Q .t ≡ inner m equal (Q .whole) = sym (ap (taken m equal (Q .t)) e ∙ taken-none m equal (Q .t)) ∙ Q .type in
       typed (itemsAt l n s) (Q .whole) first out at to (Q .read-all)
       (record {
-        all = omega (arith, Q .sized, ap size-vals e, size-no-items);
+        all = omega (arith, Q .sized, ap sizeVals e, size-no-items);
         long = sym (Q .long) ∙ sym (length-enc (Q .t)) ∙ ap (λ x. length (enc x)) t;
         out = subst (λ x. Starts (enc x) out) t (Q .state);
         kept = Q .out-len ∙ k;

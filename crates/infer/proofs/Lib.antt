@@ -1,9 +1,9 @@
 pub mod OnlyData
-pub mod Joining
-pub mod Signing
-pub mod Calling
+pub mod JoinedTypes
+pub mod Signatures
+pub mod CallContracts
 pub mod Trees
-pub mod Writing
+pub mod OutputFront
 pub mod Entries
 pub mod Items
-pub mod Commands
+pub mod ByCommand

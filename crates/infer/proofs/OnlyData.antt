@@ -1,4 +1,7 @@
 -- Whether a value is data, item by item and entry by entry.
+-- Idea: the answer to all items or entries is the answer to those that are left, behind what was passed.
+-- Index: `ItemsInv`, `items-start`, `items-again`, `items-no`, `items-done`, `items-leaf` (items); `EntriesInv`, `entries-start`, `entries-again`, `entries-no`, `entries-done`, `entries-leaf`
+-- (entries); `leaf-done`, `other-done`, `ranges`, `lists`, `contexts`, `run-ok`, `run-done` (a value by its command); `plain-boolean`, `plain-number`, `plain-string`, `plain-temporal` (`leaf`).
 -- Assumes nothing.
 use Prim.Native.Nat.{ℕ, suc, _+_, _-_, _<_, _≤_}
 use mathlib.Core.Path.{_≡_, refl, sym, ap, subst, _∙_}
@@ -12,22 +15,21 @@ use Rattle.form.specs.Trees.{Val, Vals, no-items, item, Entries}
 use Rattle.form.specs.Limits.{nameWidth}
 use Rattle.form.specs.Form.{numAt}
 use Rattle.form.specs.Layout.{ValueKind, kNull, kBoolean, kNumber, kString, kTemporal, ofValue, kindOf, operandsV, operands, widthOf}
-use Rattle.form.proofs.Commands.{kind-temporal, width-is}
+use Rattle.form.proofs.CommandKinds.{kind-temporal, width-is}
 use Rattle.form.proofs.Runs.{rest}
 use Rattle.order.specs.Order.{fixed}
-use Rattle.order.specs.Size.{size-val, size-vals, size-entries}
-use Rattle.order.specs.Values.{is-data, are-data, hold-data}
+use Rattle.order.specs.Size.{sizeVal, sizeVals, sizeEntries}
+use Rattle.order.specs.Values.{isDataBy, areData, holdData}
 use Rattle.order.specs.Inferred.{isData}
 use Rattle.types.specs.At.{Ok}
 use Rattle.types.proofs.Reading.{is-ok, ok-got}
 use Rattle.types.proofs.Entries.{step}
 use Rattle.values.specs.At.{valueAt, itemsAt, entriesAt}
-use Rattle.values.proofs.Reading as reading
 use Rattle.values.proofs.Reading.{IsVal, is-null, is-boolean, is-number, is-string, is-temporal, is-range, is-list, is-context, is-definition, is-built-in, is-type, is-irrelevant, is-val, some-byte}
 use Rattle.values.proofs.Reading.{some-level, v-inside, items-inside, entries-inside, Item, next-item, no-item, Entry, next-entry, no-entry}
-use Rattle.infer.specs.Typing.{dataBy, grown, Plain}
-use Rattle.infer.specs.declared.Data.{Data}
-use Rattle.infer.specs.declared.Data.the-variants.{Yes, No}
+use Rattle.infer.specs.Typing.{dataBy, addSize, Plain}
+use Rattle.infer.specs.declared.data.Data.{Data}
+use Rattle.infer.specs.declared.data.Data.the-variants.{Yes, No}
 
 abbrev told : Bool → ℕ → Data
 told q n = cond q (Yes n) No
@@ -52,8 +54,8 @@ pub record ItemsInv (l : ℕ) (v : List ℕ) (n at i : ℕ) : Type 0 where
   pub more : Vals
   pub read : itemsAt l (n - i) (drop at v) ≡ some more
   pub here : i ≤ n
-  pub inside : at + size-vals more ≤ length v
-  pub whole : dataBy (are-data fixed) size-vals (itemsAt l n v) ≡ told (are-data fixed more) (at + size-vals more)
+  pub inside : at + sizeVals more ≤ length v
+  pub whole : dataBy (areData fixed) sizeVals (itemsAt l n v) ≡ told (areData fixed more) (at + sizeVals more)
 
 -- and of n entries, the next name being at least k
 pub record EntriesInv (l : ℕ) (v : List ℕ) (n at i : ℕ) : Type 0 where
@@ -61,8 +63,8 @@ pub record EntriesInv (l : ℕ) (v : List ℕ) (n at i : ℕ) : Type 0 where
   pub more : Entries
   pub read : entriesAt l (n - i) k (drop at v) ≡ some more
   pub here : i ≤ n
-  pub inside : at + size-entries more ≤ length v
-  pub whole : dataBy (hold-data fixed) size-entries (entriesAt l n 0 v) ≡ told (hold-data fixed more) (at + size-entries more)
+  pub inside : at + sizeEntries more ≤ length v
+  pub whole : dataBy (holdData fixed) sizeEntries (entriesAt l n 0 v) ≡ told (holdData fixed more) (at + sizeEntries more)
 
 -- a child that is data, or is not, and the others
 and-data : (q s : Bool) (n x at m : ℕ) → told q n ≡ Yes x → told (q && s) (at + (n + m)) ≡ told s (at + x + m)
@@ -81,20 +83,20 @@ items-start l v n h =
       read = ap (λ k. itemsAt l k v) z ∙ g .1;
       here = omega arith;
       inside = omega (arith, items-inside l n v (g .0) (g .1));
-      whole = by-got (are-data fixed) size-vals
-          (itemsAt l n v) (g .0) (g .1) ∙ ap (told (are-data fixed (g .0))) (omega arith);
+      whole = by-got (areData fixed) sizeVals
+          (itemsAt l n v) (g .0) (g .1) ∙ ap (told (areData fixed (g .0))) (omega arith);
     }
 
 module _ {l : ℕ} {v : List ℕ} {n at i : ℕ} (I : ItemsInv l v n at i) where
   pub items-end : at ≤ length v
   items-end = omega (arith, I .inside)
 
-  pub items-done : n ≤ i → Yes at ≡ dataBy (are-data fixed) size-vals (itemsAt l n v)
-  unfolding are-data size-val
+  pub items-done : n ≤ i → Yes at ≡ dataBy (areData fixed) sizeVals (itemsAt l n v)
+  unfolding areData sizeVal
   items-done h =
       let z : n - i ≡ 0 = omega arith in
       let e = no-item l (drop at v) (I .more) (ap (λ k. itemsAt l k (drop at v)) (sym z) ∙ I .read) in
-      let p : told (are-data fixed (I .more)) (at + size-vals (I .more)) ≡ Yes at = ap (λ vs. told (are-data fixed vs) (at + size-vals vs)) e ∙ ap Yes (omega arith) in
+      let p : told (areData fixed (I .more)) (at + sizeVals (I .more)) ≡ Yes at = ap (λ vs. told (areData fixed vs) (at + sizeVals vs)) e ∙ ap Yes (omega arith) in
       sym (I .whole ∙ p)
 
   module _ (h : i < n) where
@@ -105,31 +107,31 @@ module _ {l : ℕ} {v : List ℕ} {n at i : ℕ} (I : ItemsInv l v n at i) where
     items-ok = rw (rest v at) (is-ok (valueAt l (drop at v)) (next .v) (next .first))
 
     -- the child's answer
-    item-told : (r : Data) → r ≡ dataBy isData size-val (valueAt l (take (length v - at) (drop at v))) → r ≡ told (isData (next .v)) (size-val (next .v))
-    item-told r e = e ∙ ap (λ s. dataBy isData size-val (valueAt l s)) (rest v at) ∙ by-got isData size-val (valueAt l (drop at v)) (next .v) (next .first)
+    item-told : (r : Data) → r ≡ dataBy isData sizeVal (valueAt l (take (length v - at) (drop at v))) → r ≡ told (isData (next .v)) (sizeVal (next .v))
+    item-told r e = e ∙ ap (λ s. dataBy isData sizeVal (valueAt l s)) (rest v at) ∙ by-got isData sizeVal (valueAt l (drop at v)) (next .v) (next .first)
 
-    item-whole : (dataBy (are-data fixed) size-vals (itemsAt l n v) ≡ told (isData (next .v) && are-data fixed (next .more)) (at + (size-val (next .v) + size-vals (next .more)))) ×
-        (at + (size-val (next .v) + size-vals (next .more)) ≤ length v)
-    unfolding are-data size-val
-    item-whole = (I .whole ∙ ap (λ vs. told (are-data fixed vs) (at + size-vals vs)) (next .is), subst (λ vs. at + size-vals vs ≤ length v) (next .is) (I .inside))
+    item-whole : (dataBy (areData fixed) sizeVals (itemsAt l n v) ≡ told (isData (next .v) && areData fixed (next .more)) (at + (sizeVal (next .v) + sizeVals (next .more)))) ×
+        (at + (sizeVal (next .v) + sizeVals (next .more)) ≤ length v)
+    unfolding areData sizeVal
+    item-whole = (I .whole ∙ ap (λ vs. told (areData fixed vs) (at + sizeVals vs)) (next .is), subst (λ vs. at + sizeVals vs ≤ length v) (next .is) (I .inside))
 
-    pub items-no : (r : Data) → r ≡ No → r ≡ dataBy isData size-val (valueAt l (take (length v - at) (drop at v))) → No ≡ dataBy (are-data fixed) size-vals (itemsAt l n v)
-    items-no r p e = sym (item-whole .0 ∙ and-no (isData (next .v)) (are-data fixed (next .more)) (size-val (next .v)) (at + (size-val (next .v) + size-vals (next .more))) (sym (item-told r e) ∙ p))
+    pub items-no : (r : Data) → r ≡ No → r ≡ dataBy isData sizeVal (valueAt l (take (length v - at) (drop at v))) → No ≡ dataBy (areData fixed) sizeVals (itemsAt l n v)
+    items-no r p e = sym (item-whole .0 ∙ and-no (isData (next .v)) (areData fixed (next .more)) (sizeVal (next .v)) (at + (sizeVal (next .v) + sizeVals (next .more))) (sym (item-told r e) ∙ p))
 
-    pub items-fit : (r : Data) (x : ℕ) → r ≡ Yes x → r ≡ dataBy isData size-val (valueAt l (take (length v - at) (drop at v))) → at + x ≤ length v
-    items-fit r x p e = omega (arith, told-yes (isData (next .v)) (size-val (next .v)) x (sym (item-told r e) ∙ p) .1, item-whole .1)
+    pub items-fit : (r : Data) (x : ℕ) → r ≡ Yes x → r ≡ dataBy isData sizeVal (valueAt l (take (length v - at) (drop at v))) → at + x ≤ length v
+    items-fit r x p e = omega (arith, told-yes (isData (next .v)) (sizeVal (next .v)) x (sym (item-told r e) ∙ p) .1, item-whole .1)
 
-    pub items-again : (r : Data) (x : ℕ) → r ≡ Yes x → r ≡ dataBy isData size-val (valueAt l (take (length v - at) (drop at v))) → ItemsInv l v n (at + x) (i + 1)
+    pub items-again : (r : Data) (x : ℕ) → r ≡ Yes x → r ≡ dataBy isData sizeVal (valueAt l (take (length v - at) (drop at v))) → ItemsInv l v n (at + x) (i + 1)
     items-again r x p e =
-        let d = told-yes (isData (next .v)) (size-val (next .v)) x (sym (item-told r e) ∙ p) in
+        let d = told-yes (isData (next .v)) (sizeVal (next .v)) x (sym (item-told r e) ∙ p) in
         let w = item-whole in
-        let z : at + size-val (next .v) ≡ at + x = omega (arith, d .1) in
+        let z : at + sizeVal (next .v) ≡ at + x = omega (arith, d .1) in
         record {
           more = next .more;
-          read = ap (itemsAt l (n - (i + 1))) (sym (drop-drop (size-val (next .v)) at v ∙ ap (λ k. drop k v) z)) ∙ next .second;
+          read = ap (itemsAt l (n - (i + 1))) (sym (drop-drop (sizeVal (next .v)) at v ∙ ap (λ k. drop k v) z)) ∙ next .second;
           here = omega arith;
           inside = omega (arith, d .1, w .1);
-          whole = w .0 ∙ and-data (isData (next .v)) (are-data fixed (next .more)) (size-val (next .v)) x at (size-vals (next .more)) (sym (item-told r e) ∙ p);
+          whole = w .0 ∙ and-data (isData (next .v)) (areData fixed (next .more)) (sizeVal (next .v)) x at (sizeVals (next .more)) (sym (item-told r e) ∙ p);
         }
 
 -- ---- entries
@@ -144,16 +146,16 @@ entries-start l v n h =
       here = omega arith;
       inside = omega (arith, entries-inside l n 0 v (g .0) (g .1));
       whole = by-got
-          (hold-data fixed) size-entries (entriesAt l n 0 v) (g .0) (g .1) ∙ ap (told (hold-data fixed (g .0))) (omega arith);
+          (holdData fixed) sizeEntries (entriesAt l n 0 v) (g .0) (g .1) ∙ ap (told (holdData fixed (g .0))) (omega arith);
     }
 
 module _ {l : ℕ} {v : List ℕ} {n at i : ℕ} (I : EntriesInv l v n at i) where
-  pub entries-done : n ≤ i → Yes at ≡ dataBy (hold-data fixed) size-entries (entriesAt l n 0 v)
-  unfolding are-data size-val
+  pub entries-done : n ≤ i → Yes at ≡ dataBy (holdData fixed) sizeEntries (entriesAt l n 0 v)
+  unfolding areData sizeVal
   entries-done h =
       let z : n - i ≡ 0 = omega arith in
       let e = no-entry l (I .k) (drop at v) (I .more) (ap (λ k. entriesAt l k (I .k) (drop at v)) (sym z) ∙ I .read) in
-      let p : told (hold-data fixed (I .more)) (at + size-entries (I .more)) ≡ Yes at = ap (λ es. told (hold-data fixed es) (at + size-entries es)) e ∙ ap Yes (omega arith) in
+      let p : told (holdData fixed (I .more)) (at + sizeEntries (I .more)) ≡ Yes at = ap (λ es. told (holdData fixed es) (at + sizeEntries es)) e ∙ ap Yes (omega arith) in
       sym (I .whole ∙ p)
 
   module _ (h : i < n) where
@@ -170,38 +172,38 @@ module _ {l : ℕ} {v : List ℕ} {n at i : ℕ} (I : EntriesInv l v n at i) whe
     pub entries-ok : Ok (valueAt l (take (length v - (at + nameWidth)) (drop (at + nameWidth) v)))
     entries-ok = rw behind (is-ok (valueAt l (drop nameWidth (drop at v))) (next-one .v) (next-one .first))
 
-    entry-told : (r : Data) → r ≡ dataBy isData size-val (valueAt l (take (length v - (at + nameWidth)) (drop (at + nameWidth) v))) → r ≡ told (isData (next-one .v)) (size-val (next-one .v))
-    entry-told r e = e ∙ ap (λ s. dataBy isData size-val (valueAt l s)) behind ∙ by-got isData size-val (valueAt l (drop nameWidth (drop at v))) (next-one .v) (next-one .first)
+    entry-told : (r : Data) → r ≡ dataBy isData sizeVal (valueAt l (take (length v - (at + nameWidth)) (drop (at + nameWidth) v))) → r ≡ told (isData (next-one .v)) (sizeVal (next-one .v))
+    entry-told r e = e ∙ ap (λ s. dataBy isData sizeVal (valueAt l s)) behind ∙ by-got isData sizeVal (valueAt l (drop nameWidth (drop at v))) (next-one .v) (next-one .first)
 
-    entry-whole : (dataBy (hold-data fixed) size-entries (entriesAt l n 0 v) ≡ told (isData (next-one .v) && hold-data fixed (next-one .more))
-        (at + (nameWidth + size-val (next-one .v) + size-entries (next-one .more)))) × (at + (nameWidth + size-val (next-one .v) + size-entries (next-one .more)) ≤ length v)
-    unfolding are-data size-val
-    entry-whole = (I .whole ∙ ap (λ es. told (hold-data fixed es) (at + size-entries es)) (next-one .is), subst (λ es. at + size-entries es ≤ length v) (next-one .is) (I .inside))
+    entry-whole : (dataBy (holdData fixed) sizeEntries (entriesAt l n 0 v) ≡ told (isData (next-one .v) && holdData fixed (next-one .more))
+        (at + (nameWidth + sizeVal (next-one .v) + sizeEntries (next-one .more)))) × (at + (nameWidth + sizeVal (next-one .v) + sizeEntries (next-one .more)) ≤ length v)
+    unfolding areData sizeVal
+    entry-whole = (I .whole ∙ ap (λ es. told (holdData fixed es) (at + sizeEntries es)) (next-one .is), subst (λ es. at + sizeEntries es ≤ length v) (next-one .is) (I .inside))
 
-    pub entries-no : (r : Data) → r ≡ No → r ≡ dataBy isData size-val (valueAt l (take (length v - (at + nameWidth)) (drop (at + nameWidth) v)))
-        → No ≡ dataBy (hold-data fixed) size-entries (entriesAt l n 0 v)
-    entries-no r p e = sym (entry-whole .0 ∙ and-no (isData (next-one .v)) (hold-data fixed (next-one .more)) (size-val (next-one .v))
-        (at + (nameWidth + size-val (next-one .v) + size-entries (next-one .more))) (sym (entry-told r e) ∙ p))
+    pub entries-no : (r : Data) → r ≡ No → r ≡ dataBy isData sizeVal (valueAt l (take (length v - (at + nameWidth)) (drop (at + nameWidth) v)))
+        → No ≡ dataBy (holdData fixed) sizeEntries (entriesAt l n 0 v)
+    entries-no r p e = sym (entry-whole .0 ∙ and-no (isData (next-one .v)) (holdData fixed (next-one .more)) (sizeVal (next-one .v))
+        (at + (nameWidth + sizeVal (next-one .v) + sizeEntries (next-one .more))) (sym (entry-told r e) ∙ p))
 
-    pub entries-fit : (r : Data) (x : ℕ) → r ≡ Yes x → r ≡ dataBy isData size-val (valueAt l (take (length v - (at + nameWidth)) (drop (at + nameWidth) v))) → at + nameWidth + x ≤ length v
-    entries-fit r x p e = omega (arith, told-yes (isData (next-one .v)) (size-val (next-one .v)) x (sym (entry-told r e) ∙ p) .1, entry-whole .1)
+    pub entries-fit : (r : Data) (x : ℕ) → r ≡ Yes x → r ≡ dataBy isData sizeVal (valueAt l (take (length v - (at + nameWidth)) (drop (at + nameWidth) v))) → at + nameWidth + x ≤ length v
+    entries-fit r x p e = omega (arith, told-yes (isData (next-one .v)) (sizeVal (next-one .v)) x (sym (entry-told r e) ∙ p) .1, entry-whole .1)
 
-    pub entries-again : (r : Data) (x : ℕ) → r ≡ Yes x → r ≡ dataBy isData size-val (valueAt l (take (length v - (at + nameWidth)) (drop (at + nameWidth) v)))
+    pub entries-again : (r : Data) (x : ℕ) → r ≡ Yes x → r ≡ dataBy isData sizeVal (valueAt l (take (length v - (at + nameWidth)) (drop (at + nameWidth) v)))
         → EntriesInv l v n (at + nameWidth + x) (i + 1)
     entries-again r x p e =
-        let d = told-yes (isData (next-one .v)) (size-val (next-one .v)) x (sym (entry-told r e) ∙ p) in
+        let d = told-yes (isData (next-one .v)) (sizeVal (next-one .v)) x (sym (entry-told r e) ∙ p) in
         let w = entry-whole in
-        let z : at + nameWidth + size-val (next-one .v) ≡ at + nameWidth + x = omega (arith, d .1) in
-        let y : drop (size-val (next-one .v)) (drop nameWidth (drop at v)) ≡ drop (at + nameWidth + x) v = ap (drop (size-val (next-one .v))) (drop-drop nameWidth at v)
-        ∙ drop-drop (size-val (next-one .v)) (at + nameWidth) v ∙ ap (λ k. drop k v) z in
+        let z : at + nameWidth + sizeVal (next-one .v) ≡ at + nameWidth + x = omega (arith, d .1) in
+        let y : drop (sizeVal (next-one .v)) (drop nameWidth (drop at v)) ≡ drop (at + nameWidth + x) v = ap (drop (sizeVal (next-one .v))) (drop-drop nameWidth at v)
+        ∙ drop-drop (sizeVal (next-one .v)) (at + nameWidth) v ∙ ap (λ k. drop k v) z in
         record {
           k = suc (next-one .name);
           more = next-one .more;
           read = ap (entriesAt l (n - (i + 1)) (suc (next-one .name))) (sym y) ∙ next-one .second;
           here = omega arith;
           inside = omega (arith, d .1, w .1);
-          whole = w .0 ∙ ap (told (isData (next-one .v) && hold-data fixed (next-one .more))) (omega arith)
-              ∙ and-data (isData (next-one .v)) (hold-data fixed (next-one .more)) (size-val (next-one .v)) x (at + nameWidth) (size-entries (next-one .more)) (sym (entry-told r e) ∙ p);
+          whole = w .0 ∙ ap (told (isData (next-one .v) && holdData fixed (next-one .more))) (omega arith)
+              ∙ and-data (isData (next-one .v)) (holdData fixed (next-one .more)) (sizeVal (next-one .v)) x (at + nameWidth) (sizeEntries (next-one .more)) (sym (entry-told r e) ∙ p);
         }
 
 -- ---- a value by its command
@@ -231,8 +233,8 @@ unfolding operandsV
 plain-temporal b p q = plain b b 9 kTemporal refl (kind-temporal b p q) refl (omega arith) q
 
 -- leaves are data, and their size is the width of the command and one
-data-leaf : (l : ℕ) (s : List ℕ) (v : Val) → IsVal l s v → getD s 0 0 < 9 → (isData v ≡ true) × (widthOf (getD s 0 0) + 1 ≡ size-val v)
-unfolding is-data size-val operandsV kindOf
+data-leaf : (l : ℕ) (s : List ℕ) (v : Val) → IsVal l s v → getD s 0 0 < 9 → (isData v ≡ true) × (widthOf (getD s 0 0) + 1 ≡ sizeVal v)
+unfolding isDataBy sizeVal operandsV kindOf
 data-leaf l s v (is-null x c) h = (refl, width-of (getD s 0 0) 0 2 kNull c refl refl)
 data-leaf l s v (is-boolean x c) h = (refl, width-of (getD s 0 0) 1 2 kBoolean c refl refl)
 data-leaf l s v (is-number x c) h = (refl, width-of (getD s 0 0) 2 9 kNumber c refl refl)
@@ -247,7 +249,7 @@ data-leaf l s v (is-type t c p) h = absurd (omega arith)
 data-leaf l s v (is-irrelevant c) h = absurd (omega arith)
 
 not-data : (l : ℕ) (s : List ℕ) (v : Val) → IsVal l s v → 12 ≤ getD s 0 0 → isData v ≡ false
-unfolding is-data
+unfolding isDataBy
 not-data l s v (is-null x c) h = absurd (omega arith)
 not-data l s v (is-boolean x c) h = absurd (omega arith)
 not-data l s v (is-number x c) h = absurd (omega arith)
@@ -276,10 +278,10 @@ and-true false b = refl
 
 module _ (l : ℕ) (s : List ℕ) where
   abbrev W : Data
-  W = dataBy isData size-val (valueAt l s)
+  W = dataBy isData sizeVal (valueAt l s)
 
-  run-range : (v : Val) → IsVal l s v → size-val v ≤ length s → W ≡ told (isData v) (size-val v) → getD s 0 0 ≡ 9 → Run (are-data fixed) size-vals (itemsAt (l - 1) 2) s W
-  unfolding is-data size-val
+  run-range : (v : Val) → IsVal l s v → sizeVal v ≤ length s → W ≡ told (isData v) (sizeVal v) → getD s 0 0 ≡ 9 → Run (areData fixed) sizeVals (itemsAt (l - 1) 2) s W
+  unfolding isDataBy sizeVal
   run-range v (is-null x c) i w h = absurd (omega arith)
   run-range v (is-boolean x c) i w h = absurd (omega arith)
   run-range v (is-number x c) i w h = absurd (omega arith)
@@ -291,7 +293,7 @@ module _ (l : ℕ) (s : List ℕ) where
         three = k;
         read = r;
         fits = omega arith;
-        whole = w ∙ ap (λ b. told b (3 + size-val p + size-val q)) (sym (and-true (isData p) (isData q)))
+        whole = w ∙ ap (λ b. told b (3 + sizeVal p + sizeVal q)) (sym (and-true (isData p) (isData q)))
             ∙ ap (told (isData p && (isData q && true))) (omega arith);
       }
   run-range v (is-list vs c k p) i w h = absurd (omega arith)
@@ -301,8 +303,8 @@ module _ (l : ℕ) (s : List ℕ) where
   run-range v (is-type t c p) i w h = absurd (omega arith)
   run-range v (is-irrelevant c) i w h = absurd (omega arith)
 
-  run-list : (v : Val) → IsVal l s v → size-val v ≤ length s → W ≡ told (isData v) (size-val v) → (n : ℕ) → n ≡ numAt 2 1 s → getD s 0 0 ≡ 10 → Run (are-data fixed) size-vals (itemsAt (l - 1) n) s W
-  unfolding is-data size-val
+  run-list : (v : Val) → IsVal l s v → sizeVal v ≤ length s → W ≡ told (isData v) (sizeVal v) → (n : ℕ) → n ≡ numAt 2 1 s → getD s 0 0 ≡ 10 → Run (areData fixed) sizeVals (itemsAt (l - 1) n) s W
+  unfolding isDataBy sizeVal
   run-list v (is-null x c) i w n e h = absurd (omega arith)
   run-list v (is-boolean x c) i w n e h = absurd (omega arith)
   run-list v (is-number x c) i w n e h = absurd (omega arith)
@@ -315,7 +317,7 @@ module _ (l : ℕ) (s : List ℕ) where
     read = ap (λ m. itemsAt (l - 1) m (drop 3 s)) e ∙ p;
     fits = omega arith;
     whole = w
-        ∙ ap (told (are-data fixed vs)) (omega arith);
+        ∙ ap (told (areData fixed vs)) (omega arith);
   }
   run-list v (is-context es c k p) i w n e h = absurd (omega arith)
   run-list v (is-definition r ps b c k p) i w n e h = absurd (omega arith)
@@ -323,9 +325,9 @@ module _ (l : ℕ) (s : List ℕ) where
   run-list v (is-type t c p) i w n e h = absurd (omega arith)
   run-list v (is-irrelevant c) i w n e h = absurd (omega arith)
 
-  run-context : (v : Val) → IsVal l s v → size-val v ≤ length s → W ≡ told (isData v) (size-val v) → (n : ℕ) → n ≡ numAt 2 1 s → getD s 0 0 ≡ 11
-      → Run (hold-data fixed) size-entries (entriesAt (l - 1) n 0) s W
-  unfolding is-data size-val
+  run-context : (v : Val) → IsVal l s v → sizeVal v ≤ length s → W ≡ told (isData v) (sizeVal v) → (n : ℕ) → n ≡ numAt 2 1 s → getD s 0 0 ≡ 11
+      → Run (holdData fixed) sizeEntries (entriesAt (l - 1) n 0) s W
+  unfolding isDataBy sizeVal
   run-context v (is-null x c) i w n e h = absurd (omega arith)
   run-context v (is-boolean x c) i w n e h = absurd (omega arith)
   run-context v (is-number x c) i w n e h = absurd (omega arith)
@@ -339,7 +341,7 @@ module _ (l : ℕ) (s : List ℕ) where
     read = ap (λ m. entriesAt (l - 1) m 0 (drop 3 s)) e ∙ p;
     fits = omega arith;
     whole = w
-        ∙ ap (told (hold-data fixed es)) (omega arith);
+        ∙ ap (told (holdData fixed es)) (omega arith);
   }
   run-context v (is-definition r ps b c k p) i w n e h = absurd (omega arith)
   run-context v (is-built-in x c) i w n e h = absurd (omega arith)
@@ -357,30 +359,30 @@ module _ (l : ℕ) (s : List ℕ) (p : Ok (valueAt l s)) where
   pub has-level : 0 < l
   has-level = tree (λ v e. some-level l s v e)
 
-  whole-is : (v : Val) → valueAt l s ≡ some v → dataBy isData size-val (valueAt l s) ≡ told (isData v) (size-val v)
-  whole-is v e = by-got isData size-val (valueAt l s) v e
+  whole-is : (v : Val) → valueAt l s ≡ some v → dataBy isData sizeVal (valueAt l s) ≡ told (isData v) (sizeVal v)
+  whole-is v e = by-got isData sizeVal (valueAt l s) v e
 
-  pub leaf-done : (w : ℕ) → w ≡ widthOf (getD s 0 0) → getD s 0 0 < 9 → Yes (w + 1) ≡ dataBy isData size-val (valueAt l s)
+  pub leaf-done : (w : ℕ) → w ≡ widthOf (getD s 0 0) → getD s 0 0 < 9 → Yes (w + 1) ≡ dataBy isData sizeVal (valueAt l s)
   leaf-done w q h = tree (λ v e.
       let d = data-leaf l s v (is-val l s v e) h in
-      sym (whole-is v e ∙ ap (λ b. told b (size-val v)) (d .0) ∙ ap Yes (omega (arith, d .1))))
+      sym (whole-is v e ∙ ap (λ b. told b (sizeVal v)) (d .0) ∙ ap Yes (omega (arith, d .1))))
 
-  leaf-known : (n : ℕ) → Plain (getD s 0 0) n → Yes n ≡ dataBy isData size-val (valueAt l s)
+  leaf-known : (n : ℕ) → Plain (getD s 0 0) n → Yes n ≡ dataBy isData sizeVal (valueAt l s)
   leaf-known n P = ap Yes (P .size) ∙ leaf-done (widthOf (getD s 0 0)) refl (P .low)
 
   pub leaf-fits : (w : ℕ) → w ≡ widthOf (getD s 0 0) → getD s 0 0 < 9 → w + 1 ≤ length s
   leaf-fits w q h = tree (λ v e. omega (arith, data-leaf l s v (is-val l s v e) h .1, v-inside l s v e))
 
-  pub other-done : 12 ≤ getD s 0 0 → No ≡ dataBy isData size-val (valueAt l s)
-  other-done h = tree (λ v e. sym (whole-is v e ∙ ap (λ b. told b (size-val v)) (not-data l s v (is-val l s v e) h)))
+  pub other-done : 12 ≤ getD s 0 0 → No ≡ dataBy isData sizeVal (valueAt l s)
+  other-done h = tree (λ v e. sym (whole-is v e ∙ ap (λ b. told b (sizeVal v)) (not-data l s v (is-val l s v e) h)))
 
-  pub ranges : getD s 0 0 ≡ 9 → Run (are-data fixed) size-vals (itemsAt (l - 1) 2) s (dataBy isData size-val (valueAt l s))
+  pub ranges : getD s 0 0 ≡ 9 → Run (areData fixed) sizeVals (itemsAt (l - 1) 2) s (dataBy isData sizeVal (valueAt l s))
   ranges h = tree (λ v e. run-range l s v (is-val l s v e) (v-inside l s v e) (whole-is v e) h)
 
-  pub lists : (n : ℕ) → n ≡ numAt 2 1 s → getD s 0 0 ≡ 10 → Run (are-data fixed) size-vals (itemsAt (l - 1) n) s (dataBy isData size-val (valueAt l s))
+  pub lists : (n : ℕ) → n ≡ numAt 2 1 s → getD s 0 0 ≡ 10 → Run (areData fixed) sizeVals (itemsAt (l - 1) n) s (dataBy isData sizeVal (valueAt l s))
   lists n q h = tree (λ v e. run-list l s v (is-val l s v e) (v-inside l s v e) (whole-is v e) n q h)
 
-  pub contexts : (n : ℕ) → n ≡ numAt 2 1 s → getD s 0 0 ≡ 11 → Run (hold-data fixed) size-entries (entriesAt (l - 1) n 0) s (dataBy isData size-val (valueAt l s))
+  pub contexts : (n : ℕ) → n ≡ numAt 2 1 s → getD s 0 0 ≡ 11 → Run (holdData fixed) sizeEntries (entriesAt (l - 1) n 0) s (dataBy isData sizeVal (valueAt l s))
   contexts n q h = tree (λ v e. run-context l s v (is-val l s v e) (v-inside l s v e) (whole-is v e) n q h)
 
 -- what a callee on the run asks and answers
@@ -394,10 +396,10 @@ module _ {X : Type 0} {test : X → Bool} {sz : X → ℕ} {at : List ℕ → Op
   pub run-fits : (d : Data) → d ≡ dataBy test sz (at (take (length s - 3) (drop 3 s))) → (y : ℕ) → d ≡ Yes y → y + 3 ≤ length s
   run-fits d e y q = omega (arith, R .fits, told-yes (test (R .x)) (sz (R .x)) y (sym (run-told d e) ∙ q) .1)
 
-  pub run-done : (d r : Data) → r ≡ grown 3 d → d ≡ dataBy test sz (at (take (length s - 3) (drop 3 s))) → r ≡ W
-  run-done d r q e = q ∙ ap (grown 3) (run-told d e) ∙ grown-told (test (R .x)) (sz (R .x)) ∙ sym (R .whole)
+  pub run-done : (d r : Data) → r ≡ addSize 3 d → d ≡ dataBy test sz (at (take (length s - 3) (drop 3 s))) → r ≡ W
+  run-done d r q e = q ∙ ap (addSize 3) (run-told d e) ∙ grown-told (test (R .x)) (sz (R .x)) ∙ sym (R .whole)
     where
-      grown-told : (b : Bool) (n : ℕ) → grown 3 (told b n) ≡ told b (n + 3)
+      grown-told : (b : Bool) (n : ℕ) → addSize 3 (told b n) ≡ told b (n + 3)
       grown-told true n = refl
       grown-told false n = refl
 
@@ -407,7 +409,7 @@ module _ {l : ℕ} {v : List ℕ} {n at i : ℕ} (I : ItemsInv l v n at i) (h : 
   items-some = has-byte l (take (length v - at) (drop at v)) (items-ok I h)
 
   module _ (k : ℕ) (P : Plain (getD (take (length v - at) (drop at v)) 0 0) k) where
-    item-leaf : Yes k ≡ dataBy isData size-val (valueAt l (take (length v - at) (drop at v)))
+    item-leaf : Yes k ≡ dataBy isData sizeVal (valueAt l (take (length v - at) (drop at v)))
     item-leaf = leaf-known l (take (length v - at) (drop at v)) (items-ok I h) k P
 
     pub items-leaf-fit : at + k ≤ length v
@@ -421,7 +423,7 @@ module _ {l : ℕ} {v : List ℕ} {n at i : ℕ} (I : EntriesInv l v n at i) (h 
   entries-some = has-byte l (take (length v - (at + nameWidth)) (drop (at + nameWidth) v)) (entries-ok I h)
 
   module _ (k : ℕ) (P : Plain (getD (take (length v - (at + nameWidth)) (drop (at + nameWidth) v)) 0 0) k) where
-    entry-leaf : Yes k ≡ dataBy isData size-val (valueAt l (take (length v - (at + nameWidth)) (drop (at + nameWidth) v)))
+    entry-leaf : Yes k ≡ dataBy isData sizeVal (valueAt l (take (length v - (at + nameWidth)) (drop (at + nameWidth) v)))
     entry-leaf = leaf-known l (take (length v - (at + nameWidth)) (drop (at + nameWidth) v)) (entries-ok I h) k P
 
     pub entries-leaf-fit : at + nameWidth + k ≤ length v

@@ -13,13 +13,13 @@ use Rattle.form.specs.Layout.{widthOf}
 use Rattle.form.specs.Answers.{onto}
 use Rattle.order.specs.Order.{fixed}
 use Rattle.order.specs.Types.{reduce}
-use Rattle.order.specs.Size.{size, size-val, size-vals, size-entries}
+use Rattle.order.specs.Size.{size, sizeVal, sizeVals, sizeEntries}
 use Rattle.order.specs.Document.{conformsTo, eqTy, supertype}
-use Rattle.order.specs.Values.{types-of, are-data, hold-data, least-entries}
-use Rattle.order.specs.Inferred.{isData, leastType, typeOf, entry-types}
-use Rattle.values.specs.At.{Definition, definition, size-definition}
-use Rattle.infer.specs.declared.Data.{Data}
-use Rattle.infer.specs.declared.Data.the-variants as data-is
+use Rattle.order.specs.Values.{typesOf, areData, holdData, leastEntries}
+use Rattle.order.specs.Inferred.{isData, leastType, typeOf, entryTypes}
+use Rattle.values.specs.At.{Definition, definition, sizeDefinition}
+use Rattle.infer.specs.declared.data.Data.{Data}
+use Rattle.infer.specs.declared.data.Data.the-variants as data-is
 
 -- ---- data values: the size, or no
 unfoldable pub dataBy : {X : Type 0} → (X → Bool) → (X → ℕ) → Option X → Data
@@ -27,9 +27,9 @@ dataBy test sz (some x) = cond (test x) (data-is.Yes (sz x)) data-is.No
 dataBy test sz none = data-is.No
 
 -- k bytes in front
-abbrev pub grown : ℕ → Data → Data
-grown k (data-is.Yes n) = data-is.Yes (n + k)
-grown k data-is.No = data-is.No
+abbrev pub addSize : ℕ → Data → Data
+addSize k (data-is.Yes n) = data-is.Yes (n + k)
+addSize k data-is.No = data-is.No
 
 -- n bytes of a boolean, a number, a string or a temporal with the command c
 pub record Plain (c n : ℕ) : Type 0 where
@@ -43,8 +43,8 @@ typeBy true v = leastType v
 typeBy false v = typeOf v
 
 abbrev pub fieldsBy : Bool → Entries → Fields
-fieldsBy true es = least-entries fixed es
-fieldsBy false es = entry-types es
+fieldsBy true es = leastEntries fixed es
+fieldsBy false es = entryTypes es
 
 -- of two inferred types: they are equal, or the second conforms to the first
 abbrev pub keepsFirst : Bool → Ty → Ty → Bool
@@ -80,18 +80,18 @@ Fitting wf test want least none room spare = ⊥
 
 -- of a value, of the entries of a context, of items, of a definition
 abbrev pub FitVal : Bool → Option Val → ℕ → ℕ → Type 0
-FitVal least v room spare = Fitting WfV isData size-val least v room spare
+FitVal least v room spare = Fitting WfV isData sizeVal least v room spare
 
 abbrev pub FitEntries : Bool → Option Entries → ℕ → ℕ → Type 0
-FitEntries least es room spare = Fitting (λ es. WfEntries es 0) (hold-data fixed) size-entries least es room spare
+FitEntries least es room spare = Fitting (λ es. WfEntries es 0) (holdData fixed) sizeEntries least es room spare
 
 -- items want one byte more than they have: Null stands for none
 abbrev pub FitItems : Bool → Option Vals → ℕ → ℕ → Type 0
-FitItems least vs room spare = Fitting WfVals (are-data fixed) (λ vs. size-vals vs + 1) least vs room spare
+FitItems least vs room spare = Fitting WfVals (areData fixed) (λ vs. sizeVals vs + 1) least vs room spare
 
 -- a function type behind its count is never longer than the definition
 unfoldable pub FitDefinition : Option Definition → ℕ → Type 0
-FitDefinition (some d) room = size-definition d ≤ room
+FitDefinition (some d) room = sizeDefinition d ≤ room
 FitDefinition none room = ⊥
 
 -- ---- what they leave
@@ -121,7 +121,7 @@ abbrev pub innerText : Bool → Bool → Vals → List ℕ
 innerText least equal vs = enc (inner least equal vs)
 
 abbrev pub signatureText : Definition → List ℕ
-signatureText (definition r ps) = encTys (types-of ps) ++ enc r
+signatureText (definition r ps) = encTys (typesOf ps) ++ enc r
 
 -- ---- two types, n bytes and m bytes behind them, joined at the front of the output
 pub record Side (t u : Ty) (s : List ℕ) (n m spare : ℕ) : Type 0 where

@@ -1,4 +1,4 @@
--- trim takes the blanks at both ends and nothing else; Name::new is its trimmed parts one behind the other. By induction on the bytes, and on the parts.
+-- trim takes the blanks at both ends and nothing else (`trimming`); Name::new is its trimmed parts one behind the other (`joining`). By induction on the bytes, and on the parts.
 -- Assumes nothing.
 use Prim.Native.Nat.{ℕ, suc, _-_}
 use native.Mathlib.Omega.{arith}
@@ -8,9 +8,9 @@ use mathlib.Core.List.{List, [], _∷_, _++_, append-assoc}
 use lib.ListN.{length, getD, length-append}
 use Rattle.order.proofs.Simple.{and-left, and-right}
 use Rattle.names.specs.Names.{blank, trimStart, keep, trimEnd, trim, isMark, space, added, pushed, nameNew}
-use Rattle.names.specs.Tables.{first, last}
+use Rattle.names.specs.Reader.{first, last}
 use Rattle.names.specs.Laws.{blanks, Around, Trimming, between, Joining}
-use Rattle.names.proofs.Trimming.{start-more, start-kept, behind-first}
+use Rattle.names.proofs.TrimLoops.{start-more, start-kept, behind-first}
 
 -- ---- blanks
 module _ (b : ℕ) (s : List ℕ) where

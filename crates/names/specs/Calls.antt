@@ -7,21 +7,12 @@ use lib.ListN.{length}
 use lib.Dec.{leb}
 use Rattle.form.specs.Limits.{mostBytes}
 use Rattle.form.specs.Outcome.{Outcome, _>>=_, _>>_, check, orRefuse, fits}
-use Rattle.form.specs.Read.{readType}
-use Rattle.retrieval.specs.Retrieve.{mapped}
-use Rattle.names.specs.Texts.{command, fromStr, text}
+use Rattle.names.specs.BuiltInNames.{command, fromStr}
 use Rattle.names.specs.Names.{trim, nameNew}
-use Rattle.names.specs.Tables.{readTable, readParts}
+use Rattle.names.specs.Parts.{readParts}
 use Rattle.names.specs.declared.Known.{Known}
 use Rattle.names.specs.declared.Known.the-variants as known-is
-
--- Display of FeelType: self, then the table; 20: name number not in the table
-unfoldable pub displayCall : List ℕ → List ℕ → ℕ → Outcome (List ℕ)
-displayCall t table room = do
-  u ← readType t
-  texts ← orRefuse 19 (readTable table)
-  s ← orRefuse 20 (text texts u)
-  fits room s
+use Rattle.form.specs.Options.{map}
 
 -- Name::new
 unfoldable pub nameNewCall : List ℕ → ℕ → Outcome (List ℕ)
@@ -37,7 +28,7 @@ trimCall s room = do
 
 -- FeelType::from_str: the command of the type; none is unknown
 abbrev pub fromStrCall : List ℕ → Option ℕ
-fromStrCall s = mapped command (fromStr s)
+fromStrCall s = map command (fromStr s)
 
 -- the answer of that call
 abbrev pub known : Known → Option ℕ

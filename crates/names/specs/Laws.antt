@@ -6,7 +6,7 @@ use mathlib.Core.Bool.{Bool, true, false, not, _&&_}
 use mathlib.Core.List.{List, [], _∷_, _++_}
 use lib.ListN.{length}
 use Rattle.names.specs.Names.{blank, trim, frontBlanks, isMark, isEmpty, space, nameNew}
-use Rattle.names.specs.Tables.{first, last}
+use Rattle.names.specs.Reader.{first, last}
 
 -- ---- trim
 -- blanks only

@@ -1,6 +1,6 @@
-pub mod Texts
+pub mod BuiltInNames
+pub mod Reader
+pub mod Parts
 pub mod Names
-pub mod Tables
 pub mod Laws
 pub mod Calls
-pub mod Writing

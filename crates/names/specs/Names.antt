@@ -2,12 +2,14 @@
 -- Assumes nothing.
 use Prim.Native.Nat.{ℕ, suc, _-_}
 use mathlib.Core.Path.{_≡_}
+use mathlib.Core.Option.{Option, none, some}
 use mathlib.Core.Bool.{Bool, true, false, cond, not, _&&_, _||_}
 use mathlib.Core.List.{List, [], _∷_, _++_}
 use lib.ListN.{length}
 use lib.Dec.{leb, ltb, eqb}
 use denote.Ref.{RefT, now}
 use Rattle.form.specs.Parts.{LiesAt}
+use Rattle.output.specs.Output.{fill}
 
 -- ---- trim
 -- 09 to 0D and 20
@@ -72,3 +74,8 @@ pushed index prev result (p ∷ ps) = pushed (suc index) (isMark (trim p)) (resu
 -- `Name::new`
 abbrev pub nameNew : List (List ℕ) → List ℕ
 nameNew parts = pushed 0 false [] parts
+
+-- what a writer of a name leaves: its length, and as much of it as has room
+unfoldable pub Writes : Option (List ℕ) → List ℕ → List ℕ → ℕ → Type 0
+Writes (some bs) old new n = (n ≡ length bs) × (new ≡ fill bs old)
+Writes none old new n = Unit {0}

@@ -1,12 +1,14 @@
 -- Document 01's sentences that hold by computing alone, over every order among the simple types. The file rests on the definitions only and is checked first: a
 -- definition that breaks one of these sentences is refused here.
+-- Index: `le-simple-built`, `le-built-simple`, `le-lists`, `le-ranges`, `le-functions-down` (conformance); `sup-simple`, `sup-simple-built`, `sup-lists`, `sup-contexts`,
+-- `sup-functions` and their `sub-` partners (supertype and subtype); `least-lists` (least type).
 -- Assumes nothing.
 use mathlib.Core.Path.{_≡_, refl, sym, _∙_, ap}
 use mathlib.Core.Bool.{Bool, true, false, not, cond, _&&_, _||_}
 use Rattle.form.specs.Trees.{Simple, any, null, Ty, leaf, built, Built, list, range, context, function, Fields, no-fields, Tys, no-params, param, v-list, Vals, no-items, item}
 use Rattle.order.specs.Order.{up, down, Order}
-use Rattle.order.specs.Types.{same-count, ignores, empty, cmp, cmps, le, reduce, reduce-fields, bound, bounds, sup, sub, sup-fields, sub-fields, sup-tys, sub-tys}
-use Rattle.order.specs.Values.{least, least-items}
+use Rattle.order.specs.Types.{sameCount, ignores, empty, cmp, cmps, le, reduce, reduceFields, bound, bounds, sup, sub, supFields, subFields, supTys, subTys}
+use Rattle.order.specs.Values.{least, leastItems}
 use Rattle.order.specs.Sentences.{fromLeft}
 
 module _ (O : Order) where
@@ -91,63 +93,63 @@ module _ (O : Order) where
   unfolding bound reduce
   sub-ranges a b = refl
 
-  pub sup-contexts : (fs gs : Fields) → sup O (built (context fs)) (built (context gs)) ≡ built (context (sup-fields O fs gs))
+  pub sup-contexts : (fs gs : Fields) → sup O (built (context fs)) (built (context gs)) ≡ built (context (supFields O fs gs))
   unfolding bound reduce
   sup-contexts fs gs = refl
 
-  pub sub-contexts : (fs gs : Fields) → sub O (built (context fs)) (built (context gs)) ≡ built (context (sub-fields O fs gs))
+  pub sub-contexts : (fs gs : Fields) → sub O (built (context fs)) (built (context gs)) ≡ built (context (subFields O fs gs))
   unfolding bound reduce
   sub-contexts fs gs = refl
 
-  empty-up : (ps qs : Tys) → same-count ps qs ≡ true → empty (bounds O up ps qs) ≡ empty ps
-  unfolding bound same-count
+  empty-up : (ps qs : Tys) → sameCount ps qs ≡ true → empty (bounds O up ps qs) ≡ empty ps
+  unfolding bound sameCount
   empty-up no-params no-params h = refl
   empty-up no-params (param b qs) h = refl
   empty-up (param a ps) no-params h = sym h
   empty-up (param a ps) (param b qs) h = refl
 
-  empty-down : (ps qs : Tys) → same-count ps qs ≡ true → empty (bounds O down ps qs) ≡ empty ps
-  unfolding bound same-count
+  empty-down : (ps qs : Tys) → sameCount ps qs ≡ true → empty (bounds O down ps qs) ≡ empty ps
+  unfolding bound sameCount
   empty-down no-params no-params h = refl
   empty-down no-params (param b qs) h = refl
   empty-down (param a ps) no-params h = sym h
   empty-down (param a ps) (param b qs) h = refl
 
   -- functions of equal count: subtypes of parameters, supertype of results; of count 0, to Any
-  pub sup-functions : (ps qs : Tys) (r s : Ty) → same-count ps qs ≡ true
-      → sup O (built (function ps r)) (built (function qs s)) ≡ built (function (sub-tys O ps qs) (cond (ignores O ps) (leaf any) (sup O r s)))
+  pub sup-functions : (ps qs : Tys) (r s : Ty) → sameCount ps qs ≡ true
+      → sup O (built (function ps r)) (built (function qs s)) ≡ built (function (subTys O ps qs) (cond (ignores O ps) (leaf any) (sup O r s)))
   unfolding bound reduce
   sup-functions ps qs r s h =
       ap (λ q. reduce O (cond q (built (function (bounds O down ps qs) (bound O up r s))) (leaf any))) h
-      ∙ ap (λ e. built (function (sub-tys O ps qs) (cond (not (O .strict) && e) (leaf any) (sup O r s)))) (empty-down ps qs h)
+      ∙ ap (λ e. built (function (subTys O ps qs) (cond (not (O .strict) && e) (leaf any) (sup O r s)))) (empty-down ps qs h)
 
-  pub sub-functions : (ps qs : Tys) (r s : Ty) → same-count ps qs ≡ true
-      → sub O (built (function ps r)) (built (function qs s)) ≡ built (function (sup-tys O ps qs) (cond (ignores O ps) (leaf any) (sub O r s)))
+  pub sub-functions : (ps qs : Tys) (r s : Ty) → sameCount ps qs ≡ true
+      → sub O (built (function ps r)) (built (function qs s)) ≡ built (function (supTys O ps qs) (cond (ignores O ps) (leaf any) (sub O r s)))
   unfolding bound reduce
   sub-functions ps qs r s h =
       ap (λ q. reduce O (cond q (built (function (bounds O up ps qs) (bound O down r s))) (leaf null))) h
-      ∙ ap (λ e. built (function (sup-tys O ps qs) (cond (not (O .strict) && e) (leaf any) (sub O r s)))) (empty-up ps qs h)
+      ∙ ap (λ e. built (function (supTys O ps qs) (cond (not (O .strict) && e) (leaf any) (sub O r s)))) (empty-up ps qs h)
 
-  pub sup-functions-other : (ps qs : Tys) (r s : Ty) → same-count ps qs ≡ false → sup O (built (function ps r)) (built (function qs s)) ≡ leaf any
+  pub sup-functions-other : (ps qs : Tys) (r s : Ty) → sameCount ps qs ≡ false → sup O (built (function ps r)) (built (function qs s)) ≡ leaf any
   unfolding bound reduce
   sup-functions-other ps qs r s h = ap (λ q. reduce O (cond q (built (function (bounds O down ps qs) (bound O up r s))) (leaf any))) h
 
-  pub sub-functions-other : (ps qs : Tys) (r s : Ty) → same-count ps qs ≡ false → sub O (built (function ps r)) (built (function qs s)) ≡ leaf null
+  pub sub-functions-other : (ps qs : Tys) (r s : Ty) → sameCount ps qs ≡ false → sub O (built (function ps r)) (built (function qs s)) ≡ leaf null
   unfolding bound reduce
   sub-functions-other ps qs r s h = ap (λ q. reduce O (cond q (built (function (bounds O up ps qs) (bound O down r s))) (leaf null))) h
 
   -- a first context without names: no common name, and all names are the second's
-  pub sup-fields-none : (gs : Fields) → sup-fields O no-fields gs ≡ no-fields
+  pub sup-fields-none : (gs : Fields) → supFields O no-fields gs ≡ no-fields
   unfolding bound reduce
   sup-fields-none gs = refl
 
-  pub sub-fields-none : (gs : Fields) → sub-fields O no-fields gs ≡ reduce-fields O gs
+  pub sub-fields-none : (gs : Fields) → subFields O no-fields gs ≡ reduceFields O gs
   unfolding bound
   sub-fields-none gs = refl
 
   -- LEAST TYPE
   -- List: List of the supertype of all items' least types, starting from Null
-  items-from-left : (vs : Vals) (t : Ty) → least-items O vs t ≡ fromLeft (λ u v. sup O u (least O v)) t vs
+  items-from-left : (vs : Vals) (t : Ty) → leastItems O vs t ≡ fromLeft (λ u v. sup O u (least O v)) t vs
   unfolding least fromLeft
   items-from-left no-items t = refl
   items-from-left (item v vs) t = items-from-left vs (sup O t (least O v))

@@ -1,4 +1,6 @@
 -- Plain facts about tests.
+-- Index: `and-assoc`, `and-comm`, `and-swap`, `and-mix`, `and-implied`, `not-both` (and); `or-trans`, `or-cases` (or); `function-tests` (two function types);
+-- `found-ext`, `found-and`, `found-some`, `found-none` (a name that is found or not).
 -- Assumes nothing.
 use mathlib.Core.Path.{_≡_, refl, sym, ap}
 use mathlib.Core.Bool.{Bool, true, false, cond, _&&_, _||_}

@@ -1,4 +1,7 @@
 -- Conformance is reflexive and transitive, reads the same from both sides, and does not see what the reduced form changes.
+-- Idea: inductions on the types, over a direction; the parameters of functions compare in the other direction.
+-- Index: `cmp-refl`, `cmps-refl`, `cmp-trans`, `antisym` (an order up to the reduced form); `cmp-flip`, `flip-tys` (both sides); `cmp-reduce`, `reduce-reduce`, `reduce-strict`
+-- (the reduced form); `look-below`, `has-skip`, `within-skip`, `has-look` (names); `all-ext`, `all-imply`.
 -- Assumes nothing.
 use Prim.Native.Nat.{ℕ, suc, _≤_, _<_}
 use native.Mathlib.Omega.{arith}
@@ -11,12 +14,12 @@ use Rattle.form.specs.Trees.{Simple, any, null}
 use Rattle.order.specs.Order.{Dir, up, down, flip, pick, Order, Laws, top, bottom, scmp}
 use Rattle.order.proofs.Simple.{and-left, and-right, and-both, scmp-refl, top-bottom}
 use Rattle.form.specs.Trees.{Ty, leaf, built, Built, list, range, context, function, Fields, no-fields, field, Tys, no-params, param}
-use Rattle.order.specs.Types.{look, found, all-fields, empty, ignores, cmp, cmp-built, has, within, cmps, reduce, reduce-built, reduce-fields, reduce-tys}
+use Rattle.order.specs.Types.{lookup, found, allFields, empty, ignores, cmp, cmpBuilt, has, within, cmps, reduce, reduceBuilt, reduceFields, reduceTys}
 use Rattle.order.specs.Ascending.{Asc, AscBuilt, AscFields, AscTys}
 use Rattle.order.proofs.Bools.{or-trans, found-cond, found-ext, cond-up}
 
-pub all-ext : (f g : ℕ → Ty → Bool) (gs : Fields) → ((n : ℕ) (t : Ty) → f n t ≡ g n t) → all-fields f gs ≡ all-fields g gs
-unfolding all-fields
+pub all-ext : (f g : ℕ → Ty → Bool) (gs : Fields) → ((n : ℕ) (t : Ty) → f n t ≡ g n t) → allFields f gs ≡ allFields g gs
+unfolding allFields
 all-ext f g no-fields h = refl
 all-ext f g (field n t gs) h = ap₂ _&&_ (h n t) (all-ext f g gs h)
 
@@ -24,11 +27,11 @@ lt-of : (n m : ℕ) → m ≤ n → (n ≡ m → ⊥) → m < n
 lt-of n m h k = omega arith
 
 module _ (O : Order) where
-  pub has-look : (fs : Fields) (n : ℕ) (t : Ty) → has O fs n t ≡ found (look n fs) (λ a. cmp O up a t)
-  unfolding cmp look
+  pub has-look : (fs : Fields) (n : ℕ) (t : Ty) → has O fs n t ≡ found (lookup n fs) (λ a. cmp O up a t)
+  unfolding cmp lookup
   has-look no-fields n t = refl
   has-look (field m a fs) n t =
-      ap (cond (eqb n m) (cmp O up a t)) (has-look fs n t) ∙ sym (found-cond (eqb n m) a (look n fs) (λ x. cmp O up x t))
+      ap (cond (eqb n m) (cmp O up a t)) (has-look fs n t) ∙ sym (found-cond (eqb n m) a (lookup n fs) (λ x. cmp O up x t))
 
   -- READ FROM BOTH SIDES
   scmp-flip : (d : Dir) (s t : Simple) → scmp O (flip d) s t ≡ scmp O d t s
@@ -51,21 +54,21 @@ module _ (O : Order) where
   flip-function e e′ (param a ps) no-params x y h k = refl
   flip-function e e′ (param a ps) (param b qs) x y h k = ap₂ (λ u z. u && (ignores O (param a ps) || z)) h k
 
-  flip-context : (d : Dir) (fs gs : Fields) → within O fs gs ≡ all-fields (λ n t. has O gs n t) fs
-      → all-fields (λ n t. has O fs n t) gs ≡ within O gs fs
-      → pick (flip d) (all-fields (λ n t. has O fs n t) gs) (within O fs gs)
-      ≡ pick d (all-fields (λ n t. has O gs n t) fs) (within O gs fs)
+  flip-context : (d : Dir) (fs gs : Fields) → within O fs gs ≡ allFields (λ n t. has O gs n t) fs
+      → allFields (λ n t. has O fs n t) gs ≡ within O gs fs
+      → pick (flip d) (allFields (λ n t. has O fs n t) gs) (within O fs gs)
+      ≡ pick d (allFields (λ n t. has O gs n t) fs) (within O gs fs)
   flip-context up fs gs h k = h
   flip-context down fs gs h k = k
 
-  all-within : (fs gs : Fields) → ((n : ℕ) (t : Ty) → has O fs n t ≡ found (look n fs) (λ a. cmp O down t a))
-      → all-fields (λ n t. has O fs n t) gs ≡ within O gs fs
-  unfolding all-fields cmp
+  all-within : (fs gs : Fields) → ((n : ℕ) (t : Ty) → has O fs n t ≡ found (lookup n fs) (λ a. cmp O down t a))
+      → allFields (λ n t. has O fs n t) gs ≡ within O gs fs
+  unfolding allFields cmp
   all-within fs no-fields h = refl
   all-within fs (field n t gs) h = ap₂ _&&_ (h n t) (all-within fs gs h)
 
   mutual
-    unfolding cmp all-fields look
+    unfolding cmp allFields lookup
 
     pub cmp-flip : (d : Dir) (a b : Ty) → cmp O (flip d) a b ≡ cmp O d b a
     cmp-flip d (leaf s) (leaf t) = scmp-flip d s t
@@ -73,7 +76,7 @@ module _ (O : Order) where
     cmp-flip d (built x) (leaf t) = scmp-flip-top d t
     cmp-flip d (built x) (built y) = flip-built d x y
 
-    flip-built : (d : Dir) (x y : Built) → cmp-built O (flip d) x y ≡ cmp-built O d y x
+    flip-built : (d : Dir) (x y : Built) → cmpBuilt O (flip d) x y ≡ cmpBuilt O d y x
     flip-built d (list a) (list b) = cmp-flip d a b
     flip-built d (list a) (range b) = refl
     flip-built d (list a) (context gs) = refl
@@ -93,18 +96,18 @@ module _ (O : Order) where
     flip-built d (function ps r) (function qs s) =
         flip-function (flip (flip d)) (flip d) ps qs (cmp O (flip d) r s) (cmp O d s r) (flip-tys (flip d) ps qs) (cmp-flip d r s)
 
-    flip-within : (fs gs : Fields) → within O fs gs ≡ all-fields (λ n t. has O gs n t) fs
+    flip-within : (fs gs : Fields) → within O fs gs ≡ allFields (λ n t. has O gs n t) fs
     flip-within no-fields gs = refl
     flip-within (field n a fs) gs =
         ap₂ _&&_
-        (found-ext (look n gs) (λ b. cmp O down a b) (λ b. cmp O up b a) (λ b. cmp-flip up a b) ∙ sym (has-look gs n a))
+        (found-ext (lookup n gs) (λ b. cmp O down a b) (λ b. cmp O up b a) (λ b. cmp-flip up a b) ∙ sym (has-look gs n a))
         (flip-within fs gs)
 
-    flip-has : (fs : Fields) (n : ℕ) (t : Ty) → has O fs n t ≡ found (look n fs) (λ a. cmp O down t a)
+    flip-has : (fs : Fields) (n : ℕ) (t : Ty) → has O fs n t ≡ found (lookup n fs) (λ a. cmp O down t a)
     flip-has no-fields n t = refl
     flip-has (field m a fs) n t =
         ap₂ (cond (eqb n m)) (cmp-flip down a t) (flip-has fs n t)
-        ∙ sym (found-cond (eqb n m) a (look n fs) (λ x. cmp O down t x))
+        ∙ sym (found-cond (eqb n m) a (lookup n fs) (λ x. cmp O down t x))
 
     pub flip-tys : (d : Dir) (ps qs : Tys) → cmps O (flip d) ps qs ≡ cmps O d qs ps
     flip-tys d no-params no-params = refl
@@ -113,7 +116,7 @@ module _ (O : Order) where
     flip-tys d (param a ps) (param b qs) = ap₂ _&&_ (cmp-flip d a b) (flip-tys d ps qs)
 
   -- THE REDUCED FORM IS NOT SEEN
-  ignores-reduce : (ps : Tys) → ignores O (reduce-tys O ps) ≡ ignores O ps
+  ignores-reduce : (ps : Tys) → ignores O (reduceTys O ps) ≡ ignores O ps
   unfolding reduce
   ignores-reduce no-params = refl
   ignores-reduce (param a ps) = refl
@@ -123,7 +126,7 @@ module _ (O : Order) where
   result-reduce d false r r′ s h = h
 
   reduce-context : (d : Dir) (fs fs′ gs : Fields) → ((n : ℕ) (t : Ty) → has O fs′ n t ≡ has O fs n t) → within O fs′ gs ≡ within O fs gs
-      → pick d (all-fields (λ n t. has O fs′ n t) gs) (within O fs′ gs) ≡ pick d (all-fields (λ n t. has O fs n t) gs) (within O fs gs)
+      → pick d (allFields (λ n t. has O fs′ n t) gs) (within O fs′ gs) ≡ pick d (allFields (λ n t. has O fs n t) gs) (within O fs gs)
   reduce-context up fs fs′ gs h k = all-ext (λ n t. has O fs′ n t) (λ n t. has O fs n t) gs h
   reduce-context down fs fs′ gs h k = k
 
@@ -135,7 +138,7 @@ module _ (O : Order) where
     cmp-reduce d (built x) (leaf t) = refl
     cmp-reduce d (built x) (built z) = cmp-reduce-built d x z
 
-    cmp-reduce-built : (d : Dir) (x z : Built) → cmp-built O d (reduce-built O x) z ≡ cmp-built O d x z
+    cmp-reduce-built : (d : Dir) (x z : Built) → cmpBuilt O d (reduceBuilt O x) z ≡ cmpBuilt O d x z
     cmp-reduce-built d (list a) (list c) = cmp-reduce d a c
     cmp-reduce-built d (list a) (range c) = refl
     cmp-reduce-built d (list a) (context hs) = refl
@@ -147,7 +150,7 @@ module _ (O : Order) where
     cmp-reduce-built d (context fs) (list c) = refl
     cmp-reduce-built d (context fs) (range c) = refl
     cmp-reduce-built d (context fs) (context hs) =
-        reduce-context d fs (reduce-fields O fs) hs (λ n t. has-reduce fs n t) (within-reduce fs hs)
+        reduce-context d fs (reduceFields O fs) hs (λ n t. has-reduce fs n t) (within-reduce fs hs)
     cmp-reduce-built d (context fs) (function cs u) = refl
     cmp-reduce-built d (function ps r) (list c) = refl
     cmp-reduce-built d (function ps r) (range c) = refl
@@ -157,16 +160,16 @@ module _ (O : Order) where
         (ap (λ i. i || cmp O d (cond (ignores O ps) (leaf any) (reduce O r)) u) (ignores-reduce ps)
         ∙ result-reduce d (ignores O ps) r (reduce O r) u (cmp-reduce d r u))
 
-    has-reduce : (fs : Fields) (n : ℕ) (t : Ty) → has O (reduce-fields O fs) n t ≡ has O fs n t
+    has-reduce : (fs : Fields) (n : ℕ) (t : Ty) → has O (reduceFields O fs) n t ≡ has O fs n t
     has-reduce no-fields n t = refl
     has-reduce (field m a fs) n t = ap₂ (cond (eqb n m)) (cmp-reduce up a t) (has-reduce fs n t)
 
-    within-reduce : (fs gs : Fields) → within O (reduce-fields O fs) gs ≡ within O fs gs
+    within-reduce : (fs gs : Fields) → within O (reduceFields O fs) gs ≡ within O fs gs
     within-reduce no-fields gs = refl
     within-reduce (field n a fs) gs =
-        ap₂ _&&_ (found-ext (look n gs) (λ b. cmp O down (reduce O a) b) (λ b. cmp O down a b) (λ b. cmp-reduce down a b)) (within-reduce fs gs)
+        ap₂ _&&_ (found-ext (lookup n gs) (λ b. cmp O down (reduce O a) b) (λ b. cmp O down a b) (λ b. cmp-reduce down a b)) (within-reduce fs gs)
 
-    cmps-reduce : (d : Dir) (ps qs : Tys) → cmps O d (reduce-tys O ps) qs ≡ cmps O d ps qs
+    cmps-reduce : (d : Dir) (ps qs : Tys) → cmps O d (reduceTys O ps) qs ≡ cmps O d ps qs
     cmps-reduce d no-params qs = refl
     cmps-reduce d (param a ps) no-params = refl
     cmps-reduce d (param a ps) (param b qs) = ap₂ _&&_ (cmp-reduce d a b) (cmps-reduce d ps qs)
@@ -185,18 +188,18 @@ module _ (O : Order) where
     reduce-reduce (leaf s) = refl
     reduce-reduce (built x) = ap built (reduce-reduce-built x)
 
-    reduce-reduce-built : (x : Built) → reduce-built O (reduce-built O x) ≡ reduce-built O x
+    reduce-reduce-built : (x : Built) → reduceBuilt O (reduceBuilt O x) ≡ reduceBuilt O x
     reduce-reduce-built (list a) = ap list (reduce-reduce a)
     reduce-reduce-built (range a) = ap range (reduce-reduce a)
     reduce-reduce-built (context fs) = ap context (reduce-reduce-fields fs)
     reduce-reduce-built (function ps r) =
-        ap₂ function (reduce-reduce-tys ps) (reduce-result (ignores O ps) (ignores O (reduce-tys O ps)) r (ignores-reduce ps) (reduce-reduce r))
+        ap₂ function (reduce-reduce-tys ps) (reduce-result (ignores O ps) (ignores O (reduceTys O ps)) r (ignores-reduce ps) (reduce-reduce r))
 
-    reduce-reduce-fields : (fs : Fields) → reduce-fields O (reduce-fields O fs) ≡ reduce-fields O fs
+    reduce-reduce-fields : (fs : Fields) → reduceFields O (reduceFields O fs) ≡ reduceFields O fs
     reduce-reduce-fields no-fields = refl
     reduce-reduce-fields (field n a fs) = ap₂ (field n) (reduce-reduce a) (reduce-reduce-fields fs)
 
-    reduce-reduce-tys : (ps : Tys) → reduce-tys O (reduce-tys O ps) ≡ reduce-tys O ps
+    reduce-reduce-tys : (ps : Tys) → reduceTys O (reduceTys O ps) ≡ reduceTys O ps
     reduce-reduce-tys no-params = refl
     reduce-reduce-tys (param a ps) = ap₂ param (reduce-reduce a) (reduce-reduce-tys ps)
 
@@ -211,50 +214,50 @@ module _ (O : Order) where
     reduce-strict (leaf s) e = refl
     reduce-strict (built x) e = ap built (reduce-strict-built x e)
 
-    reduce-strict-built : (x : Built) → O .strict ≡ true → reduce-built O x ≡ x
+    reduce-strict-built : (x : Built) → O .strict ≡ true → reduceBuilt O x ≡ x
     reduce-strict-built (list a) e = ap list (reduce-strict a e)
     reduce-strict-built (range a) e = ap range (reduce-strict a e)
     reduce-strict-built (context fs) e = ap context (reduce-strict-fields fs e)
     reduce-strict-built (function ps r) e =
         ap₂ function (reduce-strict-tys ps e) (ap (λ i. cond i (leaf any) (reduce O r)) (not-ignored ps e) ∙ reduce-strict r e)
 
-    reduce-strict-fields : (fs : Fields) → O .strict ≡ true → reduce-fields O fs ≡ fs
+    reduce-strict-fields : (fs : Fields) → O .strict ≡ true → reduceFields O fs ≡ fs
     reduce-strict-fields no-fields e = refl
     reduce-strict-fields (field n a fs) e = ap₂ (field n) (reduce-strict a e) (reduce-strict-fields fs e)
 
-    reduce-strict-tys : (ps : Tys) → O .strict ≡ true → reduce-tys O ps ≡ ps
+    reduce-strict-tys : (ps : Tys) → O .strict ≡ true → reduceTys O ps ≡ ps
     reduce-strict-tys no-params e = refl
     reduce-strict-tys (param a ps) e = ap₂ param (reduce-strict a e) (reduce-strict-tys ps e)
 
   -- NAMES BELOW A CONTEXT'S FIRST
-  pub look-below : (fs : Fields) (k n : ℕ) → AscFields fs k → n < k → look n fs ≡ none
-  unfolding look Asc
+  pub look-below : (fs : Fields) (k n : ℕ) → AscFields fs k → n < k → lookup n fs ≡ none
+  unfolding lookup Asc
   look-below no-fields k n w h = refl
   look-below (field m t fs) k n w h =
       let ne : eqb n m ≡ false = ne-eqb n m (λ e. omega (arith, w .0)) in
-      ap (λ q. cond q (some t) (look n fs)) ne ∙ look-below fs (suc m) n (w .2) (omega (arith, w .0))
+      ap (λ q. cond q (some t) (lookup n fs)) ne ∙ look-below fs (suc m) n (w .2) (omega (arith, w .0))
 
   -- a name smaller than all that are asked for does not matter
   pub has-skip : (gs : Fields) (k n : ℕ) (a : Ty) (fs : Fields) → AscFields gs k → n < k
-      → all-fields (λ m t. has O (field n a fs) m t) gs ≡ all-fields (λ m t. has O fs m t) gs
-  unfolding cmp all-fields Asc
+      → allFields (λ m t. has O (field n a fs) m t) gs ≡ allFields (λ m t. has O fs m t) gs
+  unfolding cmp allFields Asc
   has-skip no-fields k n a fs w h = refl
   has-skip (field m t gs) k n a fs w h =
       let ne : eqb m n ≡ false = ne-eqb m n (λ e. omega (arith, w .0)) in
       ap₂ _&&_ (ap (λ q. cond q (cmp O up a t) (has O fs m t)) ne) (has-skip gs (suc m) n a fs (w .2) (omega (arith, w .0)))
 
   pub within-skip : (fs : Fields) (k n : ℕ) (b : Ty) (gs : Fields) → AscFields fs k → n < k → within O fs (field n b gs) ≡ within O fs gs
-  unfolding cmp look Asc
+  unfolding cmp lookup Asc
   within-skip no-fields k n b gs w h = refl
   within-skip (field m t fs) k n b gs w h =
       let ne : eqb m n ≡ false = ne-eqb m n (λ e. omega (arith, w .0)) in
-      ap₂ _&&_ (ap (λ q. found (cond q (some b) (look m gs)) (λ x. cmp O down t x)) ne)
+      ap₂ _&&_ (ap (λ q. found (cond q (some b) (lookup m gs)) (λ x. cmp O down t x)) ne)
       (within-skip fs (suc m) n b gs (w .2) (omega (arith, w .0)))
 
 module _ (O : Order) (L : Laws O) where
   -- REFLEXIVE
-  refl-context : (d : Dir) (fs : Fields) → all-fields (λ n t. has O fs n t) fs ≡ true
-      → pick d (all-fields (λ n t. has O fs n t) fs) (within O fs fs) ≡ true
+  refl-context : (d : Dir) (fs : Fields) → allFields (λ n t. has O fs n t) fs ≡ true
+      → pick d (allFields (λ n t. has O fs n t) fs) (within O fs fs) ≡ true
   refl-context up fs h = h
   refl-context down fs h = sym (all-within O fs fs (λ n t. flip-has O fs n t)) ∙ h
 
@@ -263,13 +266,13 @@ module _ (O : Order) (L : Laws O) where
   refl-result false x h = h
 
   mutual
-    unfolding cmp all-fields Asc
+    unfolding cmp allFields Asc
 
     pub cmp-refl : (d : Dir) (a : Ty) → Asc a → cmp O d a a ≡ true
     cmp-refl d (leaf s) w = scmp-refl O L d s
     cmp-refl d (built x) w = cmp-refl-built d x w
 
-    cmp-refl-built : (d : Dir) (x : Built) → AscBuilt x → cmp-built O d x x ≡ true
+    cmp-refl-built : (d : Dir) (x : Built) → AscBuilt x → cmpBuilt O d x x ≡ true
     cmp-refl-built d (list a) w = cmp-refl d a w
     cmp-refl-built d (range a) w = cmp-refl d a w
     cmp-refl-built d (context fs) w = refl-context d fs (has-refl fs 0 w)
@@ -277,10 +280,10 @@ module _ (O : Order) (L : Laws O) where
         and-both (cmps O (flip d) ps ps) (ignores O ps || cmp O d r r) (cmps-refl (flip d) ps (w .0))
         (refl-result (ignores O ps) (cmp O d r r) (cmp-refl d r (w .1)))
 
-    has-refl : (fs : Fields) (k : ℕ) → AscFields fs k → all-fields (λ n t. has O fs n t) fs ≡ true
+    has-refl : (fs : Fields) (k : ℕ) → AscFields fs k → allFields (λ n t. has O fs n t) fs ≡ true
     has-refl no-fields k w = refl
     has-refl (field n a fs) k w =
-        and-both (has O (field n a fs) n a) (all-fields (λ m t. has O (field n a fs) m t) fs)
+        and-both (has O (field n a fs) n a) (allFields (λ m t. has O (field n a fs) m t) fs)
         (ap (λ q. cond q (cmp O up a a) (has O fs n a)) (eq-eqb n n refl) ∙ cmp-refl up a (w .1))
         (has-skip O fs (suc n) n a fs (w .2) (omega arith) ∙ has-refl fs (suc n) (w .2))
 
@@ -303,12 +306,12 @@ module _ (O : Order) (L : Laws O) where
   has-up (field m a fs) n t u h e =
       cond-up (eqb n m) (cmp O up a t) (cmp O up a u) (has O fs n t) (has O fs n u) (h a) (λ p. has-up fs n t u h p) e
 
-  pub all-imply : (f g : ℕ → Ty → Bool) (hs : Fields) → ((n : ℕ) (t : Ty) → f n t ≡ true → g n t ≡ true) → all-fields f hs ≡ true → all-fields g hs ≡ true
-  unfolding all-fields
+  pub all-imply : (f g : ℕ → Ty → Bool) (hs : Fields) → ((n : ℕ) (t : Ty) → f n t ≡ true → g n t ≡ true) → allFields f hs ≡ true → allFields g hs ≡ true
+  unfolding allFields
   all-imply f g no-fields h e = refl
   all-imply f g (field n t hs) h e =
-      and-both (g n t) (all-fields g hs) (h n t (and-left (f n t) (all-fields f hs) e))
-      (all-imply f g hs h (and-right (f n t) (all-fields f hs) e))
+      and-both (g n t) (allFields g hs) (h n t (and-left (f n t) (allFields f hs) e))
+      (all-imply f g hs h (and-right (f n t) (allFields f hs) e))
 
   trans-function : (ps qs cs : Tys) (x y z : Bool) → (cmps O down ps qs ≡ true → cmps O down qs cs ≡ true → cmps O down ps cs ≡ true)
       → (x ≡ true → y ≡ true → z ≡ true)
@@ -330,21 +333,21 @@ module _ (O : Order) (L : Laws O) where
   trans-entry fs gs m n b t h k rest false e p = rest p
 
   mutual
-    unfolding cmp all-fields
+    unfolding cmp allFields
 
-    pub le-trans : (b a c : Ty) → cmp O up a b ≡ true → cmp O up b c ≡ true → cmp O up a c ≡ true
-    le-trans (leaf t) (leaf s) (leaf u) p q = L .transitive s t u p q
-    le-trans (leaf t) (leaf s) (built z) p q = L .transitive s t null p q
-    le-trans (leaf t) (built x) (leaf u) p q = L .transitive any t u p q
-    le-trans (leaf t) (built x) (built z) p q =
+    pub cmp-trans : (b a c : Ty) → cmp O up a b ≡ true → cmp O up b c ≡ true → cmp O up a c ≡ true
+    cmp-trans (leaf t) (leaf s) (leaf u) p q = L .transitive s t u p q
+    cmp-trans (leaf t) (leaf s) (built z) p q = L .transitive s t null p q
+    cmp-trans (leaf t) (built x) (leaf u) p q = L .transitive any t u p q
+    cmp-trans (leaf t) (built x) (built z) p q =
         absurd (true≢false (sym (L .transitive any t null p q) ∙ top-bottom O L up))
-    le-trans (built y) (leaf s) (leaf u) p q = L .transitive s null u p (L .null-least u)
-    le-trans (built y) (leaf s) (built z) p q = p
-    le-trans (built y) (built x) (leaf u) p q = q
-    le-trans (built y) (built x) (built z) p q = trans-built y x z p q
+    cmp-trans (built y) (leaf s) (leaf u) p q = L .transitive s null u p (L .null-least u)
+    cmp-trans (built y) (leaf s) (built z) p q = p
+    cmp-trans (built y) (built x) (leaf u) p q = q
+    cmp-trans (built y) (built x) (built z) p q = trans-built y x z p q
 
-    trans-built : (y x z : Built) → cmp-built O up x y ≡ true → cmp-built O up y z ≡ true → cmp-built O up x z ≡ true
-    trans-built (list b) (list a) (list c) p q = le-trans b a c p q
+    trans-built : (y x z : Built) → cmpBuilt O up x y ≡ true → cmpBuilt O up y z ≡ true → cmpBuilt O up x z ≡ true
+    trans-built (list b) (list a) (list c) p q = cmp-trans b a c p q
     trans-built (list b) (list a) (range c) p q = absurd (false≢true q)
     trans-built (list b) (list a) (context hs) p q = absurd (false≢true q)
     trans-built (list b) (list a) (function cs u) p q = absurd (false≢true q)
@@ -353,7 +356,7 @@ module _ (O : Order) (L : Laws O) where
     trans-built (list b) (function ps r) z p q = absurd (false≢true p)
     trans-built (range b) (list a) z p q = absurd (false≢true p)
     trans-built (range b) (range a) (list c) p q = absurd (false≢true q)
-    trans-built (range b) (range a) (range c) p q = le-trans b a c p q
+    trans-built (range b) (range a) (range c) p q = cmp-trans b a c p q
     trans-built (range b) (range a) (context hs) p q = absurd (false≢true q)
     trans-built (range b) (range a) (function cs u) p q = absurd (false≢true q)
     trans-built (range b) (context fs) z p q = absurd (false≢true p)
@@ -373,13 +376,13 @@ module _ (O : Order) (L : Laws O) where
     trans-built (function qs s) (function ps r) (range c) p q = absurd (false≢true q)
     trans-built (function qs s) (function ps r) (context hs) p q = absurd (false≢true q)
     trans-built (function qs s) (function ps r) (function cs u) p q =
-        trans-function ps qs cs (cmp O up r s) (cmp O up s u) (cmp O up r u) (λ h k. trans-tys qs ps cs h k) (λ h k. le-trans s r u h k) p q
+        trans-function ps qs cs (cmp O up r s) (cmp O up s u) (cmp O up r u) (λ h k. trans-tys qs ps cs h k) (λ h k. cmp-trans s r u h k) p q
 
-    trans-has : (gs fs : Fields) (n : ℕ) (t : Ty) → all-fields (λ m b. has O fs m b) gs ≡ true → has O gs n t ≡ true → has O fs n t ≡ true
+    trans-has : (gs fs : Fields) (n : ℕ) (t : Ty) → allFields (λ m b. has O fs m b) gs ≡ true → has O gs n t ≡ true → has O fs n t ≡ true
     trans-has no-fields fs n t p q = absurd (false≢true q)
     trans-has (field m b gs) fs n t p q =
-        trans-entry fs gs m n b t (λ a h k. le-trans b a t h k) (and-left (has O fs m b) (all-fields (λ i x. has O fs i x) gs) p)
-        (λ h. trans-has gs fs n t (and-right (has O fs m b) (all-fields (λ i x. has O fs i x) gs) p) h) (eqb n m) refl q
+        trans-entry fs gs m n b t (λ a h k. cmp-trans b a t h k) (and-left (has O fs m b) (allFields (λ i x. has O fs i x) gs) p)
+        (λ h. trans-has gs fs n t (and-right (has O fs m b) (allFields (λ i x. has O fs i x) gs) p) h) (eqb n m) refl q
 
     trans-tys : (qs ps cs : Tys) → cmps O down ps qs ≡ true → cmps O down qs cs ≡ true → cmps O down ps cs ≡ true
     trans-tys no-params no-params cs p q = q
@@ -389,7 +392,7 @@ module _ (O : Order) (L : Laws O) where
     trans-tys (param b qs) (param a ps) (param c cs) p q =
         and-both (cmp O down a c) (cmps O down ps cs)
         (cmp-flip O up a c
-        ∙ le-trans b c a (sym (cmp-flip O up b c) ∙ and-left (cmp O down b c) (cmps O down qs cs) q)
+        ∙ cmp-trans b c a (sym (cmp-flip O up b c) ∙ and-left (cmp O down b c) (cmps O down qs cs) q)
         (sym (cmp-flip O up a b) ∙ and-left (cmp O down a b) (cmps O down ps qs) p))
         (trans-tys qs ps cs (and-right (cmp O down a b) (cmps O down ps qs) p) (and-right (cmp O down b c) (cmps O down qs cs) q))
 
@@ -401,9 +404,9 @@ module _ (O : Order) (L : Laws O) where
 
   -- the first entries of two contexts that have each other's names
   same-entry : (n m : ℕ) (a b : Ty) (fs gs : Fields) → AscFields fs (suc n) → AscFields gs (suc m)
-      → has O (field n a fs) m b ≡ true → found (look n (field m b gs)) (λ x. cmp O down a x) ≡ true
+      → has O (field n a fs) m b ≡ true → found (lookup n (field m b gs)) (λ x. cmp O down a x) ≡ true
       → n ≡ m
-  unfolding cmp look Asc
+  unfolding cmp lookup Asc
   same-entry n m a b fs gs v w p q = step (eqb n m) refl
     where
       above : eqb n m ≡ false → m < n → n ≡ m
@@ -429,12 +432,12 @@ module _ (O : Order) (L : Laws O) where
   unfolding cmp
   same-up n m a b fs e p = sym (ap (λ q. cond q (cmp O up a b) (has O fs m b)) (eq-eqb m n (sym e))) ∙ p
 
-  same-down : (n m : ℕ) (a b : Ty) (gs : Fields) → n ≡ m → found (look n (field m b gs)) (λ x. cmp O down a x) ≡ true → cmp O down a b ≡ true
-  unfolding look
-  same-down n m a b gs e p = sym (ap (λ q. found (cond q (some b) (look n gs)) (λ x. cmp O down a x)) (eq-eqb n m e)) ∙ p
+  same-down : (n m : ℕ) (a b : Ty) (gs : Fields) → n ≡ m → found (lookup n (field m b gs)) (λ x. cmp O down a x) ≡ true → cmp O down a b ≡ true
+  unfolding lookup
+  same-down n m a b gs e p = sym (ap (λ q. found (cond q (some b) (lookup n gs)) (λ x. cmp O down a x)) (eq-eqb n m e)) ∙ p
 
   mutual
-    unfolding cmp all-fields look reduce Asc
+    unfolding cmp allFields lookup reduce Asc
 
     pub antisym : (a b : Ty) → Asc a → Asc b → cmp O up a b ≡ true → cmp O down a b ≡ true → reduce O a ≡ reduce O b
     antisym (leaf s) (leaf t) v w p q = ap leaf (L .antisymmetric s t p q)
@@ -444,7 +447,7 @@ module _ (O : Order) (L : Laws O) where
         absurd (true≢false (sym (L .transitive any t null p q) ∙ top-bottom O L up))
     antisym (built x) (built y) v w p q = ap built (antisym-built x y v w p q)
 
-    antisym-built : (x y : Built) → AscBuilt x → AscBuilt y → cmp-built O up x y ≡ true → cmp-built O down x y ≡ true → reduce-built O x ≡ reduce-built O y
+    antisym-built : (x y : Built) → AscBuilt x → AscBuilt y → cmpBuilt O up x y ≡ true → cmpBuilt O down x y ≡ true → reduceBuilt O x ≡ reduceBuilt O y
     antisym-built (list a) (list b) v w p q = ap list (antisym a b v w p q)
     antisym-built (list a) (range b) v w p q = absurd (false≢true p)
     antisym-built (list a) (context gs) v w p q = absurd (false≢true p)
@@ -468,24 +471,24 @@ module _ (O : Order) (L : Laws O) where
         (ap (λ e. not (O .strict) && e) (empty-cmps down ps qs p₁)) (and-right (cmps O down ps qs) (ignores O ps || cmp O up r s) p)
         (and-right (cmps O up ps qs) (ignores O ps || cmp O down r s) q) (λ h k. antisym r s (v .1) (w .1) h k))
 
-    antisym-fields : (fs gs : Fields) (k l : ℕ) → AscFields fs k → AscFields gs l → all-fields (λ n t. has O fs n t) gs ≡ true → within O fs gs ≡ true
-        → reduce-fields O fs ≡ reduce-fields O gs
+    antisym-fields : (fs gs : Fields) (k l : ℕ) → AscFields fs k → AscFields gs l → allFields (λ n t. has O fs n t) gs ≡ true → within O fs gs ≡ true
+        → reduceFields O fs ≡ reduceFields O gs
     antisym-fields no-fields no-fields k l v w p q = refl
     antisym-fields no-fields (field m b gs) k l v w p q = absurd (false≢true p)
     antisym-fields (field n a fs) no-fields k l v w p q = absurd (false≢true q)
     antisym-fields (field n a fs) (field m b gs) k l v w p q =
-        let p₀ = and-left (has O (field n a fs) m b) (all-fields (λ i t. has O (field n a fs) i t) gs) p in
-        let q₀ = and-left (found (look n (field m b gs)) (λ x. cmp O down a x)) (within O fs (field m b gs)) q in
+        let p₀ = and-left (has O (field n a fs) m b) (allFields (λ i t. has O (field n a fs) i t) gs) p in
+        let q₀ = and-left (found (lookup n (field m b gs)) (λ x. cmp O down a x)) (within O fs (field m b gs)) q in
         let e : n ≡ m = same-entry n m a b fs gs (v .2) (w .2) p₀ q₀ in
         λ i. field (e i)
         (antisym a b (v .1) (w .1) (same-up n m a b fs e p₀) (same-down n m a b gs e q₀) i)
         (antisym-fields fs gs (suc n) (suc m) (v .2) (w .2)
         (sym (has-skip O gs (suc m) n a fs (w .2) (omega arith))
-        ∙ and-right (has O (field n a fs) m b) (all-fields (λ j t. has O (field n a fs) j t) gs) p)
+        ∙ and-right (has O (field n a fs) m b) (allFields (λ j t. has O (field n a fs) j t) gs) p)
         (sym (within-skip O fs (suc n) m b gs (v .2) (omega arith))
-        ∙ and-right (found (look n (field m b gs)) (λ x. cmp O down a x)) (within O fs (field m b gs)) q) i)
+        ∙ and-right (found (lookup n (field m b gs)) (λ x. cmp O down a x)) (within O fs (field m b gs)) q) i)
 
-    antisym-tys : (ps qs : Tys) → AscTys ps → AscTys qs → cmps O up ps qs ≡ true → cmps O down ps qs ≡ true → reduce-tys O ps ≡ reduce-tys O qs
+    antisym-tys : (ps qs : Tys) → AscTys ps → AscTys qs → cmps O up ps qs ≡ true → cmps O down ps qs ≡ true → reduceTys O ps ≡ reduceTys O qs
     antisym-tys no-params no-params v w p q = refl
     antisym-tys no-params (param b qs) v w p q = absurd (false≢true p)
     antisym-tys (param a ps) no-params v w p q = absurd (false≢true p)

@@ -1,4 +1,5 @@
--- On data values conformance is DMN's, by types: a data value conforms to a type exactly when its least type does by DMN's own definition.
+-- On data values conformance is DMN's, by types: a data value conforms to a type exactly when its least type does by DMN's own definition (`data-is-dmn`).
+-- Idea: a value conforms as its least type does, and the least type of a data value has no function type without parameters, so both relations agree on it.
 -- Assumes nothing.
 use Prim.Native.Nat.{ℕ, _<_}
 use native.Mathlib.Omega.{arith}
@@ -10,7 +11,7 @@ use Rattle.form.specs.Trees.{v-built-in, v-type, v-irrelevant, Vals, no-items, 
 use Rattle.form.specs.Form.{countTys}
 use Rattle.order.specs.Order.{fixed}
 use Rattle.order.specs.Types.{sup}
-use Rattle.order.specs.Values.{is-data, are-data, hold-data, least, least-items, least-entries}
+use Rattle.order.specs.Values.{isDataBy, areData, holdData, least, leastItems, leastEntries}
 use Rattle.order.specs.Inferred.{valueConformsTo, isData, leastType}
 use Rattle.order.specs.Dmn.{dmnConformsTo, Some, Parameters, ParametersBuilt, ParametersFields, ParametersTys}
 use Rattle.order.proofs.Simple.{fixed-laws}
@@ -25,9 +26,9 @@ P n = Unit {0}
 abbrev Q : ℕ → Type 0
 Q c = 0 < c
 
-and-both : (a b : Bool) → a && b ≡ true → (a ≡ true) × (b ≡ true)
-and-both true b h = (refl, h)
-and-both false b h = absurd (false≢true h)
+pub and-parts : (a b : Bool) → a && b ≡ true → (a ≡ true) × (b ≡ true)
+and-parts true b h = (refl, h)
+and-parts false b h = absurd (false≢true h)
 
 some-of : (ps : Tys) → 0 < countTys ps → Some ps
 unfolding countTys
@@ -57,11 +58,11 @@ mutual
 
 -- the least type of a data value has no function at all
 mutual
-  unfolding least is-data Holds
+  unfolding least isDataBy Holds
 
   plain : (v : Val) → isData v ≡ true → Holds P Q (leastType v)
   plain (v-leaf l) h = tt
-  plain (v-range i j v w) h = let d = and-both (isData v) (isData w) h in holds-sup P Q fixed (leastType v) (leastType w) (plain v (d .0)) (plain w (d .1))
+  plain (v-range i j v w) h = let d = and-parts (isData v) (isData w) h in holds-sup P Q fixed (leastType v) (leastType w) (plain v (d .0)) (plain w (d .1))
   plain (v-list vs) h = plain-items vs (leaf null) h tt
   plain (v-context es) h = plain-entries es h
   plain (v-function ps b r) h = absurd (false≢true h)
@@ -69,15 +70,15 @@ mutual
   plain (v-type t) h = absurd (false≢true h)
   plain v-irrelevant h = absurd (false≢true h)
 
-  plain-items : (vs : Vals) (t : Ty) → are-data fixed vs ≡ true → Holds P Q t → Holds P Q (least-items fixed vs t)
+  plain-items : (vs : Vals) (t : Ty) → areData fixed vs ≡ true → Holds P Q t → Holds P Q (leastItems fixed vs t)
   plain-items no-items t h g = g
   plain-items (item v vs) t h g =
-      let d = and-both (isData v) (are-data fixed vs) h in
+      let d = and-parts (isData v) (areData fixed vs) h in
       plain-items vs (sup fixed t (leastType v)) (d .1) (holds-sup P Q fixed t (leastType v) g (plain v (d .0)))
 
-  plain-entries : (es : Entries) → hold-data fixed es ≡ true → HoldsFields P Q (least-entries fixed es)
+  plain-entries : (es : Entries) → holdData fixed es ≡ true → HoldsFields P Q (leastEntries fixed es)
   plain-entries no-entries h = tt
-  plain-entries (entry n v es) h = let d = and-both (isData v) (hold-data fixed es) h in (tt, plain v (d .0), plain-entries es (d .1))
+  plain-entries (entry n v es) h = let d = and-parts (isData v) (holdData fixed es) h in (tt, plain v (d .0), plain-entries es (d .1))
 
 pub data-is-dmn : (v : Val) (t : Ty) → isData v ≡ true → valueConformsTo v t ≡ dmnConformsTo (leastType v) t
 data-is-dmn v t h = conforms-least fixed fixed-laws v t h ∙ agrees-either (leastType v) t (inl (parameters (leastType v) (plain v h)))

@@ -1,4 +1,5 @@
 -- Type equality as a test: it says that the two trees are equal, and, of well-formed types, that their bytes are.
+-- Index: `eq-ty-iff`, `eq-ty-same`, `eq-ty-self`, `eq-fields-same` (trees); `eq-bytes` (bytes).
 -- Assumes nothing.
 use mathlib.Core.Path.{_≡_, refl, sym, _∙_, ap, ap₂}
 use mathlib.Core.Bool.{true, _&&_, false≢true}

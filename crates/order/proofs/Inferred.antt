@@ -1,5 +1,6 @@
 -- `instance_of` and `type_of` beside conformance: an instance conforms to the other type, also by DMN, and a data value conforms to the type that the
 -- Rust infers for it. Idea: equal types conform to each other, and what conforms to a type conforms to every type above it.
+-- Index: `instance-conforms` (instances), `type-of-conforms` (the inferred type).
 -- Assumes nothing.
 use Prim.Native.Nat.{ℕ, suc, _+_, _<_}
 use native.Mathlib.Omega.{arith}
@@ -13,17 +14,17 @@ use Rattle.form.specs.Trees.{any, null, Ty, leaf, built, Built, list, range, co
 use Rattle.form.specs.Trees.{v-irrelevant, Vals, no-items, item, Entries, no-entries, entry}
 use Rattle.form.specs.Form.{Wf, WfV, WfVals, WfEntries}
 use Rattle.order.specs.Order.{fixed}
-use Rattle.order.specs.Types.{look, found, all-fields, cmp}
+use Rattle.order.specs.Types.{lookup, found, allFields, cmp}
 use Rattle.order.specs.Ascending.{Asc, AscBuilt, AscFields}
 use Rattle.order.specs.Document.{conformsTo, eqTy, eqFields, nullOrSame, instanceBuilt, isInstanceOf}
 use Rattle.order.specs.Dmn.{strictOrder, dmnConformsTo}
-use Rattle.order.specs.Values.{leaf-type, to-list, conforms, all-conform, has-value, is-data, are-data, hold-data}
-use Rattle.order.specs.Inferred.{valueConformsTo, isData, leastType, list-type, typeOf, first-type, items-below, entry-types}
+use Rattle.order.specs.Values.{leafType, toList, conforms, allConform, hasValue, isDataBy, areData, holdData}
+use Rattle.order.specs.Inferred.{valueConformsTo, isData, leastType, listType, typeOf, firstType, itemsBelow, entryTypes}
 use Rattle.order.proofs.Simple.{fixed-laws, flat-laws, and-left, and-right, and-both}
 use Rattle.order.proofs.Bools.{or-cases}
 use Rattle.order.proofs.Conform.{all-imply}
 use Rattle.order.proofs.Answers.{AscOption, asc-look}
-use Rattle.order.proofs.Laws.{le-refl, le-through}
+use Rattle.order.proofs.Laws.{le-refl, le-trans}
 use Rattle.order.proofs.Sentences.{le-contexts}
 use Rattle.order.proofs.Equal.{eq-ty-same, eq-fields-same}
 use Rattle.order.proofs.WellFormed.{asc-of}
@@ -54,12 +55,12 @@ built-instance (range a) y w h = absurd (false≢true h)
 built-instance (context fs) (list b) w h = absurd (false≢true h)
 built-instance (context fs) (range b) w h = absurd (false≢true h)
 built-instance (context fs) (context gs) w h =
-    or-cases (eqFields fs gs) (all-fields (λ n t. found (look n fs) (λ a. nullOrSame a t)) gs) h
+    or-cases (eqFields fs gs) (allFields (λ n t. found (lookup n fs) (λ a. nullOrSame a t)) gs) h
     (λ e. subst (λ x. dmnConformsTo (built (context fs)) (built (context x)) ≡ true) (eq-fields-same fs gs e) (le-refl strictOrder (flat-laws true) (built (context fs)) w))
     (λ e.
     le-contexts strictOrder fs gs
-    ∙ all-imply strictOrder (flat-laws true) (λ n t. found (look n fs) (λ a. nullOrSame a t)) (λ n t. found (look n fs) (λ a. dmnConformsTo a t)) gs
-    (λ n t. entry-conforms (look n fs) t (asc-look n fs 0 w)) e)
+    ∙ all-imply strictOrder (flat-laws true) (λ n t. found (lookup n fs) (λ a. nullOrSame a t)) (λ n t. found (lookup n fs) (λ a. dmnConformsTo a t)) gs
+    (λ n t. entry-conforms (lookup n fs) t (asc-look n fs 0 w)) e)
 built-instance (context fs) (function qs s) w h = absurd (false≢true h)
 built-instance (function ps r) y w h = absurd (false≢true h)
 
@@ -72,17 +73,17 @@ instance-conforms (built x) (built y) w h = built-instance x y (asc-of (built x)
 -- ---- the inferred type
 conforms-up : (v : Val) (t u : Ty) → isData v ≡ true → valueConformsTo v t ≡ true → conformsTo t u ≡ true → valueConformsTo v u ≡ true
 conforms-up v t u d p q =
-    conforms-least fixed fixed-laws v u d ∙ le-through fixed fixed-laws (leastType v) t u (sym (conforms-least fixed fixed-laws v t d) ∙ p) q
+    conforms-least fixed fixed-laws v u d ∙ le-trans fixed fixed-laws (leastType v) t u (sym (conforms-least fixed fixed-laws v t d) ∙ p) q
 
 any-conforms : (v : Val) → isData v ≡ true → valueConformsTo v (leaf any) ≡ true
 any-conforms v d = conforms-least fixed fixed-laws v (leaf any) d ∙ le-any fixed fixed-laws (leastType v)
 
-any-items : (vs : Vals) → are-data fixed vs ≡ true → all-conform fixed vs (leaf any) ≡ true
-unfolding conforms is-data
+any-items : (vs : Vals) → areData fixed vs ≡ true → allConform fixed vs (leaf any) ≡ true
+unfolding conforms isDataBy
 any-items no-items d = refl
 any-items (item v vs) d =
-    and-both (valueConformsTo v (leaf any)) (all-conform fixed vs (leaf any)) (any-conforms v (and-left (isData v) (are-data fixed vs) d))
-    (any-items vs (and-right (isData v) (are-data fixed vs) d))
+    and-both (valueConformsTo v (leaf any)) (allConform fixed vs (leaf any)) (any-conforms v (and-left (isData v) (areData fixed vs) d))
+    (any-items vs (and-right (isData v) (areData fixed vs) d))
 
 both-ends : (v w : Val) (q : Bool) → eqTy (typeOf v) (typeOf w) ≡ q → isData v ≡ true → isData w ≡ true
     → valueConformsTo v (typeOf v) ≡ true → valueConformsTo w (typeOf w) ≡ true
@@ -91,32 +92,32 @@ both-ends v w true e dv dw p q =
     and-both (valueConformsTo v (typeOf v)) (valueConformsTo w (typeOf v)) p (subst (λ t. valueConformsTo w t ≡ true) (sym (eq-ty-same (typeOf v) (typeOf w) e)) q)
 both-ends v w false e dv dw p q = and-both (valueConformsTo v (leaf any)) (valueConformsTo w (leaf any)) (any-conforms v dv) (any-conforms w dw)
 
-items-or-any : (vs : Vals) (t : Ty) (q : Bool) → are-data fixed vs ≡ true → (q ≡ true → all-conform fixed vs t ≡ true)
-    → all-conform fixed vs (cond q t (leaf any)) ≡ true
+items-or-any : (vs : Vals) (t : Ty) (q : Bool) → areData fixed vs ≡ true → (q ≡ true → allConform fixed vs t ≡ true)
+    → allConform fixed vs (cond q t (leaf any)) ≡ true
 items-or-any vs t true d h = h refl
 items-or-any vs t false d h = any-items vs d
 
 -- the type of a list, where items whose types conform to a type conform to it themselves
-list-conforms : (vs : Vals) → are-data fixed vs ≡ true → ((t : Ty) → items-below vs (some t) ≡ true → all-conform fixed vs t ≡ true)
-    → to-list fixed (list-type (first-type vs) (items-below vs (first-type vs))) (λ u. all-conform fixed vs u) ≡ true
+list-conforms : (vs : Vals) → areData fixed vs ≡ true → ((t : Ty) → itemsBelow vs (some t) ≡ true → allConform fixed vs t ≡ true)
+    → toList fixed (listType (firstType vs) (itemsBelow vs (firstType vs))) (λ u. allConform fixed vs u) ≡ true
 unfolding conforms typeOf
 list-conforms no-items d h = refl
-list-conforms (item v vs) d h = items-or-any (item v vs) (typeOf v) (items-below (item v vs) (some (typeOf v))) d (h (typeOf v))
+list-conforms (item v vs) d h = items-or-any (item v vs) (typeOf v) (itemsBelow (item v vs) (some (typeOf v))) d (h (typeOf v))
 
 -- a name smaller than all that are asked for does not matter
 value-skip : (gs : Fields) (k n : ℕ) (v : Val) (es : Entries) → AscFields gs k → n < k
-    → all-fields (λ m t. has-value fixed (entry n v es) m t) gs ≡ all-fields (λ m t. has-value fixed es m t) gs
-unfolding conforms all-fields Asc
+    → allFields (λ m t. hasValue fixed (entry n v es) m t) gs ≡ allFields (λ m t. hasValue fixed es m t) gs
+unfolding conforms allFields Asc
 value-skip no-fields k n v es w h = refl
 value-skip (field m t gs) k n v es w h =
     let ne : eqb m n ≡ false = ne-eqb m n (λ e. omega (arith, w .0)) in
-    ap₂ _&&_ (ap (λ q. cond q (conforms fixed v t) (has-value fixed es m t)) ne) (value-skip gs (suc m) n v es (w .2) (omega (arith, w .0)))
+    ap₂ _&&_ (ap (λ q. cond q (conforms fixed v t) (hasValue fixed es m t)) ne) (value-skip gs (suc m) n v es (w .2) (omega (arith, w .0)))
 
 mutual
-  unfolding conforms is-data typeOf WfV cmp all-fields
+  unfolding conforms isDataBy typeOf WfV cmp allFields
 
   pub type-of-conforms : (v : Val) → WfV v → isData v ≡ true → valueConformsTo v (typeOf v) ≡ true
-  type-of-conforms (v-leaf l) h d = fixed-laws .reflexive (leaf-type l)
+  type-of-conforms (v-leaf l) h d = fixed-laws .reflexive (leafType l)
   type-of-conforms (v-range i j v w) h d =
       let dv = and-left (isData v) (isData w) d in
       let dw = and-right (isData v) (isData w) d in
@@ -129,19 +130,19 @@ mutual
   type-of-conforms v-irrelevant h d = absurd (false≢true d)
 
   -- items whose types conform to t
-  items-conform : (vs : Vals) (t : Ty) → WfVals vs → are-data fixed vs ≡ true → items-below vs (some t) ≡ true → all-conform fixed vs t ≡ true
+  items-conform : (vs : Vals) (t : Ty) → WfVals vs → areData fixed vs ≡ true → itemsBelow vs (some t) ≡ true → allConform fixed vs t ≡ true
   items-conform no-items t h d e = refl
   items-conform (item v vs) t h d e =
-      let dv = and-left (isData v) (are-data fixed vs) d in
-      and-both (valueConformsTo v t) (all-conform fixed vs t)
-      (conforms-up v (typeOf v) t dv (type-of-conforms v (h .0) dv) (and-left (conformsTo (typeOf v) t) (items-below vs (some t)) e))
-      (items-conform vs t (h .1) (and-right (isData v) (are-data fixed vs) d) (and-right (conformsTo (typeOf v) t) (items-below vs (some t)) e))
+      let dv = and-left (isData v) (areData fixed vs) d in
+      and-both (valueConformsTo v t) (allConform fixed vs t)
+      (conforms-up v (typeOf v) t dv (type-of-conforms v (h .0) dv) (and-left (conformsTo (typeOf v) t) (itemsBelow vs (some t)) e))
+      (items-conform vs t (h .1) (and-right (isData v) (areData fixed vs) d) (and-right (conformsTo (typeOf v) t) (itemsBelow vs (some t)) e))
 
-  entries-conform : (es : Entries) (k : ℕ) → WfEntries es k → hold-data fixed es ≡ true → all-fields (λ n t. has-value fixed es n t) (entry-types es) ≡ true
+  entries-conform : (es : Entries) (k : ℕ) → WfEntries es k → holdData fixed es ≡ true → allFields (λ n t. hasValue fixed es n t) (entryTypes es) ≡ true
   entries-conform no-entries k h d = refl
   entries-conform (entry n v es) k h d =
-      and-both (has-value fixed (entry n v es) n (typeOf v)) (all-fields (λ m t. has-value fixed (entry n v es) m t) (entry-types es))
-      (ap (λ q. cond q (valueConformsTo v (typeOf v)) (has-value fixed es n (typeOf v))) (eq-eqb n n refl)
-      ∙ type-of-conforms v (h .1 .1 .0) (and-left (isData v) (hold-data fixed es) d))
-      (value-skip (entry-types es) (suc n) n v es (rw add-one at (asc-entry-types es (n + 1) (h .1 .1 .1))) (omega arith)
-      ∙ entries-conform es (n + 1) (h .1 .1 .1) (and-right (isData v) (hold-data fixed es) d))
+      and-both (hasValue fixed (entry n v es) n (typeOf v)) (allFields (λ m t. hasValue fixed (entry n v es) m t) (entryTypes es))
+      (ap (λ q. cond q (valueConformsTo v (typeOf v)) (hasValue fixed es n (typeOf v))) (eq-eqb n n refl)
+      ∙ type-of-conforms v (h .1 .1 .0) (and-left (isData v) (holdData fixed es) d))
+      (value-skip (entryTypes es) (suc n) n v es (rw add-one at (asc-entry-types es (n + 1) (h .1 .1 .1))) (omega arith)
+      ∙ entries-conform es (n + 1) (h .1 .1 .1) (and-right (isData v) (holdData fixed es) d))

@@ -1,4 +1,7 @@
 -- What is promised of conformance, reduced forms, common supertypes and subtypes, over every order.
+-- Idea: all of it follows from the one equation of a bound (`key` of Bound) and from the order up to reduced forms (Conform).
+-- Index: `le-sup`, `le-sub` (the equations); `le-refl`, `le-trans`, `mutual-reduce`, `le-reduce-left`, `le-reduce-right` (conformance); `sup-left`, `sup-right`, `sup-least`, `sub-left`,
+-- `sub-right`, `sub-greatest` (bounds); `sup-reduced`, `sub-reduced` (answers are reduced); `by-conformance`, `sup-only`, `sup-comm`, `sup-assoc` (one answer only).
 -- Assumes nothing.
 use mathlib.Core.Path.{_≡_, sym, _∙_, ap, ap₂}
 use mathlib.Core.Bool.{true, _&&_}
@@ -8,7 +11,7 @@ use Rattle.order.proofs.Simple.{and-left, and-right, and-both}
 use Rattle.form.specs.Trees.{Ty}
 use Rattle.order.specs.Types.{le, reduce, bound, sup, sub}
 use Rattle.order.specs.Ascending.{Asc}
-use Rattle.order.proofs.Conform.{cmp-flip, cmp-reduce, reduce-reduce, cmp-refl, le-trans, antisym}
+use Rattle.order.proofs.Conform.{cmp-flip, cmp-reduce, reduce-reduce, cmp-refl, cmp-trans, antisym}
 use Rattle.order.proofs.Bound.{key}
 use Rattle.order.proofs.Bools.{and-comm, and-assoc}
 use Rattle.order.proofs.Answers.{asc-sup}
@@ -35,8 +38,8 @@ module _ (O : Order) (L : Laws O) where
   pub le-refl : (a : Ty) → Asc a → le O a a ≡ true
   le-refl a w = cmp-refl O L up a w
 
-  pub le-through : (a b c : Ty) → le O a b ≡ true → le O b c ≡ true → le O a c ≡ true
-  le-through a b c p q = le-trans O L b a c p q
+  pub le-trans : (a b c : Ty) → le O a b ≡ true → le O b c ≡ true → le O a c ≡ true
+  le-trans a b c p q = cmp-trans O L b a c p q
 
   -- each conforms to the other exactly when the reduced forms are equal
   pub mutual-reduce : (a b : Ty) → Asc a → Asc b → ((le O a b ≡ true) × (le O b a ≡ true)) ↔ (reduce O a ≡ reduce O b)

@@ -1,5 +1,7 @@
 -- Document 01's sentences hold (specs/Sentences.antt). Idea: most of them compute (proofs/Alone.antt); the two that speak of names are inductions on a context.
 -- Before the record stand equations over every order that proofs about code cite: context and function types, and two ascending lists of names taken in step.
+-- Index: `sentences` (the record); `le-contexts`, `le-functions` (conformance); `sup-fields-first`, `sup-fields-second`, `sup-fields-both` (common names in step);
+-- `sub-fields-first`, `sub-fields-second`, `sub-fields-both` (all names in step).
 -- Assumes nothing.
 use Prim.Native.Nat.{ℕ, suc, _<_}
 use native.Mathlib.Omega.{arith}
@@ -11,13 +13,14 @@ use lib.Dec.{eqb, ltb}
 use borrow.Author.Tests.{eqb-true, eqb-false, ne-eqb, eq-eqb, ltb-true}
 use Rattle.form.specs.Trees.{Simple, any, null, code, Ty, leaf, built, list, range, context, function, Fields, no-fields, field, Tys, no-params, param, Leaf, Params, Val, v-leaf, v-range, v-list}
 use Rattle.form.specs.Trees.{v-context, v-function, v-built-in, v-type, v-irrelevant, Vals, no-items, item, Entries, no-entries, entry}
-use Rattle.order.specs.Order.{same, up, down, Order, fixed, flat, flat-join, flat-meet}
-use Rattle.order.specs.Types.{look, found, all-fields, same-count, kind, ignores, empty, cmp, le, les, reduce, reduce-fields, reduce-tys, keep, place, bound, common, merge, sup, sub}
-use Rattle.order.specs.Types.{sup-fields, sub-fields, sup-tys, sub-tys}
+use Rattle.order.specs.Order.{same, up, down, Order, fixed, flat, flatJoin, flatMeet}
+use Rattle.order.specs.Types.{lookup, found, allFields, sameCount, kind, ignores, empty, cmp, le, les, reduce, reduceFields, reduceTys, keep, insertWith, bound}
+use Rattle.order.specs.Types.{intersectWith, merge, sup, sub}
+use Rattle.order.specs.Types.{supFields, subFields, supTys, subTys}
 use Rattle.order.specs.Ascending.{AscFields, Asc}
 use Rattle.order.specs.Document.{conformsTo, reducedForm, supertype, subtype, eqTy, instanceBuilt, isInstanceOf}
-use Rattle.order.specs.Values.{leaf-type, is-any, conforms, all-conform, is-data, are-data, hold-data, least, least-items, least-entries}
-use Rattle.order.specs.Inferred.{valueConformsTo, isData, leastType, typeOf, items-below, entry-types}
+use Rattle.order.specs.Values.{leafType, isAny, conforms, allConform, isDataBy, areData, holdData, least, leastItems, leastEntries}
+use Rattle.order.specs.Inferred.{valueConformsTo, isData, leastType, typeOf, itemsBelow, entryTypes}
 use Rattle.order.specs.Sentences.{eachField, eachParameter, eachPair, inBoth, inEither, allItems, allEntries, eachEntry, TypeSentences, SupertypeSentences, SubtypeSentences, ValueSentences}
 use Rattle.order.specs.Sentences.{LeastTypeSentences, InferredSentences, Sentences}
 pub use Rattle.order.proofs.Alone.{sup-simple-built, sup-built-simple, sub-simple-built, sub-built-simple, sup-functions, sub-functions, sup-functions-other, sub-functions-other}
@@ -35,52 +38,52 @@ use Rattle.order.proofs.Least.{le-null, le-any}
 module _ (O : Order) where
   -- CONFORMANCE
   -- each name of B is in A with A's type ≤ B's
-  pub le-contexts : (fs gs : Fields) → le O (built (context fs)) (built (context gs)) ≡ all-fields (λ n t. found (look n fs) (λ a. le O a t)) gs
+  pub le-contexts : (fs gs : Fields) → le O (built (context fs)) (built (context gs)) ≡ allFields (λ n t. found (lookup n fs) (λ a. le O a t)) gs
   unfolding cmp
-  le-contexts fs gs = all-ext _ (λ n t. found (look n fs) (λ a. le O a t)) gs (λ n t. has-look O fs n t)
+  le-contexts fs gs = all-ext _ (λ n t. found (lookup n fs) (λ a. le O a t)) gs (λ n t. has-look O fs n t)
 
   -- equal counts, each parameter of B ≤ that of A, result of A ≤ that of B; without parameters the result is not looked at
   pub le-functions : (ps qs : Tys) (r s : Ty) → le O (built (function ps r)) (built (function qs s)) ≡ les O qs ps && (ignores O ps || le O r s)
   le-functions ps qs r s = le-functions-down O ps qs r s ∙ ap (λ x. x && (ignores O ps || le O r s)) (flip-tys O up ps qs)
 
   -- COMMON NAMES, two ascending lists in step
-  common-skip : (fs : Fields) (m k : ℕ) (b : Ty) (gs : Fields) → AscFields fs k → m < k → common O fs (field m b gs) ≡ common O fs gs
-  unfolding bound look Asc
+  common-skip : (fs : Fields) (m k : ℕ) (b : Ty) (gs : Fields) → AscFields fs k → m < k → intersectWith O fs (field m b gs) ≡ intersectWith O fs gs
+  unfolding bound lookup Asc
   common-skip no-fields m k b gs w h = refl
   common-skip (field n a fs) m k b gs w h =
-      ap₂ (λ q x. keep n (cond q (some b) (look n gs)) (λ c. bound O up a c) x) (ne-eqb n m (λ e. omega (arith, w .0)))
+      ap₂ (λ q x. keep n (cond q (some b) (lookup n gs)) (λ c. bound O up a c) x) (ne-eqb n m (λ e. omega (arith, w .0)))
       (common-skip fs m (suc n) b gs (w .2) (omega (arith, w .0)))
 
-  pub sup-fields-second : (fs : Fields) (m k : ℕ) (b : Ty) (gs : Fields) → AscFields fs k → m < k → sup-fields O fs (field m b gs) ≡ sup-fields O fs gs
-  sup-fields-second fs m k b gs w h = ap (reduce-fields O) (common-skip fs m k b gs w h)
+  pub sup-fields-second : (fs : Fields) (m k : ℕ) (b : Ty) (gs : Fields) → AscFields fs k → m < k → supFields O fs (field m b gs) ≡ supFields O fs gs
+  sup-fields-second fs m k b gs w h = ap (reduceFields O) (common-skip fs m k b gs w h)
 
-  pub sup-fields-first : (n : ℕ) (a : Ty) (fs gs : Fields) → AscFields gs (suc n) → sup-fields O (field n a fs) gs ≡ sup-fields O fs gs
+  pub sup-fields-first : (n : ℕ) (a : Ty) (fs gs : Fields) → AscFields gs (suc n) → supFields O (field n a fs) gs ≡ supFields O fs gs
   unfolding bound
   sup-fields-first n a fs gs w =
-      ap (λ o. reduce-fields O (keep n o (λ c. bound O up a c) (common O fs gs))) (look-below O gs (suc n) n w (omega arith))
+      ap (λ o. reduceFields O (keep n o (λ c. bound O up a c) (intersectWith O fs gs))) (look-below O gs (suc n) n w (omega arith))
 
   pub sup-fields-both : (n : ℕ) (a b : Ty) (fs gs : Fields) → AscFields fs (suc n)
-      → sup-fields O (field n a fs) (field n b gs) ≡ field n (sup O a b) (sup-fields O fs gs)
-  unfolding bound look reduce
+      → supFields O (field n a fs) (field n b gs) ≡ field n (sup O a b) (supFields O fs gs)
+  unfolding bound lookup reduce
   sup-fields-both n a b fs gs w =
-      ap₂ (λ q x. reduce-fields O (keep n (cond q (some b) (look n gs)) (λ c. bound O up a c) x)) (eq-eqb n n refl)
+      ap₂ (λ q x. reduceFields O (keep n (cond q (some b) (lookup n gs)) (λ c. bound O up a c) x)) (eq-eqb n n refl)
       (common-skip fs n (suc n) b gs w (omega arith))
 
   -- ALL NAMES, two ascending lists in step
   pub sub-fields-first : (n : ℕ) (a : Ty) (fs gs : Fields) → AscFields fs (suc n) → AscFields gs (suc n)
-      → sub-fields O (field n a fs) gs ≡ field n (reduce O a) (sub-fields O fs gs)
+      → subFields O (field n a fs) gs ≡ field n (reduce O a) (subFields O fs gs)
   unfolding reduce
-  sub-fields-first n a fs gs v w = ap (reduce-fields O) (merge-first O n a fs gs v w)
+  sub-fields-first n a fs gs v w = ap (reduceFields O) (merge-first O n a fs gs v w)
 
   pub sub-fields-second : (fs : Fields) (m k : ℕ) (b : Ty) (gs : Fields) → AscFields fs k → m < k
-      → sub-fields O fs (field m b gs) ≡ field m (reduce O b) (sub-fields O fs gs)
+      → subFields O fs (field m b gs) ≡ field m (reduce O b) (subFields O fs gs)
   unfolding reduce
-  sub-fields-second fs m k b gs w h = ap (reduce-fields O) (merge-second O fs m k b gs w h)
+  sub-fields-second fs m k b gs w h = ap (reduceFields O) (merge-second O fs m k b gs w h)
 
   pub sub-fields-both : (n : ℕ) (a b : Ty) (fs gs : Fields) → AscFields fs (suc n)
-      → sub-fields O (field n a fs) (field n b gs) ≡ field n (sub O a b) (sub-fields O fs gs)
+      → subFields O (field n a fs) (field n b gs) ≡ field n (sub O a b) (subFields O fs gs)
   unfolding reduce
-  sub-fields-both n a b fs gs v = ap (reduce-fields O) (merge-both O n a b fs gs v)
+  sub-fields-both n a b fs gs v = ap (reduceFields O) (merge-both O n a b fs gs v)
 
 -- ---- THE SENTENCES
 not-true : (q : Bool) → (q ≡ true → ⊥) → q ≡ false
@@ -109,8 +112,8 @@ not-below-null s h e = h (flat-only s null h (λ n. any-not-null (sym n)) e)
 not-above-any : (t : Simple) → (t ≡ any → ⊥) → flat any t ≡ true → ⊥
 not-above-any t h e = h (sym (flat-only any t any-not-null h e))
 
-counts-differ : (ps qs : Tys) → same-count ps qs ≡ false → les fixed ps qs ≡ false
-unfolding same-count cmp
+counts-differ : (ps qs : Tys) → sameCount ps qs ≡ false → les fixed ps qs ≡ false
+unfolding sameCount cmp
 counts-differ no-params no-params h = absurd (true≢false h)
 counts-differ no-params (param b qs) h = refl
 counts-differ (param a ps) no-params h = refl
@@ -121,12 +124,12 @@ unfolding cmp
 plain no-params r s = refl
 plain (param b qs) r s = refl
 
-reduced-fields : (fs : Fields) → reduce-fields fixed fs ≡ eachField reducedForm fs
+reduced-fields : (fs : Fields) → reduceFields fixed fs ≡ eachField reducedForm fs
 unfolding reduce eachField
 reduced-fields no-fields = refl
 reduced-fields (field n t fs) = ap (field n (reducedForm t)) (reduced-fields fs)
 
-reduced-tys : (ps : Tys) → reduce-tys fixed ps ≡ eachParameter reducedForm ps
+reduced-tys : (ps : Tys) → reduceTys fixed ps ≡ eachParameter reducedForm ps
 unfolding reduce eachParameter
 reduced-tys no-params = refl
 reduced-tys (param t ps) = ap (param (reducedForm t)) (reduced-tys ps)
@@ -171,10 +174,10 @@ mapped-cond : (f : Ty → Ty) (q : Bool) (t : Ty) (o : Option Ty) → cond q (so
 mapped-cond f true t o = refl
 mapped-cond f false t o = refl
 
-look-reduce : (n : ℕ) (fs : Fields) → look n (reduce-fields fixed fs) ≡ mapped reducedForm (look n fs)
-unfolding look reduce
+look-reduce : (n : ℕ) (fs : Fields) → lookup n (reduceFields fixed fs) ≡ mapped reducedForm (lookup n fs)
+unfolding lookup reduce
 look-reduce n no-fields = refl
-look-reduce n (field m t fs) = ap (cond (eqb n m) (some (reducedForm t))) (look-reduce n fs) ∙ mapped-cond reducedForm (eqb n m) t (look n fs)
+look-reduce n (field m t fs) = ap (cond (eqb n m) (some (reducedForm t))) (look-reduce n fs) ∙ mapped-cond reducedForm (eqb n m) t (lookup n fs)
 
 -- a common name
 both-none : (f : Ty → Ty → Ty) (o : Option Ty) → inBoth f o none ≡ none
@@ -186,24 +189,24 @@ mapped-both f none p = refl
 mapped-both f (some a) none = refl
 mapped-both f (some a) (some b) = refl
 
-look-keep : (n m : ℕ) (a : Ty) (fs gs cs : Fields) (o : Option Ty) → look m gs ≡ o → (q : Bool) → eqb n m ≡ q
-    → look n cs ≡ inBoth (λ x y. bound fixed up x y) (look n fs) (look n gs)
-    → look n (keep m o (λ b. bound fixed up a b) cs) ≡ inBoth (λ x y. bound fixed up x y) (cond q (some a) (look n fs)) (look n gs)
-unfolding look
+look-keep : (n m : ℕ) (a : Ty) (fs gs cs : Fields) (o : Option Ty) → lookup m gs ≡ o → (q : Bool) → eqb n m ≡ q
+    → lookup n cs ≡ inBoth (λ x y. bound fixed up x y) (lookup n fs) (lookup n gs)
+    → lookup n (keep m o (λ b. bound fixed up a b) cs) ≡ inBoth (λ x y. bound fixed up x y) (cond q (some a) (lookup n fs)) (lookup n gs)
+unfolding lookup
 look-keep n m a fs gs cs none e true q h =
-    let g : look n gs ≡ none = ap (λ k. look k gs) (eqb-true n m q) ∙ e in
-    h ∙ ap (inBoth (λ x y. bound fixed up x y) (look n fs)) g ∙ both-none (λ x y. bound fixed up x y) (look n fs)
+    let g : lookup n gs ≡ none = ap (λ k. lookup k gs) (eqb-true n m q) ∙ e in
+    h ∙ ap (inBoth (λ x y. bound fixed up x y) (lookup n fs)) g ∙ both-none (λ x y. bound fixed up x y) (lookup n fs)
     ∙ sym (ap (inBoth (λ x y. bound fixed up x y) (some a)) g)
 look-keep n m a fs gs cs none e false q h = h
 look-keep n m a fs gs cs (some b) e true q h =
-    ap (λ i. cond i (some (bound fixed up a b)) (look n cs)) q
-    ∙ sym (ap (inBoth (λ x y. bound fixed up x y) (some a)) (ap (λ k. look k gs) (eqb-true n m q) ∙ e))
-look-keep n m a fs gs cs (some b) e false q h = ap (λ i. cond i (some (bound fixed up a b)) (look n cs)) q ∙ h
+    ap (λ i. cond i (some (bound fixed up a b)) (lookup n cs)) q
+    ∙ sym (ap (inBoth (λ x y. bound fixed up x y) (some a)) (ap (λ k. lookup k gs) (eqb-true n m q) ∙ e))
+look-keep n m a fs gs cs (some b) e false q h = ap (λ i. cond i (some (bound fixed up a b)) (lookup n cs)) q ∙ h
 
-look-common : (n : ℕ) (fs gs : Fields) → look n (common fixed fs gs) ≡ inBoth (λ x y. bound fixed up x y) (look n fs) (look n gs)
-unfolding bound look
+look-common : (n : ℕ) (fs gs : Fields) → lookup n (intersectWith fixed fs gs) ≡ inBoth (λ x y. bound fixed up x y) (lookup n fs) (lookup n gs)
+unfolding bound lookup
 look-common n no-fields gs = refl
-look-common n (field m a fs) gs = look-keep n m a fs gs (common fixed fs gs) (look m gs) refl (eqb n m) refl (look-common n fs gs)
+look-common n (field m a fs) gs = look-keep n m a fs gs (intersectWith fixed fs gs) (lookup m gs) refl (eqb n m) refl (look-common n fs gs)
 
 -- a name of either
 mapped-either : (f : Ty → Ty → Ty) (o p : Option Ty) → mapped reducedForm (inEither f (λ t. t) o p) ≡ inEither (λ a b. reducedForm (f a b)) reducedForm o p
@@ -218,8 +221,8 @@ put-type none a f = a
 put-type (some b) a f = f b
 
 look-place : (n m k : ℕ) (a : Ty) (f : Ty → Ty) (hs : Fields) → AscFields hs k
-    → look n (place m a f hs) ≡ cond (eqb n m) (some (put-type (look m hs) a f)) (look n hs)
-unfolding look place Asc
+    → lookup n (insertWith m a f hs) ≡ cond (eqb n m) (some (put-type (lookup m hs) a f)) (lookup n hs)
+unfolding lookup insertWith Asc
 look-place n m k a f no-fields w = refl
 look-place n m k a f (field j b hs) w = step (eqb m j) refl (ltb m j) refl (look-place n m (suc j) a f hs (w .2))
   where
@@ -233,22 +236,22 @@ look-place n m k a f (field j b hs) w = step (eqb m j) refl (ltb m j) refl (look
     crossed false true x y z h = refl
     crossed false false x y z h = refl
 
-    step : (q : Bool) → eqb m j ≡ q → (l : Bool) → ltb m j ≡ l → look n (place m a f hs) ≡ cond (eqb n m) (some (put-type (look m hs) a f)) (look n hs)
-        → look n (cond q (field j (f b) hs) (cond l (field m a (field j b hs)) (field j b (place m a f hs))))
-        ≡ cond (eqb n m) (some (put-type (cond q (some b) (look m hs)) a f)) (cond (eqb n j) (some b) (look n hs))
+    step : (q : Bool) → eqb m j ≡ q → (l : Bool) → ltb m j ≡ l → lookup n (insertWith m a f hs) ≡ cond (eqb n m) (some (put-type (lookup m hs) a f)) (lookup n hs)
+        → lookup n (cond q (field j (f b) hs) (cond l (field m a (field j b hs)) (field j b (insertWith m a f hs))))
+        ≡ cond (eqb n m) (some (put-type (cond q (some b) (lookup m hs)) a f)) (cond (eqb n j) (some b) (lookup n hs))
     step true e l g ih =
-        twice (eqb n j) (some (f b)) (some b) (look n hs) ∙ ap (λ i. cond (eqb n i) (some (f b)) (cond (eqb n j) (some b) (look n hs))) (sym (eqb-true m j e))
+        twice (eqb n j) (some (f b)) (some b) (lookup n hs) ∙ ap (λ i. cond (eqb n i) (some (f b)) (cond (eqb n j) (some b) (lookup n hs))) (sym (eqb-true m j e))
     step false e true g ih =
-        ap (λ o. cond (eqb n m) (some (put-type o a f)) (cond (eqb n j) (some b) (look n hs))) (sym (look-below fixed hs (suc j) m (w .2) (omega (arith, ltb-true m j g))))
+        ap (λ o. cond (eqb n m) (some (put-type o a f)) (cond (eqb n j) (some b) (lookup n hs))) (sym (look-below fixed hs (suc j) m (w .2) (omega (arith, ltb-true m j g))))
     step false e false g ih =
         ap (cond (eqb n j) (some b)) ih
-        ∙ crossed (eqb n j) (eqb n m) (some b) (some (put-type (look m hs) a f)) (look n hs)
+        ∙ crossed (eqb n j) (eqb n m) (some b) (some (put-type (lookup m hs) a f)) (lookup n hs)
         (λ x y. eqb-false m j e (sym (eqb-true n m y) ∙ eqb-true n j x))
 
-look-put : (n m : ℕ) (a : Ty) (fs gs : Fields) (o : Option Ty) (q : Bool) → eqb n m ≡ q → o ≡ look m gs
-    → cond q (some (put-type o a (λ b. bound fixed down a b))) (inEither (λ x y. bound fixed down x y) (λ t. t) (look n fs) (look n gs))
-    ≡ inEither (λ x y. bound fixed down x y) (λ t. t) (cond q (some a) (look n fs)) (look n gs)
-look-put n m a fs gs o true e h = put o ∙ ap (inEither (λ x y. bound fixed down x y) (λ t. t) (some a)) (h ∙ sym (ap (λ k. look k gs) (eqb-true n m e)))
+look-put : (n m : ℕ) (a : Ty) (fs gs : Fields) (o : Option Ty) (q : Bool) → eqb n m ≡ q → o ≡ lookup m gs
+    → cond q (some (put-type o a (λ b. bound fixed down a b))) (inEither (λ x y. bound fixed down x y) (λ t. t) (lookup n fs) (lookup n gs))
+    ≡ inEither (λ x y. bound fixed down x y) (λ t. t) (cond q (some a) (lookup n fs)) (lookup n gs)
+look-put n m a fs gs o true e h = put o ∙ ap (inEither (λ x y. bound fixed down x y) (λ t. t) (some a)) (h ∙ sym (ap (λ k. lookup k gs) (eqb-true n m e)))
   where
     put : (p : Option Ty) → some (put-type p a (λ b. bound fixed down a b)) ≡ inEither (λ x y. bound fixed down x y) (λ t. t) (some a) p
     put none = refl
@@ -260,26 +263,26 @@ either-none f none = refl
 either-none f (some b) = refl
 
 look-merge : (n k : ℕ) (fs gs : Fields) → AscFields fs k → AscFields gs k
-    → look n (merge fixed fs gs) ≡ inEither (λ x y. bound fixed down x y) (λ t. t) (look n fs) (look n gs)
-unfolding bound look Asc
-look-merge n k no-fields gs v w = sym (either-none (λ x y. bound fixed down x y) (look n gs))
+    → lookup n (merge fixed fs gs) ≡ inEither (λ x y. bound fixed down x y) (λ t. t) (lookup n fs) (lookup n gs)
+unfolding bound lookup Asc
+look-merge n k no-fields gs v w = sym (either-none (λ x y. bound fixed down x y) (lookup n gs))
 look-merge n k (field m a fs) gs v w =
     let u : AscFields fs k = asc-weaken fs k (suc m) (omega (arith, v .0)) (v .2) in
     look-place n m k a (λ b. bound fixed down a b) (merge fixed fs gs) (asc-merge fixed fs gs k u w)
-    ∙ ap (cond (eqb n m) (some (put-type (look m (merge fixed fs gs)) a (λ b. bound fixed down a b)))) (look-merge n k fs gs u w)
-    ∙ look-put n m a fs gs (look m (merge fixed fs gs)) (eqb n m) refl
-    (look-merge m k fs gs u w ∙ ap (λ o. inEither (λ x y. bound fixed down x y) (λ t. t) o (look m gs)) (look-below fixed fs (suc m) m (v .2) (omega arith))
-    ∙ either-none (λ x y. bound fixed down x y) (look m gs))
+    ∙ ap (cond (eqb n m) (some (put-type (lookup m (merge fixed fs gs)) a (λ b. bound fixed down a b)))) (look-merge n k fs gs u w)
+    ∙ look-put n m a fs gs (lookup m (merge fixed fs gs)) (eqb n m) refl
+    (look-merge m k fs gs u w ∙ ap (λ o. inEither (λ x y. bound fixed down x y) (λ t. t) o (lookup m gs)) (look-below fixed fs (suc m) m (v .2) (omega arith))
+    ∙ either-none (λ x y. bound fixed down x y) (lookup m gs))
 
 -- parameters in pairs
-sub-pairs : (ps qs : Tys) → sub-tys fixed ps qs ≡ eachPair subtype ps qs
+sub-pairs : (ps qs : Tys) → subTys fixed ps qs ≡ eachPair subtype ps qs
 unfolding bound reduce eachPair
 sub-pairs no-params no-params = refl
 sub-pairs no-params (param b qs) = refl
 sub-pairs (param a ps) no-params = refl
 sub-pairs (param a ps) (param b qs) = ap (param (subtype a b)) (sub-pairs ps qs)
 
-sup-pairs : (ps qs : Tys) → sup-tys fixed ps qs ≡ eachPair supertype ps qs
+sup-pairs : (ps qs : Tys) → supTys fixed ps qs ≡ eachPair supertype ps qs
 unfolding bound reduce eachPair
 sup-pairs no-params no-params = refl
 sup-pairs no-params (param b qs) = refl
@@ -310,16 +313,16 @@ equal-own : (p q : Bool) (s u : Simple) → q ≡ true → cond p s (cond p s (c
 equal-own true q s u h = refl
 equal-own false q s u h = ap (λ b. cond b s u) h
 
-join-other : (s t : Simple) → (s ≡ null → ⊥) → (t ≡ null → ⊥) → (s ≡ t → ⊥) → flat-join s t ≡ any
+join-other : (s t : Simple) → (s ≡ null → ⊥) → (t ≡ null → ⊥) → (s ≡ t → ⊥) → flatJoin s t ≡ any
 join-other s t h k d =
     cond-no (same s null) t _ (λ e. h (same-eq s null e)) ∙ cond-no (same t null) s _ (λ e. k (same-eq t null e)) ∙ cond-no (same s t) s any (λ e. d (same-eq s t e))
 
-meet-other : (s t : Simple) → (s ≡ any → ⊥) → (t ≡ any → ⊥) → (s ≡ t → ⊥) → flat-meet s t ≡ null
+meet-other : (s t : Simple) → (s ≡ any → ⊥) → (t ≡ any → ⊥) → (s ≡ t → ⊥) → flatMeet s t ≡ null
 meet-other s t h k d =
     cond-no (same s any) t _ (λ e. h (same-eq s any e)) ∙ cond-no (same t any) s _ (λ e. k (same-eq t any e)) ∙ cond-no (same s t) s null (λ e. d (same-eq s t e))
 
-counted : same-count no-params no-params ≡ true
-unfolding same-count
+counted : sameCount no-params no-params ≡ true
+unfolding sameCount
 counted = refl
 
 supertype-sentences : SupertypeSentences
@@ -331,7 +334,7 @@ supertype-sentences = record {
   lists = sup-lists fixed;
   ranges = sup-ranges fixed;
   contexts = sup-contexts fixed;
-  common-names = λ n fs gs. look-reduce n (common fixed fs gs) ∙ ap (mapped reducedForm) (look-common n fs gs) ∙ mapped-both (λ x y. bound fixed up x y) (look n fs) (look n gs);
+  common-names = λ n fs gs. look-reduce n (intersectWith fixed fs gs) ∙ ap (mapped reducedForm) (look-common n fs gs) ∙ mapped-both (λ x y. bound fixed up x y) (lookup n fs) (lookup n gs);
   functions = λ ps qs r s h k. sup-functions fixed ps qs r s h ∙ ap₂ (λ x q. built (function x (cond q (leaf any) (supertype r s)))) (sub-pairs ps qs) k;
   plain-functions = λ r s. sup-functions fixed no-params no-params r s counted;
   other-simple = λ s t h k d. sup-simple fixed s t ∙ ap leaf (join-other s t h k d);
@@ -351,7 +354,7 @@ subtype-sentences = record {
   ranges = sub-ranges fixed;
   contexts = sub-contexts fixed;
   all-names = λ n fs gs v w.
-      look-reduce n (merge fixed fs gs) ∙ ap (mapped reducedForm) (look-merge n 0 fs gs v w) ∙ mapped-either (λ x y. bound fixed down x y) (look n fs) (look n gs);
+      look-reduce n (merge fixed fs gs) ∙ ap (mapped reducedForm) (look-merge n 0 fs gs v w) ∙ mapped-either (λ x y. bound fixed down x y) (lookup n fs) (lookup n gs);
   functions = λ ps qs r s h k. sub-functions fixed ps qs r s h ∙ ap₂ (λ x q. built (function x (cond q (leaf any) (subtype r s)))) (sup-pairs ps qs) k;
   plain-functions = λ r s. sub-functions fixed no-params no-params r s counted;
   other-simple = λ s t h k d. sub-simple fixed s t ∙ ap leaf (meet-other s t h k d);
@@ -364,7 +367,7 @@ subtype-sentences = record {
 -- ---- value against type
 any-value : (v : Val) → valueConformsTo v (leaf any) ≡ true
 unfolding conforms
-any-value (v-leaf l) = le-any fixed fixed-laws (leaf (leaf-type l))
+any-value (v-leaf l) = le-any fixed fixed-laws (leaf (leafType l))
 any-value (v-range i j v w) = refl
 any-value (v-list vs) = refl
 any-value (v-context es) = refl
@@ -377,15 +380,15 @@ any-value v-irrelevant = refl
 not-any : (s : Simple) → (leaf s ≡ leaf any → ⊥) → flat any s ≡ false
 not-any s h = not-true (flat any s) (not-above-any s (λ e. h (ap leaf e)))
 
-own-type : (l : Leaf) (t : Ty) → (leaf-type l ≡ null → ⊥) → (t ≡ leaf any → ⊥) → (valueConformsTo (v-leaf l) t ≡ true) ↔ (t ≡ leaf (leaf-type l))
+own-type : (l : Leaf) (t : Ty) → (leafType l ≡ null → ⊥) → (t ≡ leaf any → ⊥) → (valueConformsTo (v-leaf l) t ≡ true) ↔ (t ≡ leaf (leafType l))
 unfolding conforms cmp
 own-type l (leaf s) h k = (
-  λ e. ap leaf (sym (flat-only (leaf-type l) s h (λ x. k (ap leaf x)) e)),
-  λ e. subst (λ t. conformsTo (leaf (leaf-type l)) t ≡ true) (sym e) (fixed-laws .reflexive (leaf-type l)),
+  λ e. ap leaf (sym (flat-only (leafType l) s h (λ x. k (ap leaf x)) e)),
+  λ e. subst (λ t. conformsTo (leaf (leafType l)) t ≡ true) (sym e) (fixed-laws .reflexive (leafType l)),
 )
-own-type l (built y) h k = (λ e. absurd (not-below-null (leaf-type l) h e), λ e. absurd (let z : _≡_ {A = ℕ} 0 1 = cc in omega arith))
+own-type l (built y) h k = (λ e. absurd (not-below-null (leafType l) h e), λ e. absurd (let z : _≡_ {A = ℕ} 0 1 = cc in omega arith))
 
-every-item : (vs : Vals) (u : Ty) → all-conform fixed vs u ≡ allItems (λ v. valueConformsTo v u) vs
+every-item : (vs : Vals) (u : Ty) → allConform fixed vs u ≡ allItems (λ v. valueConformsTo v u) vs
 unfolding conforms allItems
 every-item no-items u = refl
 every-item (item v vs) u = ap (λ x. valueConformsTo v u && x) (every-item vs u)
@@ -422,7 +425,7 @@ no-function ps b r (built (range u)) h k = refl
 no-function ps b r (built (context fs)) h k = refl
 no-function ps b r (built (function qs s)) h k = absurd (k qs s refl)
 
-only-any : (t : Ty) → (t ≡ leaf any → ⊥) → is-any fixed t ≡ false
+only-any : (t : Ty) → (t ≡ leaf any → ⊥) → isAny fixed t ≡ false
 only-any (leaf s) h = not-any s h
 only-any (built y) h = refl
 
@@ -448,22 +451,22 @@ value-sentences = record {
 }
 
 -- ---- least type
-every-data : (vs : Vals) → are-data fixed vs ≡ allItems isData vs
-unfolding is-data allItems
+every-data : (vs : Vals) → areData fixed vs ≡ allItems isData vs
+unfolding isDataBy allItems
 every-data no-items = refl
 every-data (item v vs) = ap (λ x. isData v && x) (every-data vs)
 
-every-entry : (es : Entries) → hold-data fixed es ≡ allEntries isData es
-unfolding is-data allEntries
+every-entry : (es : Entries) → holdData fixed es ≡ allEntries isData es
+unfolding isDataBy allEntries
 every-entry no-entries = refl
 every-entry (entry n v es) = ap (λ x. isData v && x) (every-entry es)
 
-least-each : (es : Entries) → least-entries fixed es ≡ eachEntry leastType es
+least-each : (es : Entries) → leastEntries fixed es ≡ eachEntry leastType es
 unfolding least eachEntry
 least-each no-entries = refl
 least-each (entry n v es) = ap (field n (leastType v)) (least-each es)
 
-items-below-type : (vs : Vals) (t u : Ty) → conformsTo (least-items fixed vs t) u ≡ conformsTo t u && allItems (λ v. conformsTo (leastType v) u) vs
+items-below-type : (vs : Vals) (t u : Ty) → conformsTo (leastItems fixed vs t) u ≡ conformsTo t u && allItems (λ v. conformsTo (leastType v) u) vs
 unfolding least allItems
 items-below-type no-items t u = sym (and-true (conformsTo t u))
 items-below-type (item v vs) t u =
@@ -471,7 +474,7 @@ items-below-type (item v vs) t u =
     ∙ and-assoc (conformsTo t u) (conformsTo (leastType v) u) (allItems (λ w. conformsTo (leastType w) u) vs)
 
 least-type-sentences : LeastTypeSentences
-unfolding is-data least cmp
+unfolding isDataBy least cmp
 least-type-sentences = record {
   data-leaf = λ l. refl;
   data-range = λ i j v w. refl;
@@ -489,12 +492,12 @@ least-type-sentences = record {
 }
 
 -- ---- the inferred type
-type-each : (es : Entries) → entry-types es ≡ eachEntry typeOf es
+type-each : (es : Entries) → entryTypes es ≡ eachEntry typeOf es
 unfolding typeOf eachEntry
 type-each no-entries = refl
 type-each (entry n v es) = ap (field n (typeOf v)) (type-each es)
 
-every-type : (vs : Vals) (t : Ty) → items-below vs (some t) ≡ allItems (λ w. conformsTo (typeOf w) t) vs
+every-type : (vs : Vals) (t : Ty) → itemsBelow vs (some t) ≡ allItems (λ w. conformsTo (typeOf w) t) vs
 unfolding typeOf allItems
 every-type no-items t = refl
 every-type (item v vs) t = ap (λ x. conformsTo (typeOf v) t && x) (every-type vs t)

@@ -1,4 +1,7 @@
 -- The laws of an order among the ten simple types, from tests that are computed over them.
+-- Idea: a law over one, two or three simple types is a test at all of them (`every-at`, `every₂-at`, `every₃-at`).
+-- Index: `Tested`, `laws-of`, `flat-laws`, `fixed-laws` (the laws of an order); `scmp-refl`, `scmp-trans`, `scmp-bottom`, `scmp-top`, `scmp-bound`, `top-bottom` (in a direction);
+-- `same-eq`; `temporal-code`; `and-left`, `and-right`, `and-both`, `imp-use`, `beq-use` (tests).
 -- Assumes nothing.
 use Prim.Native.Nat.{_+_}
 use mathlib.Core.Path.{_≡_, refl, sym, _∙_, ap}
@@ -7,10 +10,10 @@ use mathlib.Core.List.{List, [], _∷_}
 use lib.Dec.{eqb}
 use borrow.Author.Tests.{eqb-true}
 use Rattle.form.specs.Trees.{Simple, any, boolean, number, string, date, time, dateTime, daysAndTime, yearsAndMonths, null, code, decode, Temporal, on-date, at-time, at-dateTime, for-daysAndTime}
-use Rattle.form.specs.Trees.{for-yearsAndMonths, code-temporal}
+use Rattle.form.specs.Trees.{for-yearsAndMonths, codeTemporal}
 use Rattle.form.proofs.ExactTypes.{decode-code}
-use Rattle.order.specs.Order.{same, Dir, up, down, Order, top, bottom, scmp, sbound, Laws, flat-order, fixed}
-use Rattle.order.specs.Values.{temporal-type}
+use Rattle.order.specs.Order.{same, Dir, up, down, Order, top, bottom, scmp, sbound, Laws, flatOrder, fixed}
+use Rattle.order.specs.Values.{temporalType}
 
 pub same-eq : (s t : Simple) → same s t ≡ true → s ≡ t
 same-eq s t e = sym (decode-code s) ∙ ap decode (eqb-true (code s) (code t) e) ∙ decode-code t
@@ -115,9 +118,9 @@ laws-of O c =
       meet-greatest = λ s t u. beq-use _ _ (every₃-at (meet-test O) (c .meet-greatest) s t u);
     }
 
-pub flat-laws : (b : Bool) → Laws (flat-order b)
+pub flat-laws : (b : Bool) → Laws (flatOrder b)
 flat-laws b =
-    laws-of (flat-order b)
+    laws-of (flatOrder b)
     (record {
       reflexive = refl;
       transitive = refl;
@@ -163,7 +166,7 @@ module _ (O : Order) (L : Laws O) where
   top-bottom down = any-null (O .sle any null) refl
 
 -- the type of a date and time value by its number
-pub temporal-code : (k : Temporal) → code (temporal-type k) ≡ 4 + code-temporal k
+pub temporal-code : (k : Temporal) → code (temporalType k) ≡ 4 + codeTemporal k
 temporal-code on-date = refl
 temporal-code at-time = refl
 temporal-code at-dateTime = refl

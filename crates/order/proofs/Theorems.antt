@@ -1,5 +1,5 @@
--- The theorems on types hold over every order, and so for document 01's. Idea: one equation for each of supertype and subtype (proofs/Bound.antt), from which
--- the rest follows (proofs/Laws.antt); the numbers in an answer fit (proofs/WellFormed.antt).
+-- The theorems on types hold over every order (`theorems`), and so for document 01's (`document`). Idea: one equation for each of supertype and subtype (proofs/Bound.antt),
+-- from which the rest follows (proofs/Laws.antt); the numbers in an answer fit (proofs/WellFormed.antt).
 -- Assumes nothing.
 use native.Mathlib.Omega.{arith}
 use Rattle.order.specs.Order.{Order, Laws, fixed}
@@ -15,7 +15,7 @@ use Rattle.order.proofs.Reduced.{wf-reduce}
 pub theorems : (O : Order) → Laws O → Theorems O
 theorems O L = record {
   reflexive = λ a v. laws.le-refl O L a (asc-of a v);
-  transitive = laws.le-through O L;
+  transitive = laws.le-trans O L;
   supertype-key = laws.le-sup O L;
   subtype-key = laws.le-sub O L;
   supertype-above = λ a b v w. let s = asc-sup O a b (asc-of a v) (asc-of b w) in (laws.sup-left O L a b s, laws.sup-right O L a b s);

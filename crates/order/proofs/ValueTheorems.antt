@@ -1,5 +1,6 @@
 -- The theorems on data values hold over every order, and so for document 01's; and those on the inferred type. Idea: a value conforms as its least type
 -- does (proofs/Least.antt); sizes and levels are counted on the trees (proofs/LeastSize.antt, proofs/TypeOf.antt).
+-- Index: `value-theorems`, `document-values`, `inferred-type`.
 -- Assumes nothing.
 use native.Mathlib.Omega.{arith}
 use Rattle.form.specs.Form.{Wf}

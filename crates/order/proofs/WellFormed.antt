@@ -1,4 +1,6 @@
 -- Well-formed types: their names ascend, and the answers of well-formed types are well-formed, as long as a count of names fits its 16 bits.
+-- Idea: well-formed means ascending names and numbers that fit; a context has fewer names than bytes.
+-- Index: `wf-sup`, `wf-sub` (answers); `asc-of`, `fits-of`, `wf-of`, `Fits` (well-formed in two parts).
 -- Assumes nothing.
 use Prim.Native.Nat.{ℕ, _+_, _<_, _≤_}
 use native.Mathlib.Omega.{arith}
@@ -9,7 +11,7 @@ use Rattle.form.specs.Form.{countFields, Wf, WfBuilt, WfFields, WfTys}
 use Rattle.order.specs.Order.{Order}
 use Rattle.order.specs.Types.{sup, sub}
 use Rattle.order.specs.Ascending.{Asc, AscBuilt, AscFields, AscTys}
-use Rattle.order.specs.Size.{size, size-built, size-fields, size-tys}
+use Rattle.order.specs.Size.{size, sizeBuilt, sizeFields, sizeTys}
 use Rattle.order.proofs.Answers.{asc-sup, asc-sub}
 use Rattle.order.proofs.Holds.{Holds, HoldsBuilt, HoldsFields, HoldsTys, holds-sup, holds-sub}
 use Rattle.order.proofs.Size.{size-positive, size-sup, size-sub}
@@ -61,7 +63,7 @@ mutual
   fits-tys (param t ts) w = (fits-of t (w .0), fits-tys ts (w .1))
 
 -- a context has fewer names than bytes
-count-size : (fs : Fields) → countFields fs ≤ size-fields fs
+count-size : (fs : Fields) → countFields fs ≤ sizeFields fs
 unfolding size countFields
 count-size no-fields = omega arith
 count-size (field m t fs) = omega (arith, count-size fs, size-positive t)
@@ -73,17 +75,17 @@ mutual
   wf-of (leaf s) a f h = tt
   wf-of (built x) a f h = wf-built x a f h
 
-  wf-built : (x : Built) → AscBuilt x → HoldsBuilt (λ n. n < nameEnd) (λ c. c < 256) x → size-built x < 65536 → WfBuilt x
+  wf-built : (x : Built) → AscBuilt x → HoldsBuilt (λ n. n < nameEnd) (λ c. c < 256) x → sizeBuilt x < 65536 → WfBuilt x
   wf-built (list t) a f h = wf-of t a f (omega arith)
   wf-built (range t) a f h = wf-of t a f (omega arith)
   wf-built (context fs) a f h = (omega (arith, count-size fs), wf-fields fs 0 a f (omega arith))
   wf-built (function ts t) a f h = (f .0, (wf-tys ts (a .0) (f .1) (omega arith), wf-of t (a .1) (f .2) (omega arith)))
 
-  wf-fields : (fs : Fields) (k : ℕ) → AscFields fs k → HoldsFields (λ n. n < nameEnd) (λ c. c < 256) fs → size-fields fs < 65536 → WfFields fs k
+  wf-fields : (fs : Fields) (k : ℕ) → AscFields fs k → HoldsFields (λ n. n < nameEnd) (λ c. c < 256) fs → sizeFields fs < 65536 → WfFields fs k
   wf-fields no-fields k a f h = tt
   wf-fields (field m t fs) k a f h = (a .0, (f .0, (wf-of t (a .1) (f .1) (omega arith), wf-fields fs (m + 1) (rw (add-one m) (a .2)) (f .2) (omega arith))))
 
-  wf-tys : (ts : Tys) → AscTys ts → HoldsTys (λ n. n < nameEnd) (λ c. c < 256) ts → size-tys ts < 65536 → WfTys ts
+  wf-tys : (ts : Tys) → AscTys ts → HoldsTys (λ n. n < nameEnd) (λ c. c < 256) ts → sizeTys ts < 65536 → WfTys ts
   wf-tys no-params a f h = tt
   wf-tys (param t ts) a f h = (wf-of t (a .0) (f .0) (omega arith), wf-tys ts (a .1) (f .1) (omega arith))
 

@@ -6,13 +6,13 @@ use mathlib.Core.Bool.{Bool, true, cond, _&&_}
 use mathlib.Core.Option.{Option, none, some}
 use lib.Dec.{eqb}
 use Rattle.form.specs.Trees.{Ty, leaf, built, Built, list, range, context, function, Fields, no-fields, field, Tys, no-params, param, Params}
-use Rattle.order.specs.Order.{Dir, up, down, flip, pick, Order, flat-order}
-use Rattle.order.specs.Types.{look, all-fields, empty, cmp, le}
-use Rattle.order.specs.Values.{types-of}
+use Rattle.order.specs.Order.{Dir, up, down, flip, pick, Order, flatOrder}
+use Rattle.order.specs.Types.{lookup, allFields, empty, cmp, le}
+use Rattle.order.specs.Values.{typesOf}
 
 -- the ten simple types as in document 01, every function judged by its result
 abbrev pub strictOrder : Order
-strictOrder = flat-order true
+strictOrder = flatOrder true
 
 -- A ≤ B by DMN
 abbrev pub dmnConformsTo : Ty → Ty → Bool
@@ -29,40 +29,40 @@ unfoldable mutual
   pub results : Dir → Ty → Ty → Bool
   results d (leaf s) b = true
   results d (built x) (leaf t) = true
-  results d (built x) (built y) = results-built d x y
+  results d (built x) (built y) = resultsBuilt d x y
 
-  pub results-built : Dir → Built → Built → Bool
-  results-built d (list a) (list b) = results d a b
-  results-built d (list a) (range b) = true
-  results-built d (list a) (context gs) = true
-  results-built d (list a) (function qs s) = true
-  results-built d (range a) (list b) = true
-  results-built d (range a) (range b) = results d a b
-  results-built d (range a) (context gs) = true
-  results-built d (range a) (function qs s) = true
-  results-built d (context fs) (list b) = true
-  results-built d (context fs) (range b) = true
-  results-built d (context fs) (context gs) = pick d (all-fields (λ n t. results-has fs n t) gs) (results-within fs gs)
-  results-built d (context fs) (function qs s) = true
-  results-built d (function ps r) (list b) = true
-  results-built d (function ps r) (range b) = true
-  results-built d (function ps r) (context gs) = true
-  results-built d (function ps r) (function qs s) = results-tys (flip d) ps qs && cond (empty ps && empty qs) (cmp strictOrder d r s) (results d r s)
+  pub resultsBuilt : Dir → Built → Built → Bool
+  resultsBuilt d (list a) (list b) = results d a b
+  resultsBuilt d (list a) (range b) = true
+  resultsBuilt d (list a) (context gs) = true
+  resultsBuilt d (list a) (function qs s) = true
+  resultsBuilt d (range a) (list b) = true
+  resultsBuilt d (range a) (range b) = results d a b
+  resultsBuilt d (range a) (context gs) = true
+  resultsBuilt d (range a) (function qs s) = true
+  resultsBuilt d (context fs) (list b) = true
+  resultsBuilt d (context fs) (range b) = true
+  resultsBuilt d (context fs) (context gs) = pick d (allFields (λ n t. resultsHas fs n t) gs) (resultsWithin fs gs)
+  resultsBuilt d (context fs) (function qs s) = true
+  resultsBuilt d (function ps r) (list b) = true
+  resultsBuilt d (function ps r) (range b) = true
+  resultsBuilt d (function ps r) (context gs) = true
+  resultsBuilt d (function ps r) (function qs s) = resultsTys (flip d) ps qs && cond (empty ps && empty qs) (cmp strictOrder d r s) (results d r s)
 
   -- a name of the second context, where the first has it
-  pub results-has : Fields → ℕ → Ty → Bool
-  results-has no-fields n t = true
-  results-has (field m a fs) n t = cond (eqb n m) (results up a t) (results-has fs n t)
+  pub resultsHas : Fields → ℕ → Ty → Bool
+  resultsHas no-fields n t = true
+  resultsHas (field m a fs) n t = cond (eqb n m) (results up a t) (resultsHas fs n t)
 
   -- each name of the first context, where the second has it
-  pub results-within : Fields → Fields → Bool
-  results-within no-fields gs = true
-  results-within (field n a fs) gs = if-found (look n gs) (λ b. results down a b) && results-within fs gs
+  pub resultsWithin : Fields → Fields → Bool
+  resultsWithin no-fields gs = true
+  resultsWithin (field n a fs) gs = if-found (lookup n gs) (λ b. results down a b) && resultsWithin fs gs
 
-  pub results-tys : Dir → Tys → Tys → Bool
-  results-tys d no-params qs = true
-  results-tys d (param a ps) no-params = true
-  results-tys d (param a ps) (param b qs) = results d a b && results-tys d ps qs
+  pub resultsTys : Dir → Tys → Tys → Bool
+  resultsTys d no-params qs = true
+  resultsTys d (param a ps) no-params = true
+  resultsTys d (param a ps) (param b qs) = results d a b && resultsTys d ps qs
 
 -- wherever two functions without parameters meet in the comparison A ≤ B, the result of the one conforms to that of the other by DMN, in the direction compared there
 abbrev pub resultsConform : Ty → Ty → Bool
@@ -70,7 +70,7 @@ resultsConform a b = results up a b
 
 -- a function definition by DMN: as its function type
 abbrev pub definitionType : Params → Ty → Ty
-definitionType ps r = built (function (types-of ps) r)
+definitionType ps r = built (function (typesOf ps) r)
 
 -- at least one parameter
 abbrev pub Some : Tys → Type 0

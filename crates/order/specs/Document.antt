@@ -4,7 +4,7 @@ use mathlib.Core.Bool.{Bool, true, false, _&&_, _||_}
 use lib.Dec.{eqb}
 use Rattle.form.specs.Trees.{any, null, code, Ty, leaf, built, Built, list, range, context, function, Fields, no-fields, field, Tys, no-params, param}
 use Rattle.order.specs.Order.{fixed}
-use Rattle.order.specs.Types.{look, found, all-fields, le, reduce, sup, sub}
+use Rattle.order.specs.Types.{lookup, found, allFields, le, reduce, sup, sub}
 
 -- A ≤ B: `FeelType::is_conformant`
 abbrev pub conformsTo : Ty → Ty → Bool
@@ -73,7 +73,7 @@ instanceBuilt (list a) (function qs s) = false
 instanceBuilt (range a) y = false
 instanceBuilt (context fs) (list b) = false
 instanceBuilt (context fs) (range b) = false
-instanceBuilt (context fs) (context gs) = eqFields fs gs || all-fields (λ n t. found (look n fs) (λ a. nullOrSame a t)) gs
+instanceBuilt (context fs) (context gs) = eqFields fs gs || allFields (λ n t. found (lookup n fs) (λ a. nullOrSame a t)) gs
 instanceBuilt (context fs) (function qs s) = false
 instanceBuilt (function ps r) y = false
 

@@ -1,5 +1,5 @@
 -- An order among the ten simple types, and what it must obey.
--- Everything about types is stated over an `Order`. Two stand here: `fixed`, document 01's relation, and `flat-order true`, which has the same simple types and
+-- Everything about types is stated over an `Order`. Two stand here: `fixed`, document 01's relation, and `flatOrder true`, which has the same simple types and
 -- judges every function by its result, as DMN does.
 -- Assumes nothing.
 use mathlib.Core.Path.{_≡_}
@@ -62,17 +62,17 @@ abbrev pub flat : Simple → Simple → Bool
 flat s t = same s null || (same t any || same s t)
 
 -- Null with T gives T; equal simple types give that type; all else Any
-abbrev pub flat-join : Simple → Simple → Simple
-flat-join s t = cond (same s null) t (cond (same t null) s (cond (same s t) s any))
+abbrev pub flatJoin : Simple → Simple → Simple
+flatJoin s t = cond (same s null) t (cond (same t null) s (cond (same s t) s any))
 
 -- Any with T gives T; equal simple types the same; all else Null
-abbrev pub flat-meet : Simple → Simple → Simple
-flat-meet s t = cond (same s any) t (cond (same t any) s (cond (same s t) s null))
+abbrev pub flatMeet : Simple → Simple → Simple
+flatMeet s t = cond (same s any) t (cond (same t any) s (cond (same s t) s null))
 
 -- the simple types of document 01; true: every function is judged by its result
-abbrev pub flat-order : Bool → Order
-flat-order b = record { strict = b; sle = flat; sjoin = flat-join; smeet = flat-meet }
+abbrev pub flatOrder : Bool → Order
+flatOrder b = record { strict = b; sle = flat; sjoin = flatJoin; smeet = flatMeet }
 
 -- document 01's relation
 abbrev pub fixed : Order
-fixed = flat-order false
+fixed = flatOrder false

@@ -11,10 +11,10 @@ use Rattle.form.specs.Trees.{Simple, any, null, Ty, leaf, built, Built, list, r
 use Rattle.form.specs.Trees.{v-range, v-list, v-context, v-function, v-built-in, v-type, v-irrelevant, Vals, no-items, item, Entries, no-entries, entry}
 use Rattle.form.specs.Form.{enc, Wf}
 use Rattle.order.specs.Order.{fixed}
-use Rattle.order.specs.Types.{look, found, all-fields, empty, same-count, kind, les, sup-fields, sub-fields}
+use Rattle.order.specs.Types.{lookup, found, allFields, empty, sameCount, kind, les, supFields, subFields}
 use Rattle.order.specs.Ascending.{AscFields}
 use Rattle.order.specs.Document.{conformsTo, reducedForm, supertype, subtype, eqTy, isInstanceOf}
-use Rattle.order.specs.Values.{leaf-type, types-of, has-value}
+use Rattle.order.specs.Values.{leafType, typesOf, hasValue}
 use Rattle.order.specs.Inferred.{valueConformsTo, isData, leastType, typeOf}
 
 -- ---- words of the sentences
@@ -76,12 +76,12 @@ pub record TypeSentences : Type 0 where
   pub lists : (a b : Ty) → conformsTo (built (list a)) (built (list b)) ≡ conformsTo a b
   pub ranges : (a b : Ty) → conformsTo (built (range a)) (built (range b)) ≡ conformsTo a b
   -- Context: each name of B is in A with A's type ≤ B's
-  pub contexts : (fs gs : Fields) → conformsTo (built (context fs)) (built (context gs)) ≡ all-fields (λ n t. found (look n fs) (λ a. conformsTo a t)) gs
+  pub contexts : (fs gs : Fields) → conformsTo (built (context fs)) (built (context gs)) ≡ allFields (λ n t. found (lookup n fs) (λ a. conformsTo a t)) gs
   -- Function: equal parameter counts, each parameter of B ≤ that of A, result of A ≤ that of B
   pub functions : (ps qs : Tys) (r s : Ty) → empty ps ≡ false
       → conformsTo (built (function ps r)) (built (function qs s)) ≡ les fixed qs ps && conformsTo r s
   -- (les: the counts are equal, and each of the first ≤ that of the second)
-  pub counts : (ps qs : Tys) → same-count ps qs ≡ false → les fixed ps qs ≡ false
+  pub counts : (ps qs : Tys) → sameCount ps qs ≡ false → les fixed ps qs ≡ false
   pub no-parameters : les fixed no-params no-params ≡ true
   pub parameters : (a b : Ty) (ps qs : Tys) → les fixed (param a ps) (param b qs) ≡ conformsTo a b && les fixed ps qs
   -- with no parameters the Rust never looks at the result
@@ -109,10 +109,10 @@ pub record SupertypeSentences : Type 0 where
   pub lists : (a b : Ty) → supertype (built (list a)) (built (list b)) ≡ built (list (supertype a b))
   pub ranges : (a b : Ty) → supertype (built (range a)) (built (range b)) ≡ built (range (supertype a b))
   -- contexts keep common names, each at its supertype
-  pub contexts : (fs gs : Fields) → supertype (built (context fs)) (built (context gs)) ≡ built (context (sup-fields fixed fs gs))
-  pub common-names : (n : ℕ) (fs gs : Fields) → look n (sup-fields fixed fs gs) ≡ inBoth supertype (look n fs) (look n gs)
+  pub contexts : (fs gs : Fields) → supertype (built (context fs)) (built (context gs)) ≡ built (context (supFields fixed fs gs))
+  pub common-names : (n : ℕ) (fs gs : Fields) → lookup n (supFields fixed fs gs) ≡ inBoth supertype (lookup n fs) (lookup n gs)
   -- functions of equal count above 0 take subtypes of parameters and supertype of results
-  pub functions : (ps qs : Tys) (r s : Ty) → same-count ps qs ≡ true → empty ps ≡ false
+  pub functions : (ps qs : Tys) (r s : Ty) → sameCount ps qs ≡ true → empty ps ≡ false
       → supertype (built (function ps r)) (built (function qs s)) ≡ built (function (eachPair subtype ps qs) (supertype r s))
   -- of count 0, function to Any
   pub plain-functions : (r s : Ty) → supertype (built (function no-params r)) (built (function no-params s)) ≡ built (function no-params (leaf any))
@@ -121,7 +121,7 @@ pub record SupertypeSentences : Type 0 where
   pub simple-built : (s : Simple) (y : Built) → (s ≡ null → ⊥) → supertype (leaf s) (built y) ≡ leaf any
   pub built-simple : (x : Built) (t : Simple) → (t ≡ null → ⊥) → supertype (built x) (leaf t) ≡ leaf any
   pub unlike-kinds : (x y : Built) → (kind x ≡ kind y → ⊥) → supertype (built x) (built y) ≡ leaf any
-  pub unlike-counts : (ps qs : Tys) (r s : Ty) → same-count ps qs ≡ false → supertype (built (function ps r)) (built (function qs s)) ≡ leaf any
+  pub unlike-counts : (ps qs : Tys) (r s : Ty) → sameCount ps qs ≡ false → supertype (built (function ps r)) (built (function qs s)) ≡ leaf any
 
 pub record SubtypeSentences : Type 0 where
   -- Any with T gives T
@@ -133,10 +133,10 @@ pub record SubtypeSentences : Type 0 where
   pub lists : (a b : Ty) → subtype (built (list a)) (built (list b)) ≡ built (list (subtype a b))
   pub ranges : (a b : Ty) → subtype (built (range a)) (built (range b)) ≡ built (range (subtype a b))
   -- contexts take all names, common ones at their subtype
-  pub contexts : (fs gs : Fields) → subtype (built (context fs)) (built (context gs)) ≡ built (context (sub-fields fixed fs gs))
-  pub all-names : (n : ℕ) (fs gs : Fields) → AscFields fs 0 → AscFields gs 0 → look n (sub-fields fixed fs gs) ≡ inEither subtype reducedForm (look n fs) (look n gs)
+  pub contexts : (fs gs : Fields) → subtype (built (context fs)) (built (context gs)) ≡ built (context (subFields fixed fs gs))
+  pub all-names : (n : ℕ) (fs gs : Fields) → AscFields fs 0 → AscFields gs 0 → lookup n (subFields fixed fs gs) ≡ inEither subtype reducedForm (lookup n fs) (lookup n gs)
   -- functions of equal count take supertypes of parameters and subtype of results
-  pub functions : (ps qs : Tys) (r s : Ty) → same-count ps qs ≡ true → empty ps ≡ false
+  pub functions : (ps qs : Tys) (r s : Ty) → sameCount ps qs ≡ true → empty ps ≡ false
       → subtype (built (function ps r)) (built (function qs s)) ≡ built (function (eachPair supertype ps qs) (subtype r s))
   -- of count 0 as above
   pub plain-functions : (r s : Ty) → subtype (built (function no-params r)) (built (function no-params s)) ≡ built (function no-params (leaf any))
@@ -145,7 +145,7 @@ pub record SubtypeSentences : Type 0 where
   pub simple-built : (s : Simple) (y : Built) → (s ≡ any → ⊥) → subtype (leaf s) (built y) ≡ leaf null
   pub built-simple : (x : Built) (t : Simple) → (t ≡ any → ⊥) → subtype (built x) (leaf t) ≡ leaf null
   pub unlike-kinds : (x y : Built) → (kind x ≡ kind y → ⊥) → subtype (built x) (built y) ≡ leaf null
-  pub unlike-counts : (ps qs : Tys) (r s : Ty) → same-count ps qs ≡ false → subtype (built (function ps r)) (built (function qs s)) ≡ leaf null
+  pub unlike-counts : (ps qs : Tys) (r s : Ty) → sameCount ps qs ≡ false → subtype (built (function ps r)) (built (function qs s)) ≡ leaf null
 
 -- ---- Value against type
 pub record ValueSentences : Type 0 where
@@ -154,18 +154,18 @@ pub record ValueSentences : Type 0 where
   -- Null value yes
   pub null-value : (n : ℕ) (t : Ty) → valueConformsTo (v-leaf (l-null n)) t ≡ true
   -- simple kinds to their own type
-  pub simple-kinds : (l : Leaf) (t : Ty) → (leaf-type l ≡ null → ⊥) → (t ≡ leaf any → ⊥) → (valueConformsTo (v-leaf l) t ≡ true) ↔ (t ≡ leaf (leaf-type l))
+  pub simple-kinds : (l : Leaf) (t : Ty) → (leafType l ≡ null → ⊥) → (t ≡ leaf any → ⊥) → (valueConformsTo (v-leaf l) t ≡ true) ↔ (t ≡ leaf (leafType l))
   -- Range both ends, against the inner type
   pub ranges : (i j : ℕ) (v w : Val) (u : Ty) → valueConformsTo (v-range i j v w) (built (range u)) ≡ valueConformsTo v u && valueConformsTo w u
   -- List every item
   pub lists : (vs : Vals) (u : Ty) → valueConformsTo (v-list vs) (built (list u)) ≡ allItems (λ v. valueConformsTo v u) vs
   -- Context every name of the type present and conformant
-  pub contexts : (es : Entries) (fs : Fields) → valueConformsTo (v-context es) (built (context fs)) ≡ all-fields (λ n u. has-value fixed es n u) fs
-  pub absent : (n : ℕ) (u : Ty) → has-value fixed no-entries n u ≡ false
-  pub present : (n m : ℕ) (v : Val) (es : Entries) (u : Ty) → has-value fixed (entry m v es) n u ≡ cond (eqb n m) (valueConformsTo v u) (has-value fixed es n u)
+  pub contexts : (es : Entries) (fs : Fields) → valueConformsTo (v-context es) (built (context fs)) ≡ allFields (λ n u. hasValue fixed es n u) fs
+  pub absent : (n : ℕ) (u : Ty) → hasValue fixed no-entries n u ≡ false
+  pub present : (n m : ℕ) (v : Val) (es : Entries) (u : Ty) → hasValue fixed (entry m v es) n u ≡ cond (eqb n m) (valueConformsTo v u) (hasValue fixed es n u)
   -- FunctionDefinition: equal count, result ≤ result, each own parameter ≤ the target's
   pub definitions : (ps : Params) (b : ℕ) (r : Ty) (qs : Tys) (s : Ty)
-      → valueConformsTo (v-function ps b r) (built (function qs s)) ≡ les fixed (types-of ps) qs && conformsTo r s
+      → valueConformsTo (v-function ps b r) (built (function qs s)) ≡ les fixed (typesOf ps) qs && conformsTo r s
   -- Others no
   pub other-range : (i j : ℕ) (v w : Val) (t : Ty) → (t ≡ leaf any → ⊥) → ((u : Ty) → t ≡ built (range u) → ⊥) → valueConformsTo (v-range i j v w) t ≡ false
   pub other-list : (vs : Vals) (t : Ty) → (t ≡ leaf any → ⊥) → ((u : Ty) → t ≡ built (list u) → ⊥) → valueConformsTo (v-list vs) t ≡ false
@@ -188,7 +188,7 @@ pub record LeastTypeSentences : Type 0 where
   pub no-type : (t : Ty) → isData (v-type t) ≡ false
   pub no-irrelevant : isData v-irrelevant ≡ false
   -- Leaves: their type
-  pub leaves : (l : Leaf) → leastType (v-leaf l) ≡ leaf (leaf-type l)
+  pub leaves : (l : Leaf) → leastType (v-leaf l) ≡ leaf (leafType l)
   -- Context: each name with its value's least type
   pub contexts : (es : Entries) → leastType (v-context es) ≡ built (context (eachEntry leastType es))
   -- List: List of the supertype of all items' least types, starting from Null
@@ -201,7 +201,7 @@ pub record LeastTypeSentences : Type 0 where
 -- ---- Type as the Rust infers it
 pub record InferredSentences : Type 0 where
   -- `type_of`: as above
-  pub leaves : (l : Leaf) → typeOf (v-leaf l) ≡ leaf (leaf-type l)
+  pub leaves : (l : Leaf) → typeOf (v-leaf l) ≡ leaf (leafType l)
   pub contexts : (es : Entries) → typeOf (v-context es) ≡ built (context (eachEntry typeOf es))
   -- except List is List<Any> unless every item's type ≤ the first's
   pub lists : (v : Val) (vs : Vals) → typeOf (v-list (item v vs)) ≡ built (list (cond (allItems (λ w. conformsTo (typeOf w) (typeOf v)) (item v vs)) (typeOf v) (leaf any)))
@@ -210,7 +210,7 @@ pub record InferredSentences : Type 0 where
   -- Range of unequal end types is Range<Any>
   pub ranges : (i j : ℕ) (v w : Val) → typeOf (v-range i j v w) ≡ built (range (cond (eqTy (typeOf v) (typeOf w)) (typeOf v) (leaf any)))
   -- 0C its Function type
-  pub definitions : (ps : Params) (b : ℕ) (r : Ty) → typeOf (v-function ps b r) ≡ built (function (types-of ps) r)
+  pub definitions : (ps : Params) (b : ℕ) (r : Ty) → typeOf (v-function ps b r) ≡ built (function (typesOf ps) r)
   -- 0E its type
   pub types : (t : Ty) → typeOf (v-type t) ≡ t
   -- 0D and 0F Any
@@ -221,7 +221,7 @@ pub record InferredSentences : Type 0 where
   -- for contexts when equal, or each name of the other is in self with Null or the equal type
   pub context-instances : (fs gs : Fields)
       → isInstanceOf (built (context fs)) (built (context gs))
-      ≡ eqTy (built (context fs)) (built (context gs)) || all-fields (λ n t. found (look n fs) (λ a. eqTy a (leaf null) || eqTy a t)) gs
+      ≡ eqTy (built (context fs)) (built (context gs)) || allFields (λ n t. found (lookup n fs) (λ a. eqTy a (leaf null) || eqTy a t)) gs
   -- otherwise no, even number against number
   pub no-instances : (a b : Ty) → ((x y : Ty) → a ≡ built (list x) → b ≡ built (list y) → ⊥)
       → ((fs gs : Fields) → a ≡ built (context fs) → b ≡ built (context gs) → ⊥) → isInstanceOf a b ≡ false

@@ -9,48 +9,48 @@ use Rattle.form.specs.Limits.{nameWidth}
 unfoldable mutual
   pub size : Ty → ℕ
   size (leaf s) = 1
-  size (built x) = size-built x
+  size (built x) = sizeBuilt x
 
-  pub size-built : Built → ℕ
-  size-built (list t) = 1 + size t
-  size-built (range t) = 1 + size t
-  size-built (context fs) = 3 + size-fields fs
-  size-built (function ps r) = 2 + size-tys ps + size r
+  pub sizeBuilt : Built → ℕ
+  sizeBuilt (list t) = 1 + size t
+  sizeBuilt (range t) = 1 + size t
+  sizeBuilt (context fs) = 3 + sizeFields fs
+  sizeBuilt (function ps r) = 2 + sizeTys ps + size r
 
-  pub size-fields : Fields → ℕ
-  size-fields no-fields = 0
-  size-fields (field n t fs) = nameWidth + size t + size-fields fs
+  pub sizeFields : Fields → ℕ
+  sizeFields no-fields = 0
+  sizeFields (field n t fs) = nameWidth + size t + sizeFields fs
 
-  pub size-tys : Tys → ℕ
-  size-tys no-params = 0
-  size-tys (param t ps) = size t + size-tys ps
+  pub sizeTys : Tys → ℕ
+  sizeTys no-params = 0
+  sizeTys (param t ps) = size t + sizeTys ps
 
-abbrev pub size-leaf : Leaf → ℕ
-size-leaf (l-null t) = 2
-size-leaf (l-boolean b) = 2
-size-leaf (l-number k) = 9
-size-leaf (l-string n) = 1 + nameWidth
-size-leaf (l-temporal t k) = 9
+abbrev pub sizeLeaf : Leaf → ℕ
+sizeLeaf (l-null t) = 2
+sizeLeaf (l-boolean b) = 2
+sizeLeaf (l-number k) = 9
+sizeLeaf (l-string n) = 1 + nameWidth
+sizeLeaf (l-temporal t k) = 9
 
-unfoldable pub size-params : Params → ℕ
-size-params no-parameters = 0
-size-params (parameter m t ps) = nameWidth + size t + size-params ps
+unfoldable pub sizeParams : Params → ℕ
+sizeParams no-parameters = 0
+sizeParams (parameter m t ps) = nameWidth + size t + sizeParams ps
 
 unfoldable mutual
-  pub size-val : Val → ℕ
-  size-val (v-leaf l) = size-leaf l
-  size-val (v-range i j v w) = 3 + size-val v + size-val w
-  size-val (v-list vs) = 3 + size-vals vs
-  size-val (v-context es) = 3 + size-entries es
-  size-val (v-function ps b r) = 4 + size r + size-params ps
-  size-val (v-built-in n) = 2
-  size-val (v-type t) = 1 + size t
-  size-val v-irrelevant = 1
+  pub sizeVal : Val → ℕ
+  sizeVal (v-leaf l) = sizeLeaf l
+  sizeVal (v-range i j v w) = 3 + sizeVal v + sizeVal w
+  sizeVal (v-list vs) = 3 + sizeVals vs
+  sizeVal (v-context es) = 3 + sizeEntries es
+  sizeVal (v-function ps b r) = 4 + size r + sizeParams ps
+  sizeVal (v-built-in n) = 2
+  sizeVal (v-type t) = 1 + size t
+  sizeVal v-irrelevant = 1
 
-  pub size-vals : Vals → ℕ
-  size-vals no-items = 0
-  size-vals (item v vs) = size-val v + size-vals vs
+  pub sizeVals : Vals → ℕ
+  sizeVals no-items = 0
+  sizeVals (item v vs) = sizeVal v + sizeVals vs
 
-  pub size-entries : Entries → ℕ
-  size-entries no-entries = 0
-  size-entries (entry n v es) = nameWidth + size-val v + size-entries es
+  pub sizeEntries : Entries → ℕ
+  sizeEntries no-entries = 0
+  sizeEntries (entry n v es) = nameWidth + sizeVal v + sizeEntries es

@@ -10,14 +10,14 @@ use Rattle.form.specs.Trees.{Ty, Val}
 use Rattle.form.specs.Form.{enc, encV, level, levelV, Wf, WfV}
 use Rattle.order.specs.Order.{Order}
 use Rattle.order.specs.Types.{le, reduce}
-use Rattle.order.specs.Values.{conforms, is-data, least}
+use Rattle.order.specs.Values.{conforms, isDataBy, least}
 use Rattle.order.specs.Inferred.{typeOf}
 
 pub record ValueTheorems (O : Order) : Type 0 where
   -- a data value conforms to a type exactly when its least type does
-  pub by-least-type : (v : Val) (t : Ty) → is-data O v ≡ true → conforms O v t ≡ le O (least O v) t
+  pub by-least-type : (v : Val) (t : Ty) → isDataBy O v ≡ true → conforms O v t ≡ le O (least O v) t
   -- least types are equal exactly when no type has one of the two values conforming to it and the other not
-  pub equal-least-types : (v w : Val) → WfV v → WfV w → length (encV v) < 65536 → length (encV w) < 65536 → is-data O v ≡ true → is-data O w ≡ true
+  pub equal-least-types : (v w : Val) → WfV v → WfV w → length (encV v) < 65536 → length (encV w) < 65536 → isDataBy O v ≡ true → isDataBy O w ≡ true
       → (least O v ≡ least O w) ↔ ((t : Ty) → Wf t → conforms O v t ≡ conforms O w t)
   -- a least type is reduced; well-formed; never longer than its value; at most one level deeper
   pub least-reduced : (v : Val) → reduce O (least O v) ≡ least O v

@@ -1,4 +1,4 @@
--- The questions on a context beside each other. Each call is one function of the entries that were read, so a law on trees is one on calls.
+-- The questions on a context beside each other (`lookups`). Each call is one function of the entries that were read, so a law on trees is one on calls.
 -- Assumes nothing.
 use Prim.Native.Nat.{ℕ, suc, _+_}
 use native.Mathlib.Omega.{arith}
@@ -15,18 +15,18 @@ use Rattle.form.specs.Form.{num, countEntries}
 use Rattle.form.specs.Outcome.{Outcome, done, refused, _>>=_, _>>_}
 use Rattle.form.specs.Layout.{kindOf}
 use Rattle.form.specs.Read.{front, andThen, orElse, operand, named, readNamed, readFlag, counted, stepValue, stepV, readV, numberOf, all, readWhole}
-use Rattle.order.specs.Size.{size-val, size-entries}
+use Rattle.order.specs.Size.{sizeVal, sizeEntries}
 use Rattle.order.proofs.LeastSize.{length-encV}
-use Rattle.retrieval.specs.Retrieve.{mapped}
-use Rattle.retrieval.proofs.Contexts.{size-none}
-use Rattle.paths.specs.Paths.{value-of, below, entries-of, given, is-some, isContext, isEmpty, getFirst, search, containsDeep, entry-place, place}
+use Rattle.paths.specs.Paths.{valueOf, below, entriesOf, bind, isSome, isContext, isEmpty, getFirst, search, containsDeep, entryPlace, place}
 use Rattle.paths.specs.Places.{Spot, spot, spotIn}
 use Rattle.paths.specs.Calls.{contextOf, searchDeepCall, getEntryCall, getFirstCall, containsDeepCall}
 use Rattle.paths.specs.Laws.{twice, holdsContext, StandsAt, Lookups}
 use Rattle.paths.proofs.Whole.{of-context}
-use Rattle.paths.proofs.Finding.{value-first, below-none}
-use Rattle.paths.proofs.Searching.{contains-deep, Stands}
-use Rattle.paths.proofs.Calling.{AllStand, entry-call, stand-deep, stand-entry, stand-first}
+use Rattle.paths.proofs.FindLoops.{value-first, below-none}
+use Rattle.paths.proofs.PathSearch.{contains-deep, Stands}
+use Rattle.paths.proofs.CallContracts.{AllStand, entry-call, stand-deep, stand-entry, stand-first}
+use Rattle.form.specs.Options.{map}
+use Rattle.values.proofs.EntriesAt.{size-none}
 
 -- ---- a call after a call
 -- a question f, asked of the entries or of what g gives of them
@@ -43,31 +43,31 @@ given-done o es f e = rw e
 -- ---- found
 -- the value of a name and its place
 abbrev entrySpot : ℕ → Entries → Option Spot
-entrySpot n es = mapped (spot (entry-place n es + nameWidth)) (value-of n es)
+entrySpot n es = map (spot (entryPlace n es + nameWidth)) (valueOf n es)
 
-found-is : (q : ℕ) (o : Option Val) → is-some o ≡ is-some (mapped (spot q) o)
+found-is : (q : ℕ) (o : Option Val) → isSome o ≡ isSome (map (spot q) o)
 found-is q none = refl
 found-is q (some v) = refl
 
-holds-is : (q : ℕ) (o : Option Val) → is-some (given o entries-of) ≡ holdsContext (mapped (spot q) o)
+holds-is : (q : ℕ) (o : Option Val) → isSome (bind o entriesOf) ≡ holdsContext (map (spot q) o)
 holds-is q none = refl
 holds-is q (some v) = refl
 
-context-found : (n : ℕ) (es : Entries) → isContext n es ≡ true → (fs : Entries) × (value-of n es ≡ some (v-context fs))
-context-found n es e = go (value-of n es) refl e
+context-found : (n : ℕ) (es : Entries) → isContext n es ≡ true → (fs : Entries) × (valueOf n es ≡ some (v-context fs))
+context-found n es e = go (valueOf n es) refl e
   where
-    inner : (v : Val) (o : Option Entries) → entries-of v ≡ o → is-some o ≡ true → (fs : Entries) × (v ≡ v-context fs)
+    inner : (v : Val) (o : Option Entries) → entriesOf v ≡ o → isSome o ≡ true → (fs : Entries) × (v ≡ v-context fs)
     inner v none p h = absurd (false≢true h)
     inner v (some fs) p h = (fs, of-context v fs p)
 
-    go : (o : Option Val) → value-of n es ≡ o → is-some (given o entries-of) ≡ true → (fs : Entries) × (value-of n es ≡ some (v-context fs))
+    go : (o : Option Val) → valueOf n es ≡ o → isSome (bind o entriesOf) ≡ true → (fs : Entries) × (valueOf n es ≡ some (v-context fs))
     go none p h = absurd (false≢true h)
-    go (some v) p h = let I = inner v (entries-of v) refl h in (I .0, p ∙ ap some (I .1))
+    go (some v) p h = let I = inner v (entriesOf v) refl h in (I .0, p ∙ ap some (I .1))
 
-found-context : (n : ℕ) (es fs : Entries) → value-of n es ≡ some (v-context fs) → isContext n es ≡ true
-found-context n es fs e = ap (λ o. is-some (given o entries-of)) e
+found-context : (n : ℕ) (es fs : Entries) → valueOf n es ≡ some (v-context fs) → isContext n es ≡ true
+found-context n es fs e = ap (λ o. isSome (bind o entriesOf)) e
 
-entry-tree : (n : ℕ) (es : Entries) → value-of n es ≡ search (n ∷ []) es
+entry-tree : (n : ℕ) (es : Entries) → valueOf n es ≡ search (n ∷ []) es
 unfolding search
 entry-tree n es = refl
 
@@ -78,17 +78,17 @@ empty-tree no-entries = refl
 empty-tree (entry n v es) = sym (ne-eqb (suc (countEntries es)) 0 (λ e. omega arith))
 
 -- ---- the first entry
-first-tree : (n : ℕ) (v : Val) (es : Entries) → getFirst (entry n v es) ≡ value-of n (entry n v es)
+first-tree : (n : ℕ) (v : Val) (es : Entries) → getFirst (entry n v es) ≡ valueOf n (entry n v es)
 first-tree n v es = sym (value-first n v es)
 
-first-place : (n : ℕ) (v : Val) (es : Entries) → 3 + nameWidth ≡ entry-place n (entry n v es) + nameWidth
-first-place n v es = omega (arith, ap size-entries (below-none n n v es (omega arith)), size-none)
+first-place : (n : ℕ) (v : Val) (es : Entries) → 3 + nameWidth ≡ entryPlace n (entry n v es) + nameWidth
+first-place n v es = omega (arith, ap sizeEntries (below-none n n v es (omega arith)), size-none)
 
 first-call : (c : List ℕ) (n : ℕ) (v : Val) (es : Entries) → contextOf c 0 ≡ done (entry n v es) → getFirstCall c ≡ getEntryCall c n
 first-call c n v es e =
-    given-done (contextOf c 0) (entry n v es) (λ fs. done (mapped (spot (3 + nameWidth)) (getFirst fs))) e
+    given-done (contextOf c 0) (entry n v es) (λ fs. done (map (spot (3 + nameWidth)) (getFirst fs))) e
     ∙ ap (λ (q : ℕ). done (some (spot q v))) (first-place n v es)
-    ∙ ap (λ o. done (mapped (spot (entry-place n (entry n v es) + nameWidth)) o)) (first-tree n v es)
+    ∙ ap (λ o. done (map (spot (entryPlace n (entry n v es) + nameWidth)) o)) (first-tree n v es)
     ∙ sym (given-done (contextOf c 0) (entry n v es) (λ fs. done (entrySpot n fs)) e)
 
 -- ---- the empty path
@@ -98,7 +98,7 @@ nowhere-tree es = (refl, refl)
 
 nowhere-call : (c : List ℕ) (es : Entries) → contextOf c 0 ≡ done es → (searchDeepCall c [] ≡ done none) × (containsDeepCall c [] ≡ done false)
 nowhere-call c es e = (
-  given-done (contextOf c 0) es (λ fs. done (spotIn [] fs)) e ∙ ap (λ o. done (mapped (spot (place [] es)) o)) (nowhere-tree es .0),
+  given-done (contextOf c 0) es (λ fs. done (spotIn [] fs)) e ∙ ap (λ o. done (map (spot (place [] es)) o)) (nowhere-tree es .0),
   given-done (contextOf c 0) es (λ fs. done (containsDeep [] fs)) e ∙ ap done (nowhere-tree es .1),
 )
 
@@ -109,7 +109,7 @@ stands c o q v h e =
     record { inside = omega (arith, S .within, length-encV v); bytes = ap (λ (k : ℕ). take k (drop q c)) (length-encV v) ∙ S .text }
 
 second : searchDeepCall twice (2 ∷ []) ≡ done (some (spot 9 (v-leaf (l-boolean true))))
-unfolding num kindOf front andThen orElse operand named readNamed readFlag counted stepValue stepV readV numberOf all readWhole contextOf value-of search below place size-val size-entries _>>=_ _>>_
+unfolding num kindOf front andThen orElse operand named readNamed readFlag counted stepValue stepV readV numberOf all readWhole contextOf valueOf search below place sizeVal sizeEntries _>>=_ _>>_
 second = refl
 
 pub lookups : Lookups
@@ -117,17 +117,17 @@ lookups = record {
   entry-tree = entry-tree;
   entry-call = λ c n. sym (entry-call c n);
   deep-tree = contains-deep;
-  deep-call = λ c p. asked (contextOf c (length p)) (spotIn p) is-some (containsDeep p) (λ es. contains-deep p es ∙ found-is (place p es) (search p es));
+  deep-call = λ c p. asked (contextOf c (length p)) (spotIn p) isSome (containsDeep p) (λ es. contains-deep p es ∙ found-is (place p es) (search p es));
   has-tree = λ n es. refl;
-  has-call = λ c n. asked (contextOf c 0) (entrySpot n) is-some (λ es. is-some (value-of n es)) (λ es. found-is (entry-place n es + nameWidth) (value-of n es));
+  has-call = λ c n. asked (contextOf c 0) (entrySpot n) isSome (λ es. isSome (valueOf n es)) (λ es. found-is (entryPlace n es + nameWidth) (valueOf n es));
   context-found = context-found;
   found-context = found-context;
-  context-call = λ c n. asked (contextOf c 0) (entrySpot n) holdsContext (isContext n) (λ es. holds-is (entry-place n es + nameWidth) (value-of n es));
+  context-call = λ c n. asked (contextOf c 0) (entrySpot n) holdsContext (isContext n) (λ es. holds-is (entryPlace n es + nameWidth) (valueOf n es));
   empty-tree = empty-tree;
   empty-call = λ c. asked (contextOf c 0) countEntries (λ n. eqb n 0) isEmpty empty-tree;
   first-tree = first-tree;
   first-call = first-call;
-  first-none = λ c e. given-done (contextOf c 0) no-entries (λ fs. done (mapped (spot (3 + nameWidth)) (getFirst fs))) e;
+  first-none = λ c e. given-done (contextOf c 0) no-entries (λ fs. done (map (spot (3 + nameWidth)) (getFirst fs))) e;
   nowhere-tree = nowhere-tree;
   nowhere-call = nowhere-call;
   deep-stands = λ c p q v bs e. stands c (searchDeepCall c p) q v (stand-deep c p bs) e;

@@ -1,6 +1,6 @@
 pub mod Whole
-pub mod Finding
-pub mod Splitting
-pub mod Searching
-pub mod Calling
+pub mod FindLoops
+pub mod SplitContext
+pub mod PathSearch
+pub mod CallContracts
 pub mod Laws

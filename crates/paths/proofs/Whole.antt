@@ -1,4 +1,6 @@
 -- A context at the front of the bytes, and one of which all bytes were read.
+-- Index: `Front`, `front-of`, `front-ok`, `front-read` (at the front); `Ctx`, `ctx-of`, `ctx-ok`, `ctx-front`, `whole-ok`, `whole-fills`, `context-read`, `read-context` (all bytes);
+-- `whole-is`, `is-whole` (a whole value); `size-behind`, `fills-behind` (a value further on).
 -- Assumes nothing.
 use Prim.Native.Nat.{ℕ, _+_, _-_, _<_, _≤_}
 use native.Mathlib.Omega.{arith}
@@ -13,18 +15,17 @@ use Rattle.form.specs.Trees.{Val, v-leaf, v-range, v-list, v-context, v-functio
 use Rattle.form.specs.Form.{numAt}
 use Rattle.form.specs.Outcome.{pick}
 use Rattle.form.specs.Read.{Got, got, bad, readV}
-use Rattle.form.proofs.Runs.{rest}
-use Rattle.order.specs.Size.{size-val, size-entries}
+use Rattle.form.proofs.Runs.{rest, behind}
+use Rattle.order.specs.Size.{sizeVal, sizeEntries}
 use Rattle.types.specs.At.{Ok}
 use Rattle.types.proofs.Reading.{is-ok, ok-got, got-seen}
 use Rattle.values.specs.At.{valueAt, entriesAt, sizeAtV}
 use Rattle.values.proofs.Reading.{value-told, IsVal, is-null, is-boolean, is-number, is-string, is-temporal, is-range, is-list, is-context, is-definition, is-built-in, is-type, is-irrelevant, is-val}
 use Rattle.values.proofs.Reading.{some-level, v-inside, size-got}
-use Rattle.retrieval.proofs.Answering.{behind}
-use Rattle.retrieval.proofs.Contexts.{size-context}
-use Rattle.retrieval.proofs.Theorems.{none-some, some-same}
-use Rattle.paths.specs.Paths.{entries-of, given}
+use Rattle.paths.specs.Paths.{entriesOf, bind}
 use Rattle.paths.specs.Places.{taken, wholeAt, contextAt, frontAt, Fills}
+use Rattle.values.proofs.EntriesAt.{size-context}
+use Rattle.form.proofs.Options.{none-some, some-same}
 
 -- ---- all bytes were taken
 pub taken-is : (n : ℕ) (r : Got Val) (v : Val) → taken n r ≡ some v → r ≡ got v n
@@ -49,14 +50,14 @@ unfolding wholeAt
 is-whole l s v e = is-taken (length s) (readV l s) v e
 
 -- ---- a value further on, as `&s[k..]` hands it over
-pub size-behind : (l k : ℕ) (s : List ℕ) (v : Val) → valueAt l (drop k s) ≡ some v → sizeAtV (valueAt l (behind k s)) ≡ size-val v
+pub size-behind : (l k : ℕ) (s : List ℕ) (v : Val) → valueAt l (drop k s) ≡ some v → sizeAtV (valueAt l (behind k s)) ≡ sizeVal v
 size-behind l k s v e = ap (λ (r : List ℕ). sizeAtV (valueAt l r)) (rest s k) ∙ size-got (valueAt l (drop k s)) v e
 
-pub fills-behind : (l k : ℕ) (s : List ℕ) (v : Val) → valueAt l (drop k s) ≡ some v → k + size-val v ≡ length s → sizeAtV (valueAt l (behind k s)) ≡ length (behind k s)
+pub fills-behind : (l k : ℕ) (s : List ℕ) (v : Val) → valueAt l (drop k s) ≡ some v → k + sizeVal v ≡ length s → sizeAtV (valueAt l (behind k s)) ≡ length (behind k s)
 fills-behind l k s v e h = omega (arith, h, size-behind l k s v e, ap length (rest s k), length-drop k s)
 
 -- ---- a context
-pub of-context : (v : Val) (es : Entries) → entries-of v ≡ some es → v ≡ v-context es
+pub of-context : (v : Val) (es : Entries) → entriesOf v ≡ some es → v ≡ v-context es
 of-context (v-leaf l) es e = absurd (none-some e)
 of-context (v-range i j v w) es e = absurd (none-some e)
 of-context (v-list vs) es e = absurd (none-some e)
@@ -66,27 +67,27 @@ of-context (v-built-in n) es e = absurd (none-some e)
 of-context (v-type t) es e = absurd (none-some e)
 of-context v-irrelevant es e = absurd (none-some e)
 
-pub given-is : {X Y : Type 0} (o : Option X) (f : X → Option Y) (y : Y) → given o f ≡ some y → (x : X) × (o ≡ some x) × (f x ≡ some y)
+pub given-is : {X Y : Type 0} (o : Option X) (f : X → Option Y) (y : Y) → bind o f ≡ some y → (x : X) × (o ≡ some x) × (f x ≡ some y)
 given-is none f y e = absurd (none-some e)
 given-is (some x) f y e = (x, refl, e)
 
 pub context-read : (l : ℕ) (s : List ℕ) (es : Entries) → contextAt l s ≡ some es → readV l s ≡ got (v-context es) (length s)
 unfolding contextAt
-context-read l s es e = go (given-is (wholeAt l s) entries-of es e)
+context-read l s es e = go (given-is (wholeAt l s) entriesOf es e)
   where
-    go : (v : Val) × (wholeAt l s ≡ some v) × (entries-of v ≡ some es) → readV l s ≡ got (v-context es) (length s)
+    go : (v : Val) × (wholeAt l s ≡ some v) × (entriesOf v ≡ some es) → readV l s ≡ got (v-context es) (length s)
     go (v, p, q) = whole-is l s v p ∙ ap (λ w. got w (length s)) (of-context v es q)
 
 pub read-context : (l : ℕ) (s : List ℕ) (es : Entries) → readV l s ≡ got (v-context es) (length s) → contextAt l s ≡ some es
 unfolding contextAt
-read-context l s es e = ap (λ o. given o entries-of) (is-whole l s (v-context es) e)
+read-context l s es e = ap (λ o. bind o entriesOf) (is-whole l s (v-context es) e)
 
 record Node (l : ℕ) (s : List ℕ) (es : Entries) : Type 0 where
   three : 3 ≤ length s
   command : getD s 0 0 ≡ 11
   entries : entriesAt (l - 1) (numAt 2 1 s) 0 (drop 3 s) ≡ some es
 
-node : (l : ℕ) (s : List ℕ) (v : Val) (es : Entries) → IsVal l s v → entries-of v ≡ some es → Node l s es
+node : (l : ℕ) (s : List ℕ) (v : Val) (es : Entries) → IsVal l s v → entriesOf v ≡ some es → Node l s es
 node l s v es (is-null x c) h = absurd (none-some h)
 node l s v es (is-boolean x c) h = absurd (none-some h)
 node l s v es (is-number x c) h = absurd (none-some h)
@@ -103,19 +104,19 @@ node l s v es (is-irrelevant c) h = absurd (none-some h)
 -- ---- the context at the front
 pub record Front (l : ℕ) (s : List ℕ) (es : Entries) : Type 0 where
   pub value : valueAt l s ≡ some (v-context es)
-  pub inside : 3 + size-entries es ≤ length s
+  pub inside : 3 + sizeEntries es ≤ length s
   pub three : 3 ≤ length s
   pub level : 0 < l
   pub command : getD s 0 0 ≡ 11
   pub entries : entriesAt (l - 1) (numAt 2 1 s) 0 (drop 3 s) ≡ some es
 
-pub front-of : (l : ℕ) (s : List ℕ) (v : Val) (es : Entries) → valueAt l s ≡ some v → entries-of v ≡ some es → Front l s es
+pub front-of : (l : ℕ) (s : List ℕ) (v : Val) (es : Entries) → valueAt l s ≡ some v → entriesOf v ≡ some es → Front l s es
 front-of l s v es e h =
     let w = of-context v es h in
     let N = node l s v es (is-val l s v e) h in
     record {
       value = e ∙ ap some w;
-      inside = omega (arith, v-inside l s v e, ap size-val w, size-context es);
+      inside = omega (arith, v-inside l s v e, ap sizeVal w, size-context es);
       three = N .three;
       level = some-level l s v e;
       command = N .command;
@@ -124,23 +125,23 @@ front-of l s v es e h =
 
 pub front-read : {l : ℕ} {s : List ℕ} {es : Entries} → Front l s es → frontAt l s ≡ some es
 unfolding frontAt
-front-read F = ap (λ o. given o entries-of) (F .value)
+front-read F = ap (λ o. bind o entriesOf) (F .value)
 
 pub front-ok : (l : ℕ) (s : List ℕ) → Ok (frontAt l s) → (es : Entries) × Front l s es
 unfolding frontAt
 front-ok l s h = go (ok-got (frontAt l s) h)
   where
     go : (es : Entries) × (frontAt l s ≡ some es) → (es : Entries) × Front l s es
-    go (es, e) = there (given-is (valueAt l s) entries-of es e)
+    go (es, e) = there (given-is (valueAt l s) entriesOf es e)
       where
-        there : (v : Val) × (valueAt l s ≡ some v) × (entries-of v ≡ some es) → (es : Entries) × Front l s es
+        there : (v : Val) × (valueAt l s ≡ some v) × (entriesOf v ≡ some es) → (es : Entries) × Front l s es
         there (v, p, q) = (es, front-of l s v es p q)
 
 -- ---- a context of which all bytes were read
 pub record Ctx (l : ℕ) (s : List ℕ) (es : Entries) : Type 0 where
   pub read : contextAt l s ≡ some es
   pub front : Front l s es
-  pub all : 3 + size-entries es ≡ length s
+  pub all : 3 + sizeEntries es ≡ length s
   pub three : 3 ≤ length s
   pub level : 0 < l
   pub entries : entriesAt (l - 1) (numAt 2 1 s) 0 (drop 3 s) ≡ some es

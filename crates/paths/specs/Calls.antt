@@ -10,18 +10,18 @@ use Rattle.form.specs.Limits.{nameWidth, mostNames}
 use Rattle.form.specs.Trees.{Entries}
 use Rattle.form.specs.Outcome.{Outcome, done, refused, _>>=_, _>>_, check, orRefuse}
 use Rattle.form.specs.Read.{readValue}
-use Rattle.retrieval.specs.Retrieve.{mapped}
-use Rattle.paths.specs.Paths.{value-of, entries-of, containsEntry, isContext, len, isEmpty, getFirst, containsDeep, entry-place}
+use Rattle.paths.specs.Paths.{valueOf, entriesOf, containsEntry, isContext, len, isEmpty, getFirst, containsDeep, entryPlace}
 use Rattle.paths.specs.Places.{Spot, spot, spotIn}
 use Rattle.paths.specs.declared.Count.{Count}
 use Rattle.paths.specs.declared.Count.the-variants as count-is
+use Rattle.form.specs.Options.{map}
 
 -- the context c and a path of so many names: 1 to 5, 11, 12
 unfoldable pub contextOf : List ℕ → ℕ → Outcome Entries
 contextOf c names = do
   self ← readValue c
   check 11 (leb names mostNames)
-  orRefuse 12 (entries-of self)
+  orRefuse 12 (entriesOf self)
 
 -- FeelContext::search_deep: the value at the path and its place
 abbrev pub searchDeepCall : List ℕ → List ℕ → Outcome (Option Spot)
@@ -33,13 +33,13 @@ searchDeepCall c p = do
 abbrev pub getEntryCall : List ℕ → ℕ → Outcome (Option Spot)
 getEntryCall c n = do
   es ← contextOf c 0
-  done (mapped (spot (entry-place n es + nameWidth)) (value-of n es))
+  done (map (spot (entryPlace n es + nameWidth)) (valueOf n es))
 
 -- FeelContext::get_first: the first value, behind command, count and its name
 abbrev pub getFirstCall : List ℕ → Outcome (Option Spot)
 getFirstCall c = do
   es ← contextOf c 0
-  done (mapped (spot (3 + nameWidth)) (getFirst es))
+  done (map (spot (3 + nameWidth)) (getFirst es))
 
 -- FeelContext::contains_deep
 abbrev pub containsDeepCall : List ℕ → List ℕ → Outcome Bool

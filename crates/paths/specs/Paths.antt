@@ -1,54 +1,54 @@
 -- Paths into a context, on trees: the reading half of context.rs.
 -- Assumes nothing.
-use Prim.Native.Nat.{ℕ, zero, suc, _+_}
+use Prim.Native.Nat.{ℕ, _+_}
 use mathlib.Core.Bool.{Bool, true, false, cond}
 use mathlib.Core.Option.{Option, none, some}
 use mathlib.Core.List.{List, [], _∷_}
 use lib.Dec.{eqb, ltb}
 use Rattle.form.specs.Limits.{nameWidth}
-use Rattle.form.specs.Trees.{Leaf, Val, v-leaf, v-range, v-list, v-context, v-function, v-built-in, v-type, v-irrelevant, Entries, no-entries, entry}
+use Rattle.form.specs.Trees.{Val, v-leaf, v-range, v-list, v-context, v-function, v-built-in, v-type, v-irrelevant, Entries, no-entries, entry}
 use Rattle.form.specs.Form.{countEntries}
-use Rattle.order.specs.Size.{size-val, size-entries}
+use Rattle.order.specs.Size.{sizeEntries}
 
 -- ---- one name
 -- FeelContext::get_entry: the value of a name
-unfoldable pub value-of : ℕ → Entries → Option Val
-value-of n no-entries = none
-value-of n (entry m v es) = cond (eqb n m) (some v) (value-of n es)
+unfoldable pub valueOf : ℕ → Entries → Option Val
+valueOf n no-entries = none
+valueOf n (entry m v es) = cond (eqb n m) (some v) (valueOf n es)
 
 -- the entries of a context; none of any other value
-abbrev pub entries-of : Val → Option Entries
-entries-of (v-leaf l) = none
-entries-of (v-range i j v w) = none
-entries-of (v-list vs) = none
-entries-of (v-context es) = some es
-entries-of (v-function ps b r) = none
-entries-of (v-built-in n) = none
-entries-of (v-type t) = none
-entries-of v-irrelevant = none
+abbrev pub entriesOf : Val → Option Entries
+entriesOf (v-leaf l) = none
+entriesOf (v-range i j v w) = none
+entriesOf (v-list vs) = none
+entriesOf (v-context es) = some es
+entriesOf (v-function ps b r) = none
+entriesOf (v-built-in n) = none
+entriesOf (v-type t) = none
+entriesOf v-irrelevant = none
 
-abbrev pub given : {X Y : Type 0} → Option X → (X → Option Y) → Option Y
-given none f = none
-given (some x) f = f x
+abbrev pub bind : {X Y : Type 0} → Option X → (X → Option Y) → Option Y
+bind none f = none
+bind (some x) f = f x
 
-abbrev pub is-some : {X : Type 0} → Option X → Bool
-is-some none = false
-is-some (some x) = true
+abbrev pub isSome : {X : Type 0} → Option X → Bool
+isSome none = false
+isSome (some x) = true
 
-abbrev pub or-empty : Option Entries → Entries
-or-empty none = no-entries
-or-empty (some es) = es
+abbrev pub orEmpty : Option Entries → Entries
+orEmpty none = no-entries
+orEmpty (some es) = es
 
 -- the context under a name
-abbrev pub context-at : ℕ → Entries → Option Entries
-context-at n es = given (value-of n es) entries-of
+abbrev pub contextUnder : ℕ → Entries → Option Entries
+contextUnder n es = bind (valueOf n es) entriesOf
 
 -- FeelContext::contains_entry, is_context
 abbrev pub containsEntry : ℕ → Entries → Bool
-containsEntry n es = is-some (value-of n es)
+containsEntry n es = isSome (valueOf n es)
 
 abbrev pub isContext : ℕ → Entries → Bool
-isContext n es = is-some (context-at n es)
+isContext n es = isSome (contextUnder n es)
 
 -- FeelContext::len, is_empty, get_first
 abbrev pub len : Entries → ℕ
@@ -66,8 +66,8 @@ getFirst (entry n v es) = some v
 -- FeelContext::search_deep: empty path none; one name, its value; otherwise the rest of the path in the context under the first name
 unfoldable pub search : List ℕ → Entries → Option Val
 search [] es = none
-search (n ∷ []) es = value-of n es
-search (n ∷ m ∷ ns) es = given (context-at n es) (λ fs. search (m ∷ ns) fs)
+search (n ∷ []) es = valueOf n es
+search (n ∷ m ∷ ns) es = bind (contextUnder n es) (λ fs. search (m ∷ ns) fs)
 
 -- FeelContext::contains_deep
 abbrev pub among : Option Entries → (Entries → Bool) → Bool
@@ -77,7 +77,7 @@ among (some es) f = f es
 unfoldable pub containsDeep : List ℕ → Entries → Bool
 containsDeep [] es = false
 containsDeep (n ∷ []) es = containsEntry n es
-containsDeep (n ∷ m ∷ ns) es = among (context-at n es) (λ fs. containsDeep (m ∷ ns) fs)
+containsDeep (n ∷ m ∷ ns) es = among (contextUnder n es) (λ fs. containsDeep (m ∷ ns) fs)
 
 -- ---- where the value of a name stands in the bytes of its context
 -- the entries whose names are below n, and those above it
@@ -90,11 +90,11 @@ above n no-entries = no-entries
 above n (entry m v es) = cond (ltb n m) (entry m v es) (above n es)
 
 -- the place of the entry of n: behind the command, the count and the entries below it
-abbrev pub entry-place : ℕ → Entries → ℕ
-entry-place n es = 3 + size-entries (below n es)
+abbrev pub entryPlace : ℕ → Entries → ℕ
+entryPlace n es = 3 + sizeEntries (below n es)
 
 -- the place of the value at a path
 unfoldable pub place : List ℕ → Entries → ℕ
 place [] es = 0
-place (n ∷ []) es = entry-place n es + nameWidth
-place (n ∷ m ∷ ns) es = entry-place n es + nameWidth + place (m ∷ ns) (or-empty (context-at n es))
+place (n ∷ []) es = entryPlace n es + nameWidth
+place (n ∷ m ∷ ns) es = entryPlace n es + nameWidth + place (m ∷ ns) (orEmpty (contextUnder n es))

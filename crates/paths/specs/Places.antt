@@ -14,16 +14,16 @@ use Rattle.form.specs.Form.{encV}
 use Rattle.form.specs.Outcome.{Outcome, done, refused, pick, _>>=_}
 use Rattle.form.specs.Parts.{LiesAt}
 use Rattle.form.specs.Read.{Got, got, bad, readV}
-use Rattle.order.specs.Size.{size-val, size-entries}
+use Rattle.order.specs.Size.{sizeVal, sizeEntries}
 use Rattle.values.specs.At.{valueAt, sizeAtV}
-use Rattle.retrieval.specs.Retrieve.{mapped}
-use Rattle.paths.specs.Paths.{value-of, entries-of, given, search, entry-place, place}
-use Rattle.paths.specs.declared.Place.{Place}
-use Rattle.paths.specs.declared.Place.the-variants as place-is
-use Rattle.paths.specs.declared.Seen.{Seen}
-use Rattle.paths.specs.declared.Seen.the-variants as seen-is
+use Rattle.paths.specs.Paths.{valueOf, entriesOf, bind, search, entryPlace, place}
+use Rattle.paths.specs.declared.walk.Place.{Place}
+use Rattle.paths.specs.declared.walk.Place.the-variants as place-is
+use Rattle.paths.specs.declared.walk.Seen.{Seen}
+use Rattle.paths.specs.declared.walk.Seen.the-variants as seen-is
 use Rattle.paths.specs.declared.Found.{Found}
 use Rattle.paths.specs.declared.Found.the-variants as found-is
+use Rattle.form.specs.Options.{map}
 
 -- ---- the value of which all n bytes were taken
 unfoldable pub taken : ℕ → Got Val → Option Val
@@ -35,11 +35,11 @@ wholeAt l s = taken (length s) (readV l s)
 
 -- its entries, where it is a context
 unfoldable pub contextAt : ℕ → List ℕ → Option Entries
-contextAt l s = given (wholeAt l s) entries-of
+contextAt l s = bind (wholeAt l s) entriesOf
 
 -- the entries of the context at the front, whatever stands behind it
 unfoldable pub frontAt : ℕ → List ℕ → Option Entries
-frontAt l s = given (valueAt l s) entries-of
+frontAt l s = bind (valueAt l s) entriesOf
 
 -- the value at the front takes all bytes, where that is said
 abbrev pub Fills : Bool → ℕ → List ℕ → Type 0
@@ -47,23 +47,23 @@ Fills whole l s = whole ≡ true → sizeAtV (valueAt l s) ≡ length s
 
 -- ---- one name: its entry from its place to its end, or the place where it would stand
 abbrev pub placed : ℕ → Option Val → Place
-placed p (some v) = place-is.At p (p + nameWidth + size-val v)
+placed p (some v) = place-is.At p (p + nameWidth + sizeVal v)
 placed p none = place-is.None p
 
 unfoldable pub Finds : Option Entries → ℕ → Place → Type 0
-Finds (some es) n r = r ≡ placed (entry-place n es) (value-of n es)
+Finds (some es) n r = r ≡ placed (entryPlace n es) (valueOf n es)
 Finds none n r = Unit {0}
 
 -- its value starts at p; where it is said to be the last one, the context ends with it
 pub record Sights (es : Entries) (n p : ℕ) (last : Bool) : Type 0 where
   pub x : Val
-  pub value : value-of n es ≡ some x
-  pub start : p ≡ entry-place n es + nameWidth
-  pub end : last ≡ true → p + size-val x ≡ 3 + size-entries es
+  pub value : valueOf n es ≡ some x
+  pub start : p ≡ entryPlace n es + nameWidth
+  pub end : last ≡ true → p + sizeVal x ≡ 3 + sizeEntries es
 
 unfoldable pub Sees : Option Entries → ℕ → Seen → Type 0
 Sees (some es) n (seen-is.At p last) = Sights es n p last
-Sees (some es) n seen-is.None = value-of n es ≡ none
+Sees (some es) n seen-is.None = valueOf n es ≡ none
 Sees none n r = Unit {0}
 
 -- ---- a part of a context's bytes
@@ -84,21 +84,21 @@ found (found-is.Part p n) = done (some (piece p n))
 found found-is.None = done none
 found (found-is.Refused n) = refused n
 
--- the same of a definition
+-- the part that a definition finds: place and length of its value, or none, or the refusal
 unfoldable pub extentOf : Outcome (Option Spot) → Outcome (Option Piece)
 extentOf o = do
   s ← o
-  done (mapped extent s)
+  done (map extent s)
 
 -- the value at a path with its place
 abbrev pub spotIn : List ℕ → Entries → Option Spot
-spotIn p es = mapped (spot (place p es)) (search p es)
+spotIn p es = map (spot (place p es)) (search p es)
 
 unfoldable pub Searches : Option Entries → List ℕ → Found → Type 0
-Searches (some es) p r = found r ≡ done (mapped extent (spotIn p es))
+Searches (some es) p r = found r ≡ done (map extent (spotIn p es))
 Searches none p r = Unit {0}
 
--- the same k bytes further on
+-- a part that stands k bytes further on
 abbrev pub shifted : ℕ → Outcome (Option Piece) → Outcome (Option Piece)
 shifted k (done (some (piece p n))) = done (some (piece (k + p) n))
 shifted k (done none) = done none
@@ -138,7 +138,7 @@ pub record Lent (o : Outcome (Option Spot)) (c part : RefT (List ℕ)) (code : �
   pub lies : LiesAt (lentPlace o) c part
   pub status : code ≡ lentCode o
 
--- the same of a piece of c
+-- a part that was found ends within c
 abbrev pub Within : Outcome (Option Piece) → List ℕ → Type 0
 Within (done (some (piece p n))) c = p + n ≤ length c
 Within (done none) c = Unit {0}

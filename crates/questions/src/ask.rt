@@ -2,13 +2,14 @@
 ghost use mathlib.Core.Path.{_≡_};
 ghost use Prim.Native.Nat.{_≤_};
 ghost use lib.ListN.{length};
-use crate::fault;
-use crate::line;
-use crate::line::Cut;
-use crate::line::Line;
 use form::Checked;
 use form::Verdict;
 use form::Written;
+use lines::fault;
+use lines::line;
+use lines::line::Line;
+use lines::text::Answer;
+use lines::words;
 use names::Known;
 use paths::Count;
 use paths::Found;
@@ -16,30 +17,8 @@ use paths::Found;
 // The most names of a path that are passed on: more than any path may have.
 const NAMES: usize = 64;
 
-// What is answered: yes or no; bytes at the front of the output; a part of the first argument; a number; a byte; nothing; no such type;
-// the number of a refusal; what is wrong with the line; how many arguments are wanted and how many were found, and whether there are
-// commas; or that nothing is asked.
-pub enum Answer {
-    Yes,
-    No,
-    Bytes(usize),
-    Part {
-        place: usize,
-        size: usize,
-    },
-    Number(usize),
-    Byte(u8),
-    None,
-    Unknown,
-    Refused(u8),
-    Wrong(u8),
-    Count {
-        wanted: usize,
-        found: usize,
-        commas: bool,
-    },
-    Nothing,
-}
+// No call has this refusal. It is the answer where two calls that answer the same question do not agree.
+const APART: u8 = 255;
 
 // ---- answers
 
@@ -65,14 +44,6 @@ fn wrote(w: Written) -> Answer {
     }
 }
 
-fn part_of(f: Found) -> Answer {
-    match f {
-        Found::Part { place, size } => Answer::Part { place, size },
-        Found::None => Answer::None,
-        Found::Refused(n) => Answer::Refused(n),
-    }
-}
-
 fn count_of(c: Count) -> Answer {
     match c {
         Count::Entries(n) => Answer::Number(n),
@@ -80,9 +51,10 @@ fn count_of(c: Count) -> Answer {
     }
 }
 
-fn known(k: Known) -> Answer {
+// The byte of a type's command.
+fn known(k: Known, out: &mut [u8]) -> Answer {
     match k {
-        Known::Type(c) => Answer::Byte(c),
+        Known::Type(c) => wrote(output::give(&[c], out)),
         Known::Unknown => Answer::Unknown,
     }
 }
@@ -93,9 +65,18 @@ fn told(yes: bool) -> Answer {
 
 // ---- names and paths
 
+// The first byte.
+fn byte_of(s: &[u8]) -> u8 {
+    if s.len() == 0 { 0 } else { s[0] }
+}
+
 // The name that two bytes say, the low one first.
-fn name_of(low: u8, high: u8) -> u16 {
+fn name(low: u8, high: u8) -> u16 {
     (low as u16) + (high as u16) * 256
+}
+
+fn name_of(s: &[u8]) -> u16 {
+    if s.len() < 2 { 0 } else { name(s[0], s[1]) }
 }
 
 // Puts the names of a path at the front of `names`, as many as have room; answers how many.
@@ -105,222 +86,253 @@ fn read_path(s: &[u8], names: &mut [u16]) -> usize
     let n = line::pairs(s.len(), names.len());
     let mut k = 0;
     while k < n {
-        names[k] = name_of(s[k + k], s[k + k + 1]);
+        names[k] = name(s[k + k], s[k + k + 1]);
         k += 1;
     }
     n
 }
 
-// ---- one argument
-
-fn ask_kind(call: usize, v: &[u8]) -> Answer {
-    match call {
-        16 => judged(ranges::is_invalid_coercion(v)),
-        17 => judged(ranges::is_valid_range(v)),
-        18 => judged(ranges::is_null(v)),
-        19 => judged(ranges::is_true(v)),
-        20 => judged(ranges::is_false(v)),
-        21 => judged(ranges::is_number(v)),
-        22 => judged(ranges::is_string(v)),
-        23 => judged(ranges::is_list(v)),
-        _ => judged(ranges::is_range(v)),
+// What is wrong with arguments of these lengths.
+fn misfit(fit: u8, one: usize, two: usize, three: usize) -> u8 {
+    match fit {
+        words::BYTE => if one == 1 { 0 } else { fault::BYTE },
+        words::NAME => if two == 2 { 0 } else { fault::NAME },
+        words::NAMES => if two == 2 && three == 2 {
+            0
+        } else {
+            fault::NAME
+        },
+        words::PATH => if two % 2 == 0 { 0 } else { fault::PATH },
+        _ => 0,
     }
 }
 
-// An interval, or a built-in function.
-fn ask_byte(call: usize, a: &[u8], out: &mut [u8]) -> Answer {
-    if a.len() != 1 {
-        return Answer::Wrong(fault::BYTE);
+// ---- parts of the first argument
+
+// Whether these are the bytes of `c` from `place` on.
+fn stands(part: &[u8], c: &[u8], place: usize) -> bool {
+    if c.len() < place {
+        return false;
     }
-    let i = a[0];
-    match call {
-        25 => judged(ranges::opened(i)),
-        26 => judged(ranges::closed(i)),
-        27 => judged(ranges::undefined(i)),
-        _ => wrote(ranges::bif_feel_type(i, out)),
+    if c.len() - place < part.len() {
+        return false;
+    }
+    let end = place + part.len();
+    check::same(part, &c[place..end])
+}
+
+// Where a part stands, its length, and the refusal; 0 where there is none.
+struct Spot {
+    place: usize,
+    size: usize,
+    status: u8,
+}
+
+fn spot_of(f: Found) -> Spot {
+    match f {
+        Found::Part { place, size } => Spot {
+            place,
+            size,
+            status: 0,
+        },
+        Found::None => Spot {
+            place: 0,
+            size: 0,
+            status: 0,
+        },
+        Found::Refused(n) => Spot {
+            place: 0,
+            size: 0,
+            status: n,
+        },
     }
 }
 
-fn ask_text(call: usize, s: &[u8], out: &mut [u8]) -> Answer {
-    match call {
-        46 => known(names::from_str(s)),
-        47 => told(names::is_built_in_type_name(s)),
-        48 => wrote(names::name_new(s, out)),
-        _ => wrote(names::trim_into(s, out)),
+// The part that a call lent, with its `status`, held to what the other call of the same question found.
+fn lent(f: Found, c: &[u8], part: &[u8], status: u8, out: &mut [u8]) -> Answer {
+    let s = spot_of(f);
+    if status != s.status {
+        return Answer::Refused(APART);
+    }
+    if part.len() != s.size {
+        return Answer::Refused(APART);
+    }
+    if !stands(part, c, s.place) {
+        return Answer::Refused(APART);
+    }
+    if status != 0 {
+        return Answer::Refused(status);
+    }
+    if part.len() == 0 {
+        return Answer::None;
+    }
+    wrote(output::give(part, out))
+}
+
+fn get_first(c: &[u8], out: &mut [u8]) -> Answer {
+    let mut status = 255u8;
+    let part = paths::get_first(c, &mut status);
+    lent(paths::first_place(c), c, part, status, out)
+}
+
+fn get_entry(c: &[u8], name: u16, out: &mut [u8]) -> Answer {
+    let mut status = 255u8;
+    let part = paths::get_entry(c, name, &mut status);
+    lent(paths::entry_place(c, name), c, part, status, out)
+}
+
+fn search(c: &[u8], path: &[u16], out: &mut [u8]) -> Answer {
+    let mut status = 255u8;
+    let part = paths::search_deep(c, path, &mut status);
+    lent(paths::search_place(c, path), c, part, status, out)
+}
+
+// The text without blanks at both ends: as it is written, held to the part that is lent.
+fn trim(s: &[u8], out: &mut [u8]) -> Answer {
+    let w = names::trim_into(s, out);
+    let part = names::trim(s);
+    match w {
+        Written::Bytes(n) => if n == part.len() && stands(part, out, 0) {
+            Answer::Bytes(n)
+        } else {
+            Answer::Refused(APART)
+        },
+        Written::Refused(n) => Answer::Refused(n),
     }
 }
 
-// Questions that build nothing.
-fn judge_one(call: usize, a: &[u8]) -> Answer {
+// ---- calls
+
+// Questions that are answered by yes or no.
+fn judge(call: usize, a: &[u8], b: &[u8]) -> Verdict {
+    let i = byte_of(a);
+    let name = name_of(b);
+    match call {
+        3 => types::is_conformant(a, b),
+        4 => types::instance_of(a, b),
+        8 => types::is_simple_built_in_type(a),
+        9 => types::is_null(a),
+        10 => values::is_conformant(a, b),
+        16 => ranges::is_invalid_coercion(a),
+        17 => ranges::is_valid_range(a),
+        18 => ranges::is_null(a),
+        19 => ranges::is_true(a),
+        20 => ranges::is_false(a),
+        21 => ranges::is_number(a),
+        22 => ranges::is_string(a),
+        23 => ranges::is_list(a),
+        24 => ranges::is_range(a),
+        25 => ranges::opened(i),
+        26 => ranges::closed(i),
+        27 => ranges::undefined(i),
+        32 => paths::contains_entry(a, name),
+        34 => paths::is_context(a, name),
+        _ => paths::is_empty(a),
+    }
+}
+
+// Questions that build with a scratch.
+fn build_apart(call: usize, a: &[u8], b: &[u8], out: &mut [u8]) -> Written {
+    let mut scratch = io::large_buffer();
+    match call {
+        5 => bounds::common_supertype(a, b, &mut scratch, out),
+        6 => bounds::common_subtype(a, b, &mut scratch, out),
+        11 => infer::least_type(a, &mut scratch, out),
+        _ => infer::type_of(a, &mut scratch, out),
+    }
+}
+
+// Questions that build without one.
+fn build(call: usize, a: &[u8], b: &[u8], c: &[u8], out: &mut [u8]) -> Written {
+    let name = name_of(b);
+    match call {
+        7 => bounds::reduced(a, out),
+        13 => retrieval::get_value_checked(a, b, out),
+        14 => retrieval::get_conformant_value(a, b, out),
+        15 => coercion::coerced(a, b, out),
+        28 => ranges::bif_feel_type(byte_of(a), out),
+        39 => context::zip(a, b, out),
+        40 => context::overwrite(a, b, out),
+        41 => context::move_entry(a, name, name_of(c), out),
+        42 => context::set_entry(a, name, c, out),
+        43 => context::remove_entry(a, name, out),
+        44 => context::set_null(a, name, out),
+        45 => display::display(a, b, out),
+        _ => names::name_new(a, out),
+    }
+}
+
+// Questions on a path.
+fn ask_path(call: usize, c: &[u8], b: &[u8], v: &[u8], out: &mut [u8]) -> Answer {
+    let mut names = [0u16; NAMES];
+    let n = read_path(b, &mut names);
+    let path = &names[0..n];
+    match call {
+        30 => search(c, path, out),
+        33 => judged(paths::contains_deep(c, path)),
+        37 => wrote(context::create_entries(c, path, v, out)),
+        _ => wrote(context::apply_entries(c, path, v, out)),
+    }
+}
+
+// Questions of no such kind.
+fn ask_other(call: usize, a: &[u8], b: &[u8], out: &mut [u8]) -> Answer {
     match call {
         1 => level_of(form::check_value(a)),
         2 => level_of(form::check_type(a)),
-        8 => judged(types::is_simple_built_in_type(a)),
-        9 => judged(types::is_null(a)),
-        31 => part_of(paths::first_place(a)),
-        35 => judged(paths::is_empty(a)),
+        29 => get_entry(a, name_of(b), out),
+        31 => get_first(a, out),
         36 => count_of(paths::len(a)),
-        _ => ask_kind(call, a),
+        46 => known(names::from_str(a), out),
+        47 => told(names::is_built_in_type_name(a)),
+        _ => trim(a, out),
     }
 }
 
-fn ask_one(call: usize, a: &[u8], scratch: &mut [u8], out: &mut [u8]) -> Answer {
-    match call {
-        7 => wrote(bounds::reduced(a, out)),
-        11 => wrote(infer::least_type(a, scratch, out)),
-        12 => wrote(infer::type_of(a, scratch, out)),
-        25..=28 => ask_byte(call, a, out),
-        46..=49 => ask_text(call, a, out),
-        _ => judge_one(call, a),
+// Asks the question with this number; `all` has its arguments, which end at `one`, `two` and `three`.
+fn ask(call: usize, all: &[u8], one: usize, two: usize, three: usize, out: &mut [u8]) -> Answer {
+    let z = line::least(three, all.len());
+    let y = line::least(two, z);
+    let x = line::least(one, y);
+    let f = misfit(words::fit(call), x, y - x, z - y);
+    if f != 0 {
+        return Answer::Wrong(f);
+    }
+    let a = &all[0..x];
+    let b = &all[x..y];
+    let c = &all[y..z];
+    match words::kind(call) {
+        words::JUDGE => judged(judge(call, a, b)),
+        words::BUILD => wrote(build(call, a, b, c, out)),
+        words::APART => wrote(build_apart(call, a, b, out)),
+        words::PATHS => ask_path(call, a, b, c, out),
+        _ => ask_other(call, a, b, out),
     }
 }
 
-// ---- two arguments
-
-fn ask_name(call: usize, c: &[u8], a: &[u8], out: &mut [u8]) -> Answer {
-    if a.len() != 2 {
-        return Answer::Wrong(fault::NAME);
-    }
-    let name = name_of(a[0], a[1]);
-    match call {
-        29 => part_of(paths::entry_place(c, name)),
-        32 => judged(paths::contains_entry(c, name)),
-        34 => judged(paths::is_context(c, name)),
-        43 => wrote(context::remove_entry(c, name, out)),
-        _ => wrote(context::set_null(c, name, out)),
+// What is wrong with a line.
+fn wrong(l: Line) -> Answer {
+    if l.fault == fault::COUNT {
+        Answer::Count {
+            wanted: words::wanted(l.call),
+            found: line::found(l),
+            commas: l.commas,
+        }
+    } else {
+        Answer::Wrong(l.fault)
     }
 }
 
-fn ask_path(call: usize, c: &[u8], a: &[u8]) -> Answer {
-    if a.len() % 2 != 0 {
-        return Answer::Wrong(fault::PATH);
-    }
-    let mut path = [0u16; NAMES];
-    let n = read_path(a, &mut path);
-    match call {
-        30 => part_of(paths::search_place(c, &path[0..n])),
-        _ => judged(paths::contains_deep(c, &path[0..n])),
-    }
-}
-
-// Questions that build nothing.
-fn judge_two(call: usize, a: &[u8], b: &[u8]) -> Answer {
-    match call {
-        3 => judged(types::is_conformant(a, b)),
-        4 => judged(types::instance_of(a, b)),
-        10 => judged(values::is_conformant(a, b)),
-        _ => ask_path(call, a, b),
-    }
-}
-
-// What a context or a type becomes with another, or a value with a type.
-fn build_two(call: usize, a: &[u8], b: &[u8], scratch: &mut [u8], out: &mut [u8]) -> Answer {
-    match call {
-        5 => wrote(bounds::common_supertype(a, b, scratch, out)),
-        6 => wrote(bounds::common_subtype(a, b, scratch, out)),
-        13 => wrote(retrieval::get_value_checked(a, b, out)),
-        14 => wrote(retrieval::get_conformant_value(a, b, out)),
-        15 => wrote(coercion::coerced(a, b, out)),
-        39 => wrote(context::zip(a, b, out)),
-        40 => wrote(context::overwrite(a, b, out)),
-        _ => wrote(names::display(a, b, out)),
-    }
-}
-
-fn ask_two(call: usize, a: &[u8], b: &[u8], scratch: &mut [u8], out: &mut [u8]) -> Answer {
-    match call {
-        3 | 4 | 10 | 30 | 33 => judge_two(call, a, b),
-        29 | 32 | 34 | 43 | 44 => ask_name(call, a, b, out),
-        _ => build_two(call, a, b, scratch, out),
-    }
-}
-
-// ---- three arguments
-
-fn update_path(call: usize, c: &[u8], a: &[u8], v: &[u8], out: &mut [u8]) -> Answer {
-    if a.len() % 2 != 0 {
-        return Answer::Wrong(fault::PATH);
-    }
-    let mut path = [0u16; NAMES];
-    let n = read_path(a, &mut path);
-    match call {
-        37 => wrote(context::create_entries(c, &path[0..n], v, out)),
-        _ => wrote(context::apply_entries(c, &path[0..n], v, out)),
-    }
-}
-
-fn move_entry(c: &[u8], name: u16, b: &[u8], out: &mut [u8]) -> Answer {
-    if b.len() != 2 {
-        return Answer::Wrong(fault::NAME);
-    }
-    wrote(context::move_entry(c, name, name_of(b[0], b[1]), out))
-}
-
-fn update_name(call: usize, c: &[u8], a: &[u8], b: &[u8], out: &mut [u8]) -> Answer {
-    if a.len() != 2 {
-        return Answer::Wrong(fault::NAME);
-    }
-    let name = name_of(a[0], a[1]);
-    match call {
-        41 => move_entry(c, name, b, out),
-        _ => wrote(context::set_entry(c, name, b, out)),
-    }
-}
-
-fn ask_three(call: usize, a: &[u8], b: &[u8], c: &[u8], out: &mut [u8]) -> Answer {
-    match call {
-        37 | 38 => update_path(call, a, b, c, out),
-        _ => update_name(call, a, b, c, out),
-    }
-}
-
-// Asks the question with this number; `all` has the arguments, which end at `one`, `two` and `three`.
-fn ask(
-    call: usize,
-    all: &[u8],
-    one: usize,
-    two: usize,
-    three: usize,
-    scratch: &mut [u8],
-    out: &mut [u8],
-) -> Answer {
-    if two < one {
-        return Answer::Wrong(fault::LONG);
-    }
-    if three < two {
-        return Answer::Wrong(fault::LONG);
-    }
-    if all.len() < three {
-        return Answer::Wrong(fault::LONG);
-    }
-    match crate::words::wanted(call) {
-        1 => ask_one(call, &all[0..one], scratch, out),
-        2 => ask_two(call, &all[0..one], &all[one..two], scratch, out),
-        _ => ask_three(call, &all[0..one], &all[one..two], &all[two..three], out),
-    }
-}
-
-// Asks what a line asks that is whole. `word` and `data` have its word and the bytes of its arguments. Where no word stands, nothing is asked.
-pub fn ask_line(l: Line, word: &[u8], data: &[u8], scratch: &mut [u8], built: &mut [u8]) -> Answer
+// Asks what a line asks that is whole. `data` has the letters of its word, or the bytes of its arguments. Where no word stands, nothing is asked.
+pub fn ask_line(l: Line, data: &[u8], out: &mut [u8]) -> Answer
     ensures { λ r. ⌜ (l .part ≡ 0 → l .fault ≡ 0 → l .call ≡ 0 → r ≡ Answer.Nothing) ⌝ }
 {
-    let whole = line::close(l, word);
+    let whole = line::close(l, data);
     if whole.fault != 0 {
-        return Answer::Wrong(whole.fault);
+        return wrong(whole);
     }
     if whole.call == 0 {
         return Answer::Nothing;
     }
-    match line::cut_line(whole) {
-        Cut::At { one, two, three } => ask(whole.call, data, one, two, three, scratch, built),
-        Cut::Wrong {
-            wanted,
-            found,
-            commas,
-        } => Answer::Count {
-            wanted,
-            found,
-            commas,
-        },
-    }
+    ask(whole.call, data, whole.one, whole.two, whole.used, out)
 }

@@ -1,4 +1,5 @@
 -- The types of the built-in functions, as the calls write them.
+-- Index: `of-abs`, `of-sqrt`, `of-others` (the bytes by the position); `bif-refused`, `bif-done` (the call).
 -- Assumes nothing.
 use Prim.Native.Nat.{ℕ, _<_, _≤_}
 use mathlib.Core.Path.{_≡_, subst}
@@ -11,7 +12,7 @@ use Rattle.form.specs.Form.{enc, countTys}
 use Rattle.form.specs.Answers.{Built}
 use Rattle.form.specs.declared.Written.{Written}
 use Rattle.form.specs.declared.Written.the-variants as written-is
-use Rattle.bounds.proofs.Outcomes.{built-refused}
+use Rattle.output.proofs.Outcomes.{built-refused}
 use Rattle.ranges.specs.Ranges.{bifType}
 use Rattle.ranges.specs.Calls.{bifTypeCall}
 

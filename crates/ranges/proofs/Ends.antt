@@ -1,4 +1,7 @@
 -- The ends of a range that was read, in terms of its bytes, and the answers from them.
+-- Idea: each end is seen once, by its command (`Edge`); the answer is then read off both ends.
+-- Index: `Edge`, `Edges`, `edges` (the ends); `start-three`, `end-three`, `start-off`, `null-null`, `null-other`, `end-null`, `end-other`, `texts-done`, `keys-done` (the answers of `in_order`);
+-- `start-inside`, `null-inside`, `end-near`, `end-inside`, `texts-inside`, `keys-inside` (what is read is there).
 -- Assumes nothing.
 use Prim.Native.Nat.{ℕ, _+_, _-_, _<_, _≤_}
 use mathlib.Core.Path.{_≡_, refl, sym, ap, ap₂, subst, _∙_}
@@ -10,17 +13,17 @@ use lib.ListN.{length, getD, take, drop, length-drop}
 use lib.Seq.{getD-drop, drop-drop}
 use lib.Dec.{leb, ltb, eqb}
 use borrow.Author.Tests.{eq-eqb, ne-eqb}
-use Rattle.form.specs.Trees.{Val, v-range, code-temporal}
+use Rattle.form.specs.Trees.{Val, v-range, codeTemporal}
 use Rattle.form.specs.Limits.{nameWidth, valueLevels}
 use Rattle.form.specs.Form.{num, numAt}
 use Rattle.form.specs.Layout.{ValueKind, kNumber, kString, kTemporal, ofValue, kindOf, operandsV, operands, widthOf}
 use Rattle.form.specs.Read.{got, readV}
-use Rattle.form.proofs.Commands.{kind-temporal, width-is}
+use Rattle.form.proofs.CommandKinds.{kind-temporal, width-is}
 use Rattle.form.proofs.ExactValues.{code-small-temporal}
 use Rattle.form.proofs.Nodes.{NodeV, nNull, nBoolean, nNumber, nString, nTemporal, nRangeV, nListV, nContextV, nDefinition, nBuiltIn, nType, nIrrelevant, value-read}
 use Rattle.types.proofs.Reading.{seen-got}
 use Rattle.values.specs.At.{valueAt}
-use Rattle.ranges.specs.Ranges.{Point, nowhere, text, key, elsewhere, point, in-order, signedLe}
+use Rattle.ranges.specs.Ranges.{Point, nowhere, text, key, elsewhere, point, inOrder, signedLe}
 use Rattle.ranges.specs.Calls.{Ranged, RangeOf, RangeIs}
 use Rattle.ranges.proofs.Fronts.{Front, f-null, f-boolean, f-number, f-string, f-temporal, f-other, front-read}
 
@@ -50,7 +53,7 @@ module _ (s : List ℕ) (at : ℕ) (l : length (drop at s) ≡ length s - at) (b
   edge-of v n (f-string c k) = subst (λ p. Edge s at p (1 + nameWidth)) (ap text (one-on nameWidth)) (e-text (omega arith) (omega arith))
   edge-of v n (f-temporal t c k) =
       let g = code-small-temporal t in
-      key-edge (4 + code-temporal t) (sym b ∙ sym c) (omega arith) (omega arith) (λ t. omega arith) kTemporal (kind-temporal (4 + code-temporal t) (omega arith) (omega arith)) refl k
+      key-edge (4 + codeTemporal t) (sym b ∙ sym c) (omega arith) (omega arith) (λ t. omega arith) kTemporal (kind-temporal (4 + codeTemporal t) (omega arith) (omega arith)) refl k
   edge-of v n (f-other w k o) = let g = o .high in subst (λ p. Edge s at p n) (sym (o .off)) (e-off n (omega arith) (λ t. omega arith) (omega arith))
 
 -- ---- both ends
@@ -84,7 +87,7 @@ pub record Edges (s : List ℕ) : Type 0 where
   pub n : ℕ
   pub first : Edge s 3 p m
   pub second : Edge s (3 + m) q n
-  pub is : (r : Bool) → r ≡ cond (eqb (getD s 1 0) 3 || eqb (getD s 2 0) 3) false (in-order (getD s 1 0) (getD s 2 0) p q) → RangeIs s r
+  pub is : (r : Bool) → r ≡ cond (eqb (getD s 1 0) 3 || eqb (getD s 2 0) 3) false (inOrder (getD s 1 0) (getD s 2 0) p q) → RangeIs s r
 
 edge-read : (l : ℕ) (s : List ℕ) (at : ℕ) (v : Val) (n : ℕ) → readV l (drop at s) ≡ got v n → Edge s at (point v) n
 edge-read l s at v n e = edge-of s at (length-drop at s) (getD-drop at s 0 0 ∙ ap (λ k. getD s k 0) (add-zero at)) (value-read l (drop at s) v n e .some-byte) v n (front-read l (drop at s) v n e)
@@ -147,21 +150,21 @@ edge-wide s at p n (e-off m c d k) h i = absurd (let g = d h in omega arith)
 -- ---- the answer, by both ends
 module _ {s : List ℕ} {at : ℕ} (i j : ℕ) where
   -- the start is Null
-  from-null : {q : Point} {n : ℕ} → Edge s at q n → (getD s at 0 ≡ 0 → ⊥) → ltb i 2 ≡ in-order i j nowhere q
+  from-null : {q : Point} {n : ℕ} → Edge s at q n → (getD s at 0 ≡ 0 → ⊥) → ltb i 2 ≡ inOrder i j nowhere q
   from-null (e-null c k) h = absurd (h c)
   from-null (e-text c k) h = refl
   from-null (e-key c d x o k) h = refl
   from-null (e-off m c d k) h = refl
 
   -- the end is Null
-  to-null : {p : Point} {m : ℕ} → Edge s at p m → 2 ≤ getD s at 0 → getD s at 0 < 9 → ltb j 2 ≡ in-order i j p nowhere
+  to-null : {p : Point} {m : ℕ} → Edge s at p m → 2 ≤ getD s at 0 → getD s at 0 < 9 → ltb j 2 ≡ inOrder i j p nowhere
   to-null (e-null c k) g h = absurd (omega arith)
   to-null (e-text c k) g h = refl
   to-null (e-key c d x o k) g h = refl
   to-null (e-off m c d k) g h = absurd (let z = d g in omega arith)
 
   -- two kinds
-  apart : {to : ℕ} {p q : Point} {m n : ℕ} → Edge s at p m → Edge s to q n → 2 ≤ getD s at 0 → getD s at 0 < 9 → (getD s to 0 ≡ 0 → ⊥) → (getD s to 0 ≡ getD s at 0 → ⊥) → false ≡ in-order i j p q
+  apart : {to : ℕ} {p q : Point} {m n : ℕ} → Edge s at p m → Edge s to q n → 2 ≤ getD s at 0 → getD s at 0 < 9 → (getD s to 0 ≡ 0 → ⊥) → (getD s to 0 ≡ getD s at 0 → ⊥) → false ≡ inOrder i j p q
   apart (e-null c k) f g h x y = absurd (omega arith)
   apart (e-text c k) (e-null d l) g h x y = absurd (x d)
   apart (e-text c k) (e-text d l) g h x y = absurd (y (d ∙ sym c))
@@ -198,7 +201,7 @@ module _ {s : List ℕ} (R : Ranged s) where
     end-three h = E .is false (rw (ne-eqb I 3 x, eq-eqb J 3 h))
 
     module _ (y : J ≡ 3 → ⊥) where
-      answer : (r : Bool) → r ≡ in-order I J (E .p) (E .q) → RangeIs s r
+      answer : (r : Bool) → r ≡ inOrder I J (E .p) (E .q) → RangeIs s r
       answer r h = E .is r (rw (ne-eqb I 3 x, ne-eqb J 3 y) h)
 
       -- neither Null nor a kind with an order

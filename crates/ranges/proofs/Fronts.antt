@@ -1,4 +1,5 @@
 -- What a value that was read is, by its command: a leaf with its operands, or anything else.
+-- Index: `Front`, `front-read` (the view); `Other` (no leaf); `command-is` (the command byte is the tree's).
 -- Assumes nothing.
 use Prim.Native.Nat.{ℕ, _+_, _-_, _≤_}
 use mathlib.Core.Path.{_≡_, refl, sym, _∙_}
@@ -7,20 +8,20 @@ use mathlib.Core.List.{List}
 use native.Mathlib.Omega.{arith}
 use lib.ListN.{length, getD}
 use lib.Dec.{eqb}
-use Rattle.form.specs.Trees.{Temporal, Leaf, l-null, l-boolean, l-number, l-string, l-temporal, Val, v-leaf, code-temporal, decode-temporal}
+use Rattle.form.specs.Trees.{Temporal, Leaf, l-null, l-boolean, l-number, l-string, l-temporal, Val, v-leaf, codeTemporal, decodeTemporal}
 use Rattle.form.specs.Limits.{nameWidth}
 use Rattle.form.specs.Form.{numAt}
 use Rattle.form.specs.Read.{got, readV}
 use Rattle.form.proofs.ExactValues.{code-decode}
 use Rattle.form.proofs.Nodes.{NodeV, nNull, nBoolean, nNumber, nString, nTemporal, nRangeV, nListV, nContextV, nDefinition, nBuiltIn, nType, nIrrelevant, value-read}
-use Rattle.ranges.specs.Ranges.{elsewhere, point, command, of-leaf}
+use Rattle.ranges.specs.Ranges.{elsewhere, point, command, ofLeaf}
 
 -- no leaf: its command, no point, and no test of leaves is met
 pub record Other (s : List ℕ) (v : Val) : Type 0 where
   pub high : 9 ≤ getD s 0 0
   pub told : command v ≡ getD s 0 0
   pub off : point v ≡ elsewhere
-  pub no : (f : Leaf → Bool) → of-leaf f v ≡ false
+  pub no : (f : Leaf → Bool) → ofLeaf f v ≡ false
 
 -- a value and the bytes that it took
 pub data Front (s : List ℕ) : Val → ℕ → Type 0 where
@@ -28,10 +29,10 @@ pub data Front (s : List ℕ) : Val → ℕ → Type 0 where
   f-boolean : getD s 0 0 ≡ 1 → 2 ≤ length s → getD s 1 0 ≤ 1 → Front s (v-leaf (l-boolean (eqb (getD s 1 0) 1))) 2
   f-number : getD s 0 0 ≡ 2 → 9 ≤ length s → Front s (v-leaf (l-number (numAt 8 1 s))) 9
   f-string : getD s 0 0 ≡ 3 → 1 + nameWidth ≤ length s → Front s (v-leaf (l-string (numAt nameWidth 1 s))) (1 + nameWidth)
-  f-temporal : (k : Temporal) → 4 + code-temporal k ≡ getD s 0 0 → 9 ≤ length s → Front s (v-leaf (l-temporal k (numAt 8 1 s))) 9
+  f-temporal : (k : Temporal) → 4 + codeTemporal k ≡ getD s 0 0 → 9 ≤ length s → Front s (v-leaf (l-temporal k (numAt 8 1 s))) 9
   f-other : (v : Val) (n : ℕ) → Other s v → Front s v n
 
-other : {s : List ℕ} (v : Val) (n : ℕ) {b : ℕ} → getD s 0 0 ≡ b → 9 ≤ b → command v ≡ b → point v ≡ elsewhere → ((f : Leaf → Bool) → of-leaf f v ≡ false) → Front s v n
+other : {s : List ℕ} (v : Val) (n : ℕ) {b : ℕ} → getD s 0 0 ≡ b → 9 ≤ b → command v ≡ b → point v ≡ elsewhere → ((f : Leaf → Bool) → ofLeaf f v ≡ false) → Front s v n
 other v n c h t p f = f-other v n (record { high = omega arith; told = t ∙ sym c; off = p; no = f })
 
 front-of : (l : ℕ) (s : List ℕ) (v : Val) (n : ℕ) → NodeV l s v n → Front s v n
@@ -39,7 +40,7 @@ front-of l s v n (nNull c k x) = f-null c k
 front-of l s v n (nBoolean c k x) = f-boolean c k x
 front-of l s v n (nNumber c k) = f-number c k
 front-of l s v n (nString c k) = f-string c k
-front-of l s v n (nTemporal c d k) = f-temporal (decode-temporal (getD s 0 0 - 4)) (omega (arith, code-decode (getD s 0 0 - 4) (omega arith))) k
+front-of l s v n (nTemporal c d k) = f-temporal (decodeTemporal (getD s 0 0 - 4)) (omega (arith, code-decode (getD s 0 0 - 4) (omega arith))) k
 front-of l s v n (nRangeV c k x y a m p b j q) = other v n c (omega arith) refl refl (λ f. refl)
 front-of l s v n (nListV c k vs m p) = other v n c (omega arith) refl refl (λ f. refl)
 front-of l s v n (nContextV c k es m p) = other v n c (omega arith) refl refl (λ f. refl)

@@ -1,4 +1,6 @@
 -- The small questions: refusals first, then the answer from the command and the byte behind it.
+-- Index: `asked-refused`, `Fine`, `fine`, `some-byte`, `asked-done` (the reader's answer); `kind-done` (by the command); `Leads`, `null-leads`, `boolean-leads`, `lead-byte`, `lead-done`, `lead-no`
+-- (by a leaf's byte); `range-no`, `ranged`, `range-done` (ranges); `interval-refused`, `interval-done`, `interval-same`, `odd-is` (interval types).
 -- Assumes nothing.
 use Prim.Native.Nat.{ℕ, zero, suc, _<_, _≤_, _%_}
 use mathlib.Core.Path.{_≡_, refl, sym, ap, _∙_}
@@ -21,8 +23,8 @@ use Rattle.form.proofs.Accepted.{whole-got, level-told}
 use Rattle.form.proofs.Nodes.{value-read}
 use Rattle.types.proofs.Reading.{got-seen}
 use Rattle.values.specs.At.{valueAt}
-use Rattle.values.proofs.Calling.{value-refused}
-use Rattle.ranges.specs.Ranges.{isValidRange, command, null-with, the-boolean, of-leaf}
+use Rattle.values.proofs.CallContracts.{value-refused}
+use Rattle.ranges.specs.Ranges.{isValidRange, command, nullWith, theBoolean, ofLeaf}
 use Rattle.ranges.specs.Calls.{asked, ofKind, interval, isValidRangeCall, Ranged, RangeOf, RangeIs}
 use Rattle.ranges.proofs.Fronts.{Front, f-null, f-boolean, f-number, f-string, f-temporal, f-other, front-read, command-is}
 
@@ -60,39 +62,39 @@ module _ {s : List ℕ} (F : Fine s) where
 
 -- ---- a leaf with the command c and the byte x
 abbrev pub Leads : (Leaf → Bool) → ℕ → ℕ → Type 0
-Leads f c x = (s : List ℕ) (v : Val) (n : ℕ) → Front s v n → (getD s 0 0 ≡ c → (of-leaf f v ≡ eqb (getD s 1 0) x) × (1 < length s)) × ((getD s 0 0 ≡ c → ⊥) → of-leaf f v ≡ false)
+Leads f c x = (s : List ℕ) (v : Val) (n : ℕ) → Front s v n → (getD s 0 0 ≡ c → (ofLeaf f v ≡ eqb (getD s 1 0) x) × (1 < length s)) × ((getD s 0 0 ≡ c → ⊥) → ofLeaf f v ≡ false)
 
-pub null-leads : (x : ℕ) → Leads (null-with x) 0 x
+pub null-leads : (x : ℕ) → Leads (nullWith x) 0 x
 null-leads x s v n (f-null c k) = (λ h. (refl, omega arith), λ h. absurd (h c))
 null-leads x s v n (f-boolean c k y) = (λ h. absurd (omega arith), λ h. refl)
 null-leads x s v n (f-number c k) = (λ h. absurd (omega arith), λ h. refl)
 null-leads x s v n (f-string c k) = (λ h. absurd (omega arith), λ h. refl)
 null-leads x s v n (f-temporal t c k) = (λ h. absurd (omega arith), λ h. refl)
-null-leads x s v n (f-other w k o) = (λ h. absurd (omega (arith, o .high)), λ h. o .no (null-with x))
+null-leads x s v n (f-other w k o) = (λ h. absurd (omega (arith, o .high)), λ h. o .no (nullWith x))
 
-one-or-none : (b : Bool) (y : ℕ) → y ≤ 1 → the-boolean b (l-boolean (eqb y 1)) ≡ eqb y (bit b)
+one-or-none : (b : Bool) (y : ℕ) → y ≤ 1 → theBoolean b (l-boolean (eqb y 1)) ≡ eqb y (bit b)
 one-or-none true y h = refl
 one-or-none false zero h = refl
 one-or-none false (suc zero) h = refl
 one-or-none false (suc (suc y)) h = absurd (omega arith)
 
-pub boolean-leads : (b : Bool) → Leads (the-boolean b) 1 (bit b)
+pub boolean-leads : (b : Bool) → Leads (theBoolean b) 1 (bit b)
 boolean-leads b s v n (f-null c k) = (λ h. absurd (omega arith), λ h. refl)
 boolean-leads b s v n (f-boolean c k y) = (λ h. (one-or-none b (getD s 1 0) y, omega arith), λ h. absurd (h c))
 boolean-leads b s v n (f-number c k) = (λ h. absurd (omega arith), λ h. refl)
 boolean-leads b s v n (f-string c k) = (λ h. absurd (omega arith), λ h. refl)
 boolean-leads b s v n (f-temporal t c k) = (λ h. absurd (omega arith), λ h. refl)
-boolean-leads b s v n (f-other w k o) = (λ h. absurd (omega (arith, o .high)), λ h. o .no (the-boolean b))
+boolean-leads b s v n (f-other w k o) = (λ h. absurd (omega (arith, o .high)), λ h. o .no (theBoolean b))
 
 module _ {f : Leaf → Bool} {c : ℕ} (x : ℕ) (L : Leads f c x) {s : List ℕ} (F : Fine s) where
   pub lead-byte : getD s 0 0 ≡ c → 1 < length s
   lead-byte h = L s (F .v) (length s) (front F) .0 h .1
 
-  pub lead-done : {o : Outcome Bool} → getD s 0 0 ≡ c → o ≡ done (eqb (getD s 1 0) x) → o ≡ asked (of-leaf f) s
-  lead-done h e = asked-done F (of-leaf f) e (sym (L s (F .v) (length s) (front F) .0 h .0))
+  pub lead-done : {o : Outcome Bool} → getD s 0 0 ≡ c → o ≡ done (eqb (getD s 1 0) x) → o ≡ asked (ofLeaf f) s
+  lead-done h e = asked-done F (ofLeaf f) e (sym (L s (F .v) (length s) (front F) .0 h .0))
 
-  pub lead-no : (getD s 0 0 ≡ c → ⊥) → done false ≡ asked (of-leaf f) s
-  lead-no h = asked-done F (of-leaf f) refl (sym (L s (F .v) (length s) (front F) .1 h))
+  pub lead-no : (getD s 0 0 ≡ c → ⊥) → done false ≡ asked (ofLeaf f) s
+  lead-no h = asked-done F (ofLeaf f) refl (sym (L s (F .v) (length s) (front F) .1 h))
 
 -- ---- ranges
 no-range : (v : Val) → (command v ≡ 9 → ⊥) → isValidRange v ≡ false

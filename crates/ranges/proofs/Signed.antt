@@ -1,4 +1,4 @@
--- The order of keys is that of the whole numbers they mean. A key below 2^63 means itself, one from 2^63 on minus (2^64 less it): both sides of each law are
+-- The order of keys is that of the whole numbers they mean (`key-order`). A key below 2^63 means itself, one from 2^63 on minus (2^64 less it): both sides of each law are
 -- comparisons of naturals once the signs are known.
 -- Assumes nothing.
 use mathlib.Core.Path.{_≡_, refl, sym, ap, subst, _∙_}
@@ -10,7 +10,7 @@ use lib.Dec.{T, leb}
 use lib.IntN.{ℤ, pos, negsuc}
 use lib.Signed.{leZ, _≤ℤ_}
 use borrow.Author.Tests.{leb-true, leb-false, le-leb, lt-leb, lt-ltb, eq-eqb}
-use Rattle.ranges.specs.Ranges.{negative, signedLe, key, in-order}
+use Rattle.ranges.specs.Ranges.{negative, signedLe, key, inOrder}
 use Rattle.ranges.specs.Signed.{meaning, Holds64, KeyOf, KeyOrder}
 
 -- a test that passed
@@ -47,7 +47,7 @@ whole a b h g =
     ((λ y. record { le = subst T (sym y ∙ e) tt }), (λ l. e ∙ test-yes (leZ (meaning a) (meaning b)) (l .le)))
 
 -- of one kind
-not-less : (i j k a b : ℕ) → a < 2 ^ 64 → b < 2 ^ 64 → (in-order i j (key k a) (key k b) ≡ true) ↔ (meaning a ≤ℤ meaning b)
+not-less : (i j k a b : ℕ) → a < 2 ^ 64 → b < 2 ^ 64 → (inOrder i j (key k a) (key k b) ≡ true) ↔ (meaning a ≤ℤ meaning b)
 not-less i j k a b h g = rw (eq-eqb k k refl) (whole a b h g)
 
 held : (a : ℕ) → a < 2 ^ 64 → Holds64 (meaning a)

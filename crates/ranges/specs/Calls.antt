@@ -13,7 +13,7 @@ use Rattle.form.specs.Outcome.{Outcome, done, _>>=_, _>>_, check, fits}
 use Rattle.form.specs.Trees.{Val}
 use Rattle.form.specs.Form.{enc}
 use Rattle.form.specs.Read.{readValue}
-use Rattle.ranges.specs.Ranges.{opened, closed, undefined, isValidRange, command, null-with, the-boolean, of-leaf, bifType}
+use Rattle.ranges.specs.Ranges.{opened, closed, undefined, isValidRange, command, nullWith, theBoolean, ofLeaf, bifType}
 
 -- a question that every value answers; 1 to 5
 abbrev pub asked : (Val → Bool) → List ℕ → Outcome Bool
@@ -43,14 +43,14 @@ isRangeCall v = ofKind 0x09 v
 
 -- Value::is_true, is_false
 abbrev pub isTrueCall : List ℕ → Outcome Bool
-isTrueCall v = asked (of-leaf (the-boolean true)) v
+isTrueCall v = asked (ofLeaf (theBoolean true)) v
 
 abbrev pub isFalseCall : List ℕ → Outcome Bool
-isFalseCall v = asked (of-leaf (the-boolean false)) v
+isFalseCall v = asked (ofLeaf (theBoolean false)) v
 
 -- Value::is_invalid_coercion: trace 1
 abbrev pub isInvalidCoercionCall : List ℕ → Outcome Bool
-isInvalidCoercionCall v = asked (of-leaf (null-with 1)) v
+isInvalidCoercionCall v = asked (ofLeaf (nullWith 1)) v
 
 -- Value::is_valid_range
 abbrev pub isValidRangeCall : List ℕ → Outcome Bool

@@ -3,7 +3,8 @@
 use Prim.Native.Nat.{ℕ, _+_, _^_}
 use mathlib.Core.Bool.{Bool, true, false, cond, _&&_, _||_}
 use lib.Dec.{leb, ltb, eqb}
-use Rattle.form.specs.Trees.{any, number, Ty, leaf, built, function, no-params, param, code-temporal, Leaf, l-null, l-boolean, l-number, l-string, l-temporal, Val, v-leaf, v-range, v-list, v-context, v-function, v-built-in, v-type, v-irrelevant}
+use Rattle.form.specs.Trees.{any, number, Ty, leaf, built, function, no-params, param, codeTemporal, Leaf, l-null, l-boolean, l-number, l-string, l-temporal, Val, v-leaf, v-range}
+use Rattle.form.specs.Trees.{v-list, v-context, v-function, v-built-in, v-type, v-irrelevant}
 
 -- ---- interval types: 0 Opened, 1 OpenedUndef, 2 Closed, 3 ClosedUndef
 -- `IntervalType::opened`
@@ -33,15 +34,15 @@ pub data Point : Type 0 where
   key : ℕ → ℕ → Point
   elsewhere : Point
 
-abbrev pub leaf-point : Leaf → Point
-leaf-point (l-null x) = nowhere
-leaf-point (l-boolean x) = elsewhere
-leaf-point (l-number n) = key 0x02 n
-leaf-point (l-string n) = text n
-leaf-point (l-temporal k n) = key (0x04 + code-temporal k) n
+abbrev pub leafPoint : Leaf → Point
+leafPoint (l-null x) = nowhere
+leafPoint (l-boolean x) = elsewhere
+leafPoint (l-number n) = key 0x02 n
+leafPoint (l-string n) = text n
+leafPoint (l-temporal k n) = key (0x04 + codeTemporal k) n
 
 abbrev pub point : Val → Point
-point (v-leaf l) = leaf-point l
+point (v-leaf l) = leafPoint l
 point (v-range i j v w) = elsewhere
 point (v-list vs) = elsewhere
 point (v-context es) = elsewhere
@@ -52,25 +53,25 @@ point v-irrelevant = elsewhere
 
 -- Start a text, number or temporal kind: the end is of that kind and not smaller, or Null with end byte 0 or 1.
 -- Start Null: end not Null and start byte 0 or 1. Else no.
-abbrev pub in-order : ℕ → ℕ → Point → Point → Bool
-in-order i j nowhere nowhere = false
-in-order i j nowhere (text m) = opened i
-in-order i j nowhere (key h m) = opened i
-in-order i j nowhere elsewhere = opened i
-in-order i j (text n) nowhere = opened j
-in-order i j (text n) (text m) = leb n m
-in-order i j (text n) (key h m) = false
-in-order i j (text n) elsewhere = false
-in-order i j (key k n) nowhere = opened j
-in-order i j (key k n) (text m) = false
-in-order i j (key k n) (key h m) = eqb k h && signedLe n m
-in-order i j (key k n) elsewhere = false
-in-order i j elsewhere p = false
+abbrev pub inOrder : ℕ → ℕ → Point → Point → Bool
+inOrder i j nowhere nowhere = false
+inOrder i j nowhere (text m) = opened i
+inOrder i j nowhere (key h m) = opened i
+inOrder i j nowhere elsewhere = opened i
+inOrder i j (text n) nowhere = opened j
+inOrder i j (text n) (text m) = leb n m
+inOrder i j (text n) (key h m) = false
+inOrder i j (text n) elsewhere = false
+inOrder i j (key k n) nowhere = opened j
+inOrder i j (key k n) (text m) = false
+inOrder i j (key k n) (key h m) = eqb k h && signedLe n m
+inOrder i j (key k n) elsewhere = false
+inOrder i j elsewhere p = false
 
 -- 3 at either end: no
 abbrev pub isValidRange : Val → Bool
 isValidRange (v-leaf l) = false
-isValidRange (v-range i j v w) = cond (eqb i 3 || eqb j 3) false (in-order i j (point v) (point w))
+isValidRange (v-range i j v w) = cond (eqb i 3 || eqb j 3) false (inOrder i j (point v) (point w))
 isValidRange (v-list vs) = false
 isValidRange (v-context es) = false
 isValidRange (v-function ps b r) = false
@@ -79,15 +80,15 @@ isValidRange (v-type t) = false
 isValidRange v-irrelevant = false
 
 -- ---- the small questions: the command of a value, and the byte behind it of a null (its trace) and of a Boolean
-abbrev pub leaf-command : Leaf → ℕ
-leaf-command (l-null x) = 0x00
-leaf-command (l-boolean x) = 0x01
-leaf-command (l-number x) = 0x02
-leaf-command (l-string x) = 0x03
-leaf-command (l-temporal k x) = 0x04 + code-temporal k
+abbrev pub leafCommand : Leaf → ℕ
+leafCommand (l-null x) = 0x00
+leafCommand (l-boolean x) = 0x01
+leafCommand (l-number x) = 0x02
+leafCommand (l-string x) = 0x03
+leafCommand (l-temporal k x) = 0x04 + codeTemporal k
 
 abbrev pub command : Val → ℕ
-command (v-leaf l) = leaf-command l
+command (v-leaf l) = leafCommand l
 command (v-range i j v w) = 0x09
 command (v-list vs) = 0x0A
 command (v-context es) = 0x0B
@@ -97,31 +98,31 @@ command (v-type t) = 0x0E
 command v-irrelevant = 0x0F
 
 -- a null with this trace
-abbrev pub null-with : ℕ → Leaf → Bool
-null-with n (l-null x) = eqb x n
-null-with n (l-boolean x) = false
-null-with n (l-number x) = false
-null-with n (l-string x) = false
-null-with n (l-temporal k x) = false
+abbrev pub nullWith : ℕ → Leaf → Bool
+nullWith n (l-null x) = eqb x n
+nullWith n (l-boolean x) = false
+nullWith n (l-number x) = false
+nullWith n (l-string x) = false
+nullWith n (l-temporal k x) = false
 
 -- this Boolean
-abbrev pub the-boolean : Bool → Leaf → Bool
-the-boolean b (l-null x) = false
-the-boolean true (l-boolean x) = x
-the-boolean false (l-boolean x) = cond x false true
-the-boolean b (l-number x) = false
-the-boolean b (l-string x) = false
-the-boolean b (l-temporal k x) = false
+abbrev pub theBoolean : Bool → Leaf → Bool
+theBoolean b (l-null x) = false
+theBoolean true (l-boolean x) = x
+theBoolean false (l-boolean x) = cond x false true
+theBoolean b (l-number x) = false
+theBoolean b (l-string x) = false
+theBoolean b (l-temporal k x) = false
 
-abbrev pub of-leaf : (Leaf → Bool) → Val → Bool
-of-leaf f (v-leaf l) = f l
-of-leaf f (v-range i j v w) = false
-of-leaf f (v-list vs) = false
-of-leaf f (v-context es) = false
-of-leaf f (v-function ps b r) = false
-of-leaf f (v-built-in b) = false
-of-leaf f (v-type t) = false
-of-leaf f v-irrelevant = false
+abbrev pub ofLeaf : (Leaf → Bool) → Val → Bool
+ofLeaf f (v-leaf l) = f l
+ofLeaf f (v-range i j v w) = false
+ofLeaf f (v-list vs) = false
+ofLeaf f (v-context es) = false
+ofLeaf f (v-function ps b r) = false
+ofLeaf f (v-built-in b) = false
+ofLeaf f (v-type t) = false
+ofLeaf f v-irrelevant = false
 
 -- ---- `Bif::feel_type`: Abs and Sqrt are function<number> to number, all others Any
 abbrev pub bifType : ℕ → Ty

@@ -6,7 +6,7 @@ use mathlib.Core.Logic.{_↔_, _⊎_}
 use Prim.Native.Nat.{ℕ, _<_, _^_}
 use lib.IntN.{ℤ, pos, _-ℤ_}
 use lib.Signed.{mag, _≤ℤ_}
-use Rattle.ranges.specs.Ranges.{negative, signedLe, key, in-order}
+use Rattle.ranges.specs.Ranges.{negative, signedLe, key, inOrder}
 
 -- the whole number of a key, in two's complement: from 2^63 on the key less 2^64
 unfoldable pub meaning : ℕ → ℤ
@@ -26,7 +26,7 @@ pub record KeyOf (z : ℤ) : Type 0 where
 pub record KeyOrder : Type 0 where
   pub whole-numbers : (a b : ℕ) → a < 2 ^ 64 → b < 2 ^ 64 → (signedLe a b ≡ true) ↔ (meaning a ≤ℤ meaning b)
   -- so a range of two keys of one kind is in order exactly where the end's whole number is not smaller
-  pub not-smaller : (i j k a b : ℕ) → a < 2 ^ 64 → b < 2 ^ 64 → (in-order i j (key k a) (key k b) ≡ true) ↔ (meaning a ≤ℤ meaning b)
+  pub not-smaller : (i j k a b : ℕ) → a < 2 ^ 64 → b < 2 ^ 64 → (inOrder i j (key k a) (key k b) ≡ true) ↔ (meaning a ≤ℤ meaning b)
   -- keys and the whole numbers of 64 bits correspond
   pub in-range : (a : ℕ) → a < 2 ^ 64 → Holds64 (meaning a)
   pub every-number : (z : ℤ) → Holds64 z → KeyOf z

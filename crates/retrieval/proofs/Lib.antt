@@ -1,11 +1,10 @@
-pub mod Pieces
 pub mod Trees
-pub mod Answering
-pub mod Listing
-pub mod Contexts
-pub mod Commands
+pub mod BuilderContract
+pub mod ItemsLoop
+pub mod EntriesLoop
+pub mod ByCommand
 pub mod Theorems
 pub mod ByNames
-pub mod Calling
+pub mod CallContracts
 pub mod Retrieval
 pub mod OverBytes

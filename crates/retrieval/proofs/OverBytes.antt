@@ -1,4 +1,4 @@
--- What `OverBytes` states of the calls holds: what was accepted is well-formed, so the laws on trees apply, and what is retrieved is read back from its bytes.
+-- What `OverBytes` states of the calls holds (`over-bytes`): what was accepted is well-formed, so the laws on trees apply, and what is retrieved is read back from its bytes.
 -- Assumes nothing.
 use Prim.Native.Nat.{ℕ, _≤_}
 use native.Mathlib.Omega.{arith}
@@ -9,7 +9,7 @@ use mathlib.Core.List.{List, [], _∷_}
 use lib.ListN.{length, getD}
 use lib.Dec.{leb}
 use borrow.Author.Tests.{le-leb}
-use Rattle.form.specs.Trees.{null, Ty, leaf, built, Val}
+use Rattle.form.specs.Trees.{null, Ty, leaf, built, Val, nothing}
 use Rattle.form.specs.Form.{enc, encV, WfV}
 use Rattle.form.specs.Outcome.{Outcome, done, refused, _>>=_, pick, fits}
 use Rattle.form.specs.Read.{readValue}
@@ -21,16 +21,16 @@ use Rattle.order.specs.Inferred.{valueConformsTo}
 use Rattle.order.proofs.Simple.{same-eq}
 use Rattle.order.proofs.WellFormed.{asc-of}
 use Rattle.types.specs.Calls.{isYes}
-use Rattle.values.specs.Calls.{isConformant}
-use Rattle.retrieval.specs.Retrieve.{retrieve, nothing, is-null, or-nothing}
+use Rattle.values.specs.Calls.{isConformant, Accepted}
+use Rattle.retrieval.specs.Retrieve.{retrieve, isNullType, orNothing}
 use Rattle.retrieval.specs.Retrieval.{There}
 use Rattle.retrieval.specs.ByNames.{retrieveByNames}
-use Rattle.retrieval.specs.Filling.{Accepted}
-use Rattle.retrieval.specs.Calls.{result, getValueCheckedCall, getConformantValueCall}
+use Rattle.retrieval.specs.Calls.{getValueCheckedCall, getConformantValueCall}
 use Rattle.retrieval.specs.OverBytes.{Conformant, RetrievedBytes, resultOf, OverBytes}
 use Rattle.retrieval.proofs.Theorems.{less-val, there}
 use Rattle.retrieval.proofs.ByNames.{by-names}
-use Rattle.retrieval.proofs.Calling.{well, checked-is, checked-err, retrieved-within, value-short, conformant-is, nothing-is, null-type, null-target, not-conformant, is-conformant}
+use Rattle.output.specs.Result.{result}
+use Rattle.retrieval.proofs.CallContracts.{well, checked-is, checked-err, retrieved-within, value-short, conformant-is, nothing-is, null-type, null-target, not-conformant, is-conformant}
 
 -- an answer or 18
 fits-refused : (room : ℕ) (bs : List ℕ) (n : ℕ) → fits room bs ≡ refused n → n ≡ 18
@@ -99,21 +99,21 @@ module _ (t v : List ℕ) (A : Accepted t v) where
   unfolding enc
   null-byte e = type-accepted t (A .bytes-t) (A .type) (A .read-t) .bytes ∙ go (A .type) (null-type t v A e)
     where
-      go : (u : Ty) → is-null u ≡ true → enc u ≡ 0x29 ∷ []
+      go : (u : Ty) → isNullType u ≡ true → enc u ≡ 0x29 ∷ []
       go (leaf s) h = rw (same-eq s null h)
       go (built x) h = absurd (let z : _≡_ {A = ℕ} 0 1 = cc in omega arith)
 
-  by-tests : (room : ℕ) (p q : Bool) → is-null (A .type) ≡ p → valueConformsTo (A .value) (A .type) ≡ q
-      → getConformantValueCall t v room ≡ result room (cond p (nothing 0) (cond q (or-nothing (retrieve (A .value) (A .type))) (nothing 2)))
+  by-tests : (room : ℕ) (p q : Bool) → isNullType (A .type) ≡ p → valueConformsTo (A .value) (A .type) ≡ q
+      → getConformantValueCall t v room ≡ result room (cond p (nothing 0) (cond q (orNothing (retrieve (A .value) (A .type))) (nothing 2)))
   by-tests room p q f g = conformant-is t v A room ∙ rw (f, g)
 
   refuses : (room n : ℕ) → getConformantValueCall t v room ≡ refused n → n ≡ 18
-  refuses room n e = go (is-null (A .type)) (valueConformsTo (A .value) (A .type)) refl refl
+  refuses room n e = go (isNullType (A .type)) (valueConformsTo (A .value) (A .type)) refl refl
     where
       of-nothing : (k : ℕ) → getConformantValueCall t v room ≡ result room (nothing k) → n ≡ 18
       of-nothing k g = fits-refused room (0 ∷ k ∷ []) n (sym (nothing-is t v A room k) ∙ sym g ∙ e)
 
-      go : (p q : Bool) → is-null (A .type) ≡ p → valueConformsTo (A .value) (A .type) ≡ q → n ≡ 18
+      go : (p q : Bool) → isNullType (A .type) ≡ p → valueConformsTo (A .value) (A .type) ≡ q → n ≡ 18
       go true q f g = of-nothing 0 (by-tests room true q f g)
       go false false f g = of-nothing 2 (by-tests room false false f g)
       go false true f g =

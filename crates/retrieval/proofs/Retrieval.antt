@@ -1,4 +1,4 @@
--- What `Retrieval` states holds.
+-- What `Retrieval` states holds (`retrieval`): the laws of Theorems and ByNames, gathered.
 -- Assumes nothing.
 use Rattle.form.specs.Trees.{built, context}
 use Rattle.form.specs.Form.{WfV}

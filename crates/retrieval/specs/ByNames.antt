@@ -6,7 +6,8 @@ use mathlib.Core.Bool.{cond}
 use mathlib.Core.Option.{Option, some}
 use lib.Dec.{eqb}
 use Rattle.form.specs.Trees.{Ty, Fields, no-fields, field, Val, v-leaf, v-range, v-list, v-context, v-function, v-built-in, v-type, v-irrelevant, Vals, no-items, item, Entries, no-entries, entry}
-use Rattle.retrieval.specs.Retrieve.{mapped, both, copied, retrieve-leaf, by-range, by-function, by-any, by-list, by-context}
+use Rattle.retrieval.specs.Retrieve.{copied, retrieveLeaf, byRange, byFunction, byAny, byList, byContext}
+use Rattle.form.specs.Options.{map, both}
 
 -- the type's names in their order: of each what `one` says, given what comes of the later names
 unfoldable pub overNames : (ℕ → Ty → Option Entries → Option Entries) → Fields → Option Entries
@@ -16,15 +17,15 @@ overNames one (field n t fs) = one n t (overNames one fs)
 unfoldable mutual
   -- Err is none
   pub retrieveByNames : Val → Ty → Option Val
-  retrieveByNames (v-leaf l) t = retrieve-leaf l t
-  retrieveByNames (v-range i j v w) t = copied (by-range t) (v-range i j v w)
-  retrieveByNames (v-list vs) t = by-list t (v-list vs) (λ u. mapped v-list (itemsByNames vs u))
+  retrieveByNames (v-leaf l) t = retrieveLeaf l t
+  retrieveByNames (v-range i j v w) t = copied (byRange t) (v-range i j v w)
+  retrieveByNames (v-list vs) t = byList t (v-list vs) (λ u. map v-list (itemsByNames vs u))
   -- "keeps the type's names that are present, each retrieved, missing ones skipped"
-  retrieveByNames (v-context es) t = by-context t (v-context es) (λ fs. mapped v-context (overNames (λ n u later. ofName es n u later) fs))
-  retrieveByNames (v-function ps b r) t = copied (by-function t) (v-function ps b r)
-  retrieveByNames (v-built-in b) t = copied (by-any t) (v-built-in b)
-  retrieveByNames (v-type a) t = copied (by-any t) (v-type a)
-  retrieveByNames v-irrelevant t = copied (by-any t) v-irrelevant
+  retrieveByNames (v-context es) t = byContext t (v-context es) (λ fs. map v-context (overNames (λ n u later. ofName es n u later) fs))
+  retrieveByNames (v-function ps b r) t = copied (byFunction t) (v-function ps b r)
+  retrieveByNames (v-built-in b) t = copied (byAny t) (v-built-in b)
+  retrieveByNames (v-type a) t = copied (byAny t) (v-type a)
+  retrieveByNames v-irrelevant t = copied (byAny t) v-irrelevant
 
   pub itemsByNames : Vals → Ty → Option Vals
   itemsByNames no-items t = some no-items

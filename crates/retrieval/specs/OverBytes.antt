@@ -10,9 +10,10 @@ use Rattle.form.specs.Form.{Bytes}
 use Rattle.form.specs.Trees.{Val}
 use Rattle.form.specs.Outcome.{Outcome, done, refused, _>>=_, orRefuse, fits}
 use Rattle.values.specs.Calls as values
-use Rattle.retrieval.specs.Filling.{Accepted}
 use Rattle.retrieval.specs.ByNames.{retrieveByNames}
-use Rattle.retrieval.specs.Calls.{result, getValueCheckedCall, getConformantValueCall}
+use Rattle.retrieval.specs.Calls.{getValueCheckedCall, getConformantValueCall}
+use Rattle.output.specs.Result.{result}
+use Rattle.values.specs.Calls.{Accepted}
 
 -- an accepted type, an accepted value, and the call for conformance says yes
 pub record Conformant (t v : List ℕ) : Type 0 where

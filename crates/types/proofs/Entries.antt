@@ -1,10 +1,12 @@
 -- The entries of a context type, one after the other: what stands at an index, and which names are still to come.
+-- Index: `Here`, `here`, `gone` (the next entry, or none); `asc-from`, `ahead`, `next-is`, `at-end` (names still to come); `skip-is`, `skip-short`, `size-got` (what `skip` answers);
+-- `size-entry`, `size-field`, `size-none`, `enc-field`, `enc-none`, `count-field`.
 -- Assumes nothing.
 use Prim.Native.Nat.{ℕ, suc, _+_, _-_, _<_, _≤_}
 use mathlib.Core.Path.{_≡_, refl, sym, ap, _∙_}
 use mathlib.Core.Bool.{Bool, true, false, cond}
 use mathlib.Core.Option.{Option, some}
-use mathlib.Core.List.{List}
+use mathlib.Core.List.{List, [], _++_}
 use native.Mathlib.Omega.{arith}
 use lib.ListN.{length, take, drop, length-drop}
 use lib.Seq.{drop-drop}
@@ -12,15 +14,15 @@ use lib.Dec.{ltb}
 use borrow.Author.Tests.{ltb-true, ltb-false}
 use Rattle.form.specs.Trees.{Ty, Fields, no-fields, field, simple}
 use Rattle.form.specs.Limits.{nameWidth, nameEnd}
-use Rattle.form.specs.Form.{numAt}
+use Rattle.form.specs.Form.{numAt, bytes, enc, encFields, countFields}
 use Rattle.form.specs.Read.{Got, got, bad, readT}
 use Rattle.form.specs.Walks.{walkOf, sizeIn, Short}
 use Rattle.form.specs.Form.{level}
-use Rattle.form.proofs.Told.{short-end}
+use Rattle.form.proofs.WalkAnswers.{short-end}
 use Rattle.form.proofs.TypeLaws.{simple-level}
 use Rattle.form.proofs.Runs.{rest}
 use Rattle.order.specs.Ascending.{Asc, AscFields}
-use Rattle.order.specs.Size.{size, size-fields}
+use Rattle.order.specs.Size.{size, sizeFields}
 use Rattle.types.specs.At.{seen, typeAt, fieldsAt, Ok, sizeAt}
 use Rattle.types.proofs.Reading.{is-ok, type-told, t-good, fields-good, Entry, entry, no-entry}
 
@@ -112,6 +114,33 @@ next-is j m v y p h = go (ltb j m) refl
 pub entry-ok : {l n at least : ℕ} {a : List ℕ} {fs : Fields} (P : Here l n at least a fs) → Ok (typeAt l (take (length a - (at + nameWidth)) (drop (at + nameWidth) a)))
 entry-ok {l} {n} {at} {least} {a} P = rw (rest a (at + nameWidth)) (is-ok (typeAt l (drop (at + nameWidth) a)) (P .t) (P .first))
 
-pub size-entry : {l n at least : ℕ} {a : List ℕ} {fs : Fields} (A : Here l n at least a fs) → size-fields fs ≡ nameWidth + size (A .t) + size-fields (A .more)
+pub size-entry : {l n at least : ℕ} {a : List ℕ} {fs : Fields} (A : Here l n at least a fs) → sizeFields fs ≡ nameWidth + size (A .t) + sizeFields (A .more)
 unfolding size
-size-entry A = ap size-fields (A .is)
+size-entry A = ap sizeFields (A .is)
+
+pub at-end : (i n x : ℕ) → (i < n → x < nameEnd) → x ≡ nameEnd → n ≤ i
+at-end i n x h e = go (ltb i n) refl
+  where
+    go : (q : Bool) → ltb i n ≡ q → n ≤ i
+    go true s = absurd (let z = h (ltb-true i n s) in omega arith)
+    go false s = ltb-false i n s
+
+pub enc-field : (m : ℕ) (t : Ty) (fs : Fields) → encFields (field m t fs) ≡ bytes nameWidth m ++ (enc t ++ encFields fs)
+unfolding enc
+enc-field m t fs = refl
+
+pub enc-none : encFields no-fields ≡ []
+unfolding enc
+enc-none = refl
+
+pub size-field : (n : ℕ) (t : Ty) (fs : Fields) → sizeFields (field n t fs) ≡ nameWidth + size t + sizeFields fs
+unfolding size
+size-field n t fs = refl
+
+pub size-none : sizeFields no-fields ≡ 0
+unfolding size
+size-none = refl
+
+pub count-field : (n : ℕ) (t : Ty) (fs : Fields) → countFields (field n t fs) ≡ suc (countFields fs)
+unfolding countFields
+count-field n t fs = refl

@@ -1,4 +1,6 @@
 -- The reader forward: what stands at the front is made of what stands behind it, whether that is read or not.
+-- Idea: a node is a function of its parts, also of parts that are missing.
+-- Index: `read-simple`, `node-list`, `node-range`, `node-context`, `node-function` (by the command); `param-on`, `result-read` (parameters and result); `then-seen`.
 -- Assumes nothing.
 use Prim.Native.Nat.{ℕ, suc, _+_, _-_, _<_, _≤_}
 use mathlib.Core.Path.{_≡_, refl, ap, _∙_}
@@ -12,7 +14,7 @@ use Rattle.form.specs.Trees.{Ty, leaf, built, list, range, context, function, T
 use Rattle.form.specs.Form.{numAt}
 use Rattle.form.specs.Layout.{kindOf}
 use Rattle.form.specs.Read.{Got, got, bad, front, andThen, orElse, operand, readRun, counted, readFunction, stepType, stepT, readT, readTys, readFields}
-use Rattle.form.proofs.Commands.{kind-simple}
+use Rattle.form.proofs.CommandKinds.{kind-simple}
 use Rattle.form.proofs.TypeLaws.{t-step}
 use Rattle.order.specs.Size.{size}
 use Rattle.types.specs.At.{seen, typeAt, fieldsAt, sig, cons, funOf, sigAt}

@@ -1,4 +1,6 @@
 -- `instance_of`: types that are equal have equal bytes, and contexts are held against each other name by name.
+-- Index: `front-bytes`, `same-type`, `other-type` (equal types and equal bytes); `unread`, `passes-test`, `same-or-null`, `neither-same`, `null-first` (`null_or_same`); `list-any`, `list-same`,
+-- `list-differ`, `list-short`, `list-apart`, `list-over` (`instance_list`); `instance-contexts`, `context-cut`, `context-short`, `context-apart`, `other-kinds`, `nothing-first`.
 -- Assumes nothing.
 use Prim.Native.Nat.{ℕ, suc, _-_, _<_, _≤_}
 use mathlib.Core.Path.{_≡_, refl, sym, ap, ap₂, _∙_}
@@ -17,25 +19,25 @@ use Rattle.form.specs.Outcome.{done}
 use Rattle.form.specs.Read.{readT, readType}
 use Rattle.form.proofs.ExactTypes.{enc-read}
 use Rattle.form.proofs.Types.{took-enc, enc-same, type-accepted}
-use Rattle.order.specs.Types.{all-fields}
+use Rattle.order.specs.Types.{allFields}
 use Rattle.order.specs.Ascending.{Asc, AscFields}
-use Rattle.order.specs.Size.{size, size-fields}
+use Rattle.order.specs.Size.{size, sizeFields}
 use Rattle.order.specs.Document.{eqTy, eqFields, nullOrSame, instanceBuilt, isInstanceOf}
 use Rattle.order.proofs.Simple.{and-both}
 use Rattle.order.proofs.Size.{size-positive}
 use Rattle.order.proofs.Equal.{eq-ty-self, eq-fields-same}
 use Rattle.types.specs.At.{typeAt, fieldsAt, sizeAt}
-use Rattle.types.specs.Conform.{conformBy, typesBy, entries, anyTwo, grown, Met}
+use Rattle.types.specs.Conform.{conformBy, typesBy, entries, anyTwo, addSizes, Met}
 use Rattle.types.specs.Calls.{isYes}
 use Rattle.types.proofs.Reading.{seen-got, type-told, cmd, cmd-is, some-byte, t-good, is-list, is-ctx}
 use Rattle.types.proofs.Pairs.{mapO, Both, taken, same-test, met-as, yes-of, told-no, told-yes}
-use Rattle.types.proofs.Conforming.{eq-false, le-any}
-use Rattle.types.proofs.Merging.{common}
+use Rattle.types.proofs.ByCommand.{eq-false, le-any}
+use Rattle.types.proofs.EntryTests.{common}
 use Rattle.types.proofs.Entries.{size-got}
 use Rattle.types.proofs.Forward.{read-simple, node-list}
-use Rattle.types.proofs.Passing.{sized, fails, met-contexts}
-use Rattle.types.proofs.Asking.{asked, both-read, answers-no}
-use Rattle.types.proofs.Calling.{whole-type}
+use Rattle.types.proofs.TypeConformance.{sized, fails, met-contexts}
+use Rattle.types.proofs.TwoArguments.{asked, both-read, answers-no}
+use Rattle.types.proofs.CallContracts.{whole-type}
 
 -- ---- the bytes of a type at the front
 pub front-bytes : (l : ℕ) (s : List ℕ) (t : Ty) → Bytes s → typeAt l s ≡ some t → Wf t × (take (size t) s ≡ enc t)
@@ -114,7 +116,7 @@ module _ (l : ℕ) (a b : List ℕ) (x y : ℕ) (m : Met (typesBy anyTwo (typeAt
 
 -- ---- equal contexts pass the test name by name
 self-entries : (fs : Fields) (k : ℕ) → AscFields fs k → entries nullOrSame fs fs ≡ true
-unfolding Asc all-fields
+unfolding Asc allFields
 self-entries no-fields k w = refl
 self-entries (field n a fs) k w =
     common nullOrSame n a a fs fs (w .2)
@@ -131,7 +133,7 @@ context-entries fs gs w = go (eqFields fs gs) refl
     go true e = sym (ap (entries nullOrSame fs) (sym (eq-fields-same fs gs e)) ∙ self-entries fs 0 w)
     go false e = refl
 
--- ---- `instance`
+-- ---- `is_instance`
 differ : (t u : Ty) → (cmd t ≡ cmd u → ⊥) → isInstanceOf t u ≡ false
 unfolding isInstanceOf instanceBuilt
 differ (leaf s) u h = refl
@@ -283,7 +285,7 @@ module _ (a b : List ℕ) (c : getD a 0 0 ≡ 0x2C) where
 -- two contexts
 pub instance-contexts : (l : ℕ) (a b : List ℕ) → 0 < l → 0 < length a → 0 < length b → (r t n k : ℕ) → n ≡ numAt 2 1 a → k ≡ numAt 2 1 b → getD a 0 0 ≡ 44 → getD b 0 0 ≡ 44
     → 3 ≤ length a → 3 ≤ length b
-    → Met (grown 3 3 (conformBy size-fields size-fields (entries nullOrSame) (fieldsAt (l - 1) n 0 (take (length a - 3) (drop 3 a))) (fieldsAt (l - 1) k 0 (take (length b - 3) (drop 3 b))))) r t
+    → Met (addSizes 3 3 (conformBy sizeFields sizeFields (entries nullOrSame) (fieldsAt (l - 1) n 0 (take (length a - 3) (drop 3 a))) (fieldsAt (l - 1) k 0 (take (length b - 3) (drop 3 b))))) r t
     → Met (typesBy isInstanceOf (typeAt l a) (typeAt l b)) r t
 unfolding isInstanceOf instanceBuilt
 instance-contexts l a b p ha hb r t n k ne ke c d i j m = met-contexts l a b p ha hb r t isInstanceOf nullOrSame (λ fs gs w. context-entries fs gs w) n k ne ke c d i j m

@@ -1,5 +1,7 @@
 -- Two things read at once, of any two kinds: laws of the verdict with both sizes, and of the code's answer to it.
 -- Two laws carry every walk over a pair: `mapped` (parents of two things) and `no-when` (no, since where both are read the test fails).
+-- Index: `both`, `taken`, `no-when`, `mapped`, `same-test` (a verdict on two); `met-yes`, `met-no`, `met-as`, `yes-of`, `no-of`, `told-yes`, `told-no` (the code's answer);
+-- `Readable`, `Sized`, `Pair`, `MetAt`, `pair`, `pair-yes`, `pair-no`, `pair-in` (two at two places); `judge-is`, `grown-judge`, `grown-on` (sizes).
 -- Assumes nothing.
 use Prim.Native.Nat.{ℕ, _+_, _-_, _<_, _≤_}
 use mathlib.Core.Path.{_≡_, refl, sym, ap, ap₂, _∙_}
@@ -11,7 +13,7 @@ use lib.ListN.{length, take, drop, length-drop}
 use Rattle.form.specs.Read.{Got, got, bad, front}
 use Rattle.form.proofs.Runs.{rest}
 use Rattle.types.specs.At.{seen}
-use Rattle.types.specs.Conform.{Conform, Yes, No, judge, conformBy, grown, Met}
+use Rattle.types.specs.Conform.{Conform, Yes, No, judge, conformBy, addSizes, Met}
 
 -- ---- verdicts
 no-yes : {X : Type 0} {x y : ℕ} → No ≡ Yes x y → X
@@ -20,7 +22,7 @@ no-yes e = absurd (let z : _≡_ {A = ℕ} 0 1 = cc in omega arith)
 pub judge-is : (q : Bool) {x y m n : ℕ} → x ≡ m → y ≡ n → judge q x y ≡ judge q m n
 judge-is q p r = ap₂ (judge q) p r
 
-pub grown-judge : (q : Bool) (i j x y : ℕ) → grown i j (judge q x y) ≡ judge q (x + i) (y + j)
+pub grown-judge : (q : Bool) (i j x y : ℕ) → addSizes i j (judge q x y) ≡ judge q (x + i) (y + j)
 grown-judge true i j x y = refl
 grown-judge false i j x y = refl
 
@@ -32,11 +34,11 @@ pub judge-no : (q : Bool) (x y : ℕ) → judge q x y ≡ No → q ≡ false
 judge-no true x y e = no-yes (sym e)
 judge-no false x y e = refl
 
-pub grown-on : (i j p q : ℕ) (w : Conform) → grown i j (grown p q w) ≡ grown (i + p) (j + q) w
+pub grown-on : (i j p q : ℕ) (w : Conform) → addSizes i j (addSizes p q w) ≡ addSizes (i + p) (j + q) w
 grown-on i j p q (Yes x y) = ap₂ Yes (omega arith) (omega arith)
 grown-on i j p q No = refl
 
-pub grown-none : (w : Conform) → w ≡ grown 0 0 w
+pub grown-none : (w : Conform) → w ≡ addSizes 0 0 w
 grown-none (Yes x y) = ap₂ Yes (omega arith) (omega arith)
 grown-none No = refl
 
@@ -88,7 +90,7 @@ module _ {X Y : Type 0} (sx : X → ℕ) (sy : Y → ℕ) (test : X → Y → Bo
   -- parents of what stands inside, both or neither read
   pub mapped : {A B : Type 0} (sv : A → ℕ) (sw : B → ℕ) (parents : A → B → Bool) (f : X → A) (g : Y → B) (p q : ℕ) (r : Option X) (s : Option Y)
       → ((x : X) (y : Y) → r ≡ some x → s ≡ some y → parents (f x) (g y) ≡ test x y) → ((x : X) → r ≡ some x → sv (f x) ≡ sx x + p) → ((y : Y) → sw (g y) ≡ sy y + q)
-      → conformBy sv sw parents (mapO f r) (mapO g s) ≡ grown p q (conformBy sx sy test r s)
+      → conformBy sv sw parents (mapO f r) (mapO g s) ≡ addSizes p q (conformBy sx sy test r s)
   unfolding conformBy mapO
   mapped sv sw parents f g p q (some x) (some y) e a b = ap (λ z. judge z (sv (f x)) (sw (g y))) (e x y refl refl) ∙ judge-is (test x y) (a x refl) (b y)
       ∙ sym (grown-judge (test x y) p q (sx x) (sy y))

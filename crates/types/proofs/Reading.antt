@@ -1,23 +1,27 @@
 -- What stands at the front of the bytes says of its parts, and that its names ascend and that it ends within the bytes.
+-- Idea: one induction on the reader (`type-told`); the parts by the command byte.
+-- Index: `type-told`, `t-good`, `fields-good` (size, names, end); `cmd`, `cmd-is`, `is-leaf`, `is-list`, `is-range`, `is-ctx`, `is-fun`, `last-cmd` (a type by its command);
+-- `entry`, `no-entry` (entries); `parameter`, `result` (parameters); `size-list`, `size-range`, `size-ctx`, `size-fun`, `size-cons`, `size-result` (sizes); `ok-got`, `seen-got`, `got-seen`.
 -- Assumes nothing.
 use Prim.Native.Nat.{ℕ, zero, suc, _+_, _-_, _<_, _≤_}
 use mathlib.Core.Path.{_≡_, refl, sym, ap, subst, _∙_}
 use mathlib.Core.Option.{Option, none, some}
-use mathlib.Core.List.{List}
+use mathlib.Core.List.{List, _∷_}
 use native.Mathlib.Omega.{arith}
 use native.Mathlib.Numerals.{add-one}
 use lib.ListN.{length, getD, take, drop, length-drop}
 use lib.Seq.{drop-drop}
 use Rattle.form.specs.Trees.{Ty, leaf, built, list, range, context, function, Fields, no-fields, field, Tys, no-params, param, code, decode}
 use Rattle.form.specs.Limits.{nameWidth}
-use Rattle.form.specs.Form.{num, numAt}
+use Rattle.form.specs.Form.{num, numAt, enc}
 use Rattle.form.specs.Read.{Got, got, bad, andThen, readRun, readNamed, readT, readTys, readFields, ascending}
 use Rattle.form.proofs.Exact.{got-parts, then-parts}
-use Rattle.form.proofs.ExactTypes.{code-decode}
+use Rattle.form.proofs.ExactTypes.{code-decode, code-small}
 use Rattle.form.proofs.Nodes.{item-parts, named-parts, NodeT, nSimple, nList, nRange, nContext, nFunction, type-read}
 use Rattle.order.specs.Ascending.{Asc, AscFields, AscTys}
-use Rattle.order.specs.Size.{size, size-fields, size-tys}
-use Rattle.types.specs.At.{seen, typeAt, fieldsAt, Sig, sig, cons, funOf, size-sig, sigAt, Ok}
+use Rattle.order.specs.Size.{size, sizeFields, sizeTys}
+use Rattle.types.specs.At.{seen, typeAt, fieldsAt, Sig, sig, cons, funOf, sizeSig, sigAt, Ok}
+use Rattle.form.specs.Trees.{code}
 
 -- ---- results taken apart
 pub is-ok : {X : Type 0} (r : Option X) (x : X) → r ≡ some x → Ok r
@@ -54,7 +58,7 @@ abbrev Tells : {X : Type 0} → (X → ℕ) → (X → Type 0) → (List ℕ →
 Tells {X} sz asc read = (s : List ℕ) (x : X) (n : ℕ) → read s ≡ got x n → Told sz asc s x n
 
 module _ (child : List ℕ → Got Ty) (ih : Tells size Asc child) where
-  tys-told : (c : ℕ) → Tells size-tys AscTys (readTys child c)
+  tys-told : (c : ℕ) → Tells sizeTys AscTys (readTys child c)
   unfolding readRun size Asc
   tys-told zero s x n e = got-parts no-params x 0 n e (λ p q. told-as p q (record { sized = refl; ascend = tt; inside = omega arith }))
   tys-told (suc c) s z n e =
@@ -63,7 +67,7 @@ module _ (child : List ℕ → Got Ty) (ih : Tells size Asc child) where
       let G = tys-told c (drop m s) y j py in
       told-as pz refl (record { sized = omega (arith, F .sized, G .sized); ascend = (F .ascend, G .ascend); inside = omega (arith, F .inside, simp length-drop at (G .inside)) }))
 
-  fields-told : (c least : ℕ) → Tells size-fields (λ fs. AscFields fs least) (readFields child c least)
+  fields-told : (c least : ℕ) → Tells sizeFields (λ fs. AscFields fs least) (readFields child c least)
   unfolding readNamed size Asc
   fields-told zero least s x n e = got-parts no-fields x 0 n e (λ p q. told-as p q (record { sized = refl; ascend = tt; inside = omega arith }))
   fields-told (suc c) least s z n e =
@@ -243,7 +247,7 @@ pub no-entry : (l least : ℕ) (s : List ℕ) (fs : Fields) → fieldsAt l 0 lea
 unfolding fieldsAt seen readNamed
 no-entry l least s fs e = cc
 
-pub fields-good : (l n least : ℕ) (s : List ℕ) (fs : Fields) → fieldsAt l n least s ≡ some fs → AscFields fs least × (size-fields fs ≤ length s)
+pub fields-good : (l n least : ℕ) (s : List ℕ) (fs : Fields) → fieldsAt l n least s ≡ some fs → AscFields fs least × (sizeFields fs ≤ length s)
 unfolding fieldsAt
 fields-good l n least s fs e = seen-got (readFields (readT l) n least s) fs e (λ m r. let F = fields-told (readT l) (type-told l) n least s fs m r in (F .ascend, omega (arith, F .sized, F .inside)))
 
@@ -282,10 +286,34 @@ result l s f e =
     got-parts no-params ts 0 k pt (λ a b.
     (u, got-seen (readT l s) u j (ap (λ (z : ℕ). readT l (drop z s)) b ∙ pu), sym pz ∙ ap (λ (z : Tys). sig z u) (sym a)))))
 
-pub size-cons : (t : Ty) (f : Sig) → size-sig (cons t f) ≡ size t + size-sig f
+pub size-cons : (t : Ty) (f : Sig) → sizeSig (cons t f) ≡ size t + sizeSig f
 unfolding size
 size-cons t (sig ps r) = omega arith
 
-pub size-fun : (f : Sig) → size (funOf f) ≡ size-sig f + 2
+pub size-fun : (f : Sig) → size (funOf f) ≡ sizeSig f + 2
 unfolding size
 size-fun (sig ps r) = omega arith
+
+-- the command of what is no simple type, list, range or context
+pub last-cmd : (t : Ty) → 44 ≤ cmd t → (cmd t ≡ 44 → ⊥) → cmd t ≡ 45
+last-cmd (leaf s) h e = absurd (omega (arith, code-small s))
+last-cmd (built (list t)) h e = absurd (omega arith)
+last-cmd (built (range t)) h e = absurd (omega arith)
+last-cmd (built (context fs)) h e = absurd (e refl)
+last-cmd (built (function ps r)) h e = refl
+
+pub size-list : (t : Ty) → (size (built (list t)) ≡ size t + 1) × (enc (built (list t)) ≡ 42 ∷ enc t)
+unfolding size enc
+size-list t = (omega arith, refl)
+
+pub size-range : (t : Ty) → (size (built (range t)) ≡ size t + 1) × (enc (built (range t)) ≡ 43 ∷ enc t)
+unfolding size enc
+size-range t = (omega arith, refl)
+
+pub size-ctx : (fs : Fields) → size (built (context fs)) ≡ sizeFields fs + 3
+unfolding size
+size-ctx fs = omega arith
+
+pub size-result : (r : Ty) → sizeSig (sig no-params r) ≡ size r
+unfolding size
+size-result r = omega arith

@@ -1,4 +1,4 @@
--- A short way past a leaf, whatever is read: where it is taken the leaf is there, where not what is read is no leaf.
+-- A short way past a leaf, whatever is read: where it is taken the leaf is there (`passed`), where not what is read is no leaf (`not-passed`).
 -- Assumes nothing.
 use Prim.Native.Nat.{ℕ, _<_}
 use mathlib.Core.Path.{_≡_, refl, sym, ap, _∙_}

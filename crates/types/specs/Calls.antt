@@ -1,6 +1,6 @@
 -- The definitions of the calls: refusals in document 01's order, then the answer.
 -- Assumes nothing.
-use mathlib.Core.Bool.{Bool, true, false}
+use mathlib.Core.Bool.{Bool, false}
 use mathlib.Core.List.{List}
 use Prim.Native.Nat.{ℕ}
 use Rattle.form.specs.Trees.{null, Ty, leaf, built, simple}

@@ -6,7 +6,7 @@ use mathlib.Core.Bool.{Bool, true, false, _&&_, _||_}
 use mathlib.Core.Option.{Option, none, some}
 use Rattle.form.specs.Trees.{Ty, Fields, simple}
 use Rattle.order.specs.Order.{up, fixed}
-use Rattle.order.specs.Types.{look, found, all-fields, le, cmps}
+use Rattle.order.specs.Types.{lookup, found, allFields, le, cmps}
 use Rattle.order.specs.Size.{size}
 use Rattle.order.specs.Document.{eqTy}
 use Rattle.types.specs.At.{Sig, sig}
@@ -34,24 +34,24 @@ conformOf x y = typesBy (le fixed) x y
 
 -- each name of the second is in the first, with a type that passes the test
 abbrev pub entries : (Ty → Ty → Bool) → Fields → Fields → Bool
-entries test fs gs = all-fields (λ n t. found (look n fs) (λ a. test a t)) gs
+entries test fs gs = allFields (λ n t. found (lookup n fs) (λ a. test a t)) gs
 
 -- parameters the other way round; whether the results are looked at is told from outside
-abbrev pub le-sig : Bool → Sig → Sig → Bool
-le-sig ignored (sig ps r) (sig qs s) = cmps fixed up qs ps && (ignored || le fixed r s)
+abbrev pub leSig : Bool → Sig → Sig → Bool
+leSig ignored (sig ps r) (sig qs s) = cmps fixed up qs ps && (ignored || le fixed r s)
 
 -- nothing is asked but that both were read
 abbrev pub anyTwo : Ty → Ty → Bool
 anyTwo x y = true
 
--- the same simple type
+-- both are simple types, and equal
 abbrev pub sameSimple : Ty → Ty → Bool
 sameSimple x y = simple x && eqTy x y
 
 -- i and j bytes in front
-abbrev pub grown : ℕ → ℕ → Conform → Conform
-grown i j (Yes x y) = Yes (x + i) (y + j)
-grown i j No = No
+abbrev pub addSizes : ℕ → ℕ → Conform → Conform
+addSizes i j (Yes x y) = Yes (x + i) (y + j)
+addSizes i j No = No
 
 -- the code's answer r, with t left behind: the two sizes, or 0
 abbrev pub Met : Conform → ℕ → ℕ → Type 0

@@ -1,4 +1,5 @@
 -- The answers are well-formed: names strictly ascending at every level, and every count fits its field.
+-- Index: `well-updated` (create and apply), `well-joined` (zip and overwrite), `well-removed`, `level-removed` (remove); `names-of` (a path of code), `value-size`.
 -- Assumes nothing.
 use Prim.Native.Nat.{ℕ, suc, _<_, _≤_, max}
 use native.Mathlib.Omega.{arith}
@@ -13,19 +14,19 @@ use mir.Val.{Fits}
 use Rattle.form.specs.Limits.{nameEnd, mostBytes}
 use Rattle.form.specs.Trees.{Val, v-context, Entries, no-entries, entry}
 use Rattle.form.specs.Form.{countEntries, levelV, levelEntries, WfV, WfEntries}
-use Rattle.order.specs.Size.{size-val, size-entries}
-use Rattle.retrieval.proofs.Contexts.{size-context, size-next, size-none}
-use Rattle.retrieval.proofs.Theorems.{none-some, some-same}
-use Rattle.paths.specs.Paths.{value-of, entries-of, or-empty, context-at}
-use Rattle.paths.proofs.Splitting.{value-well}
+use Rattle.order.specs.Size.{sizeVal, sizeEntries}
+use Rattle.paths.specs.Paths.{valueOf, entriesOf, orEmpty, contextUnder}
+use Rattle.paths.proofs.SplitContext.{value-well}
 use Rattle.paths.proofs.Whole.{of-context, given-is}
 use Rattle.updates.specs.Update.{insert, remove, create}
 use Rattle.updates.specs.Writing.{updated, merged}
 use Rattle.updates.specs.Laws.{Names}
-use Rattle.updates.proofs.Inserting.{well-insert, well-remove, count-insert}
-use Rattle.updates.proofs.Entering.{count-size}
-use Rattle.updates.proofs.Merging.{well-merged, count-merged}
+use Rattle.updates.proofs.InsertedEntries.{well-insert, well-remove, count-insert}
+use Rattle.updates.proofs.Builders.{count-size}
+use Rattle.updates.proofs.MergedContexts.{well-merged, count-merged}
 use Rattle.updates.proofs.Theorems.{apply-create}
+use Rattle.values.proofs.EntriesAt.{size-context, size-next, size-none}
+use Rattle.form.proofs.Options.{none-some, some-same}
 
 -- ---- a path
 pub names-of : (p : List ℕ) → ((i : ℕ) → Fits w16 (getD p i 0)) → Names p
@@ -34,36 +35,36 @@ names-of [] h = tt
 names-of (n ∷ p) h = (h 0 .fits, names-of p (λ (i : ℕ). h (suc i)))
 
 -- ---- the value of a name
-pub value-size : (n : ℕ) (v : Val) (es : Entries) → value-of n es ≡ some v → size-val v ≤ size-entries es
-unfolding value-of
+pub value-size : (n : ℕ) (v : Val) (es : Entries) → valueOf n es ≡ some v → sizeVal v ≤ sizeEntries es
+unfolding valueOf
 value-size n v no-entries e = absurd (none-some e)
 value-size n v (entry m x es) e = by (value-size n v es) (eqb n m) e
   where
-    by : (value-of n es ≡ some v → size-val v ≤ size-entries es) → (q : Bool) → cond q (some x) (value-of n es) ≡ some v → size-val v ≤ size-entries (entry m x es)
-    by ih true h = omega (arith, ap size-val (some-same h), size-next m x es)
+    by : (valueOf n es ≡ some v → sizeVal v ≤ sizeEntries es) → (q : Bool) → cond q (some x) (valueOf n es) ≡ some v → sizeVal v ≤ sizeEntries (entry m x es)
+    by ih true h = omega (arith, ap sizeVal (some-same h), size-next m x es)
     by ih false h = omega (arith, ih h, size-next m x es)
 
 -- ---- the entries of the context under a name
 record Child (es : Entries) : Type 0 where
   well : WfEntries es 0
-  short : size-entries es ≤ mostBytes
+  short : sizeEntries es ≤ mostBytes
 
 no-entries-well : WfEntries no-entries 0
 unfolding WfEntries
 no-entries-well = tt
 
-child-at : (n : ℕ) (es : Entries) → Child es → Child (or-empty (context-at n es))
+child-at : (n : ℕ) (es : Entries) → Child es → Child (orEmpty (contextUnder n es))
 unfolding WfV
-child-at n es C = go (context-at n es) refl
+child-at n es C = go (contextUnder n es) refl
   where
-    go : (o : Option Entries) → context-at n es ≡ o → Child (or-empty o)
+    go : (o : Option Entries) → contextUnder n es ≡ o → Child (orEmpty o)
     go none e = record { well = no-entries-well; short = omega (arith, size-none) }
     go (some fs) e =
-        let G = given-is (value-of n es) entries-of fs e in
+        let G = given-is (valueOf n es) entriesOf fs e in
         let c : G .0 ≡ v-context fs = of-context (G .0) fs (G .2) in
         let w : WfV (v-context fs) = subst WfV c (value-well n 0 (G .0) es (C .well) (G .1)) in
         let z = value-size n (G .0) es (G .1) in
-        record { well = w .1; short = omega (arith, ap size-val c, size-context fs, C .short) }
+        record { well = w .1; short = omega (arith, ap sizeVal c, size-context fs, C .short) }
 
 well-one : (n : ℕ) (x : Val) (es : Entries) → n < nameEnd → WfV x → Child es → WfV (v-context (insert n x es))
 unfolding WfV
@@ -73,15 +74,15 @@ well-made : (p : List ℕ) (x : Val) (es : Entries) → Names p → WfV x → Ch
 unfolding Names create WfV
 well-made [] x es ns w C = (omega (arith, count-size es, C .short), C .well)
 well-made (n ∷ []) x es ns w C = well-one n x es (ns .0) w C
-well-made (n ∷ m ∷ p) x es ns w C = well-one n (v-context (create (m ∷ p) x (or-empty (context-at n es)))) es (ns .0) (well-made (m ∷ p) x (or-empty (context-at n es)) (ns .1) w (child-at n es C)) C
+well-made (n ∷ m ∷ p) x es ns w C = well-one n (v-context (create (m ∷ p) x (orEmpty (contextUnder n es)))) es (ns .0) (well-made (m ∷ p) x (orEmpty (contextUnder n es)) (ns .1) w (child-at n es C)) C
 
 -- ---- create_entries and apply_entries
-pub well-updated : (strict : Bool) (p : List ℕ) (x : Val) (es fs : Entries) → Names p → WfV x → WfEntries es 0 → size-entries es ≤ mostBytes → updated strict p x es ≡ some fs → WfV (v-context fs)
+pub well-updated : (strict : Bool) (p : List ℕ) (x : Val) (es fs : Entries) → Names p → WfV x → WfEntries es 0 → sizeEntries es ≤ mostBytes → updated strict p x es ≡ some fs → WfV (v-context fs)
 well-updated true p x es fs ns w h k e = subst (λ z. WfV (v-context z)) (sym (apply-create p x es fs e)) (well-made p x es ns w (record { well = h; short = k }))
 well-updated false p x es fs ns w h k e = subst (λ z. WfV (v-context z)) (some-same e) (well-made p x es ns w (record { well = h; short = k }))
 
 -- ---- zip and overwrite
-pub well-joined : (all : Bool) (es gs : Entries) → WfEntries es 0 → WfEntries gs 0 → size-entries es ≤ mostBytes → size-entries gs ≤ mostBytes → WfV (v-context (merged all es gs))
+pub well-joined : (all : Bool) (es gs : Entries) → WfEntries es 0 → WfEntries gs 0 → sizeEntries es ≤ mostBytes → sizeEntries gs ≤ mostBytes → WfV (v-context (merged all es gs))
 unfolding WfV
 well-joined all es gs w x k l = (omega (arith, count-merged all es gs, count-size es, count-size gs), well-merged all es gs 0 w x)
 

@@ -1,9 +1,9 @@
--- What `ContextUpdates` states of updates holds.
+-- What `ContextUpdates` states of updates holds (`contextUpdates`): the laws on trees, gathered.
 -- Assumes nothing.
 use Rattle.updates.specs.Laws.{ContextUpdates}
 use Rattle.updates.proofs.Theorems.{created-found, created-other, created-inside, created-way, apply-create, apply-refuses, refuses-apply, set-create, null-create}
 use Rattle.updates.proofs.Theorems.{move-absent, move-nests, move-found, move-gone, move-other, move-parent, move-replaced, move-inside, move-below, removed-gone, removed-other}
-use Rattle.updates.proofs.Merging.{zip-name, overwrite-name}
+use Rattle.updates.proofs.MergedContexts.{zip-name, overwrite-name}
 use Rattle.updates.proofs.Formed.{well-updated, well-joined, well-removed, level-removed}
 use Rattle.updates.proofs.Levels.{level-updated, level-merged, size-merged}
 

@@ -1,4 +1,5 @@
 -- The level of an updated context, and the length of a merged one: neither is more than its parts give.
+-- Index: `level-updated` (create and apply: a name of the path adds at most one level); `level-merged`, `size-merged` (zip and overwrite).
 -- Assumes nothing.
 use Prim.Native.Nat.{ℕ, suc, _+_, _≤_, max}
 use native.Mathlib.Omega.{arith}
@@ -10,16 +11,16 @@ use lib.ListN.{length}
 use lib.Dec.{eqb, ltb}
 use Rattle.form.specs.Trees.{Val, v-context, Entries, no-entries, entry}
 use Rattle.form.specs.Form.{levelV, levelEntries}
-use Rattle.order.specs.Size.{size-entries}
-use Rattle.retrieval.proofs.Contexts.{size-next}
-use Rattle.retrieval.proofs.Theorems.{some-same}
-use Rattle.paths.specs.Paths.{value-of, entries-of, or-empty, context-at, containsEntry}
-use Rattle.paths.proofs.Splitting.{value-level}
+use Rattle.order.specs.Size.{sizeEntries}
+use Rattle.paths.specs.Paths.{valueOf, entriesOf, orEmpty, contextUnder, containsEntry}
+use Rattle.paths.proofs.SplitContext.{value-level}
 use Rattle.paths.proofs.Whole.{of-context, given-is}
 use Rattle.updates.specs.Update.{insert, create}
 use Rattle.updates.specs.Writing.{updated, merged}
-use Rattle.updates.proofs.Merging.{merged-one, merged-next, merged-none}
+use Rattle.updates.proofs.MergedContexts.{merged-one, merged-next, merged-none}
 use Rattle.updates.proofs.Theorems.{apply-create}
+use Rattle.values.proofs.EntriesAt.{size-next}
+use Rattle.form.proofs.Options.{some-same}
 
 -- ---- one entry
 level-insert : (n : ℕ) (x : Val) (es : Entries) → levelEntries (insert n x es) ≤ max (levelV x) (levelEntries es)
@@ -33,26 +34,26 @@ level-insert n x (entry m v es) = by (level-insert n x es) (eqb n m) (ltb n m)
     by ih false true = omega arith
     by ih false false = omega arith
 
-size-insert : (n : ℕ) (x : Val) (es : Entries) → size-entries (insert n x es) ≤ size-entries (entry n x es)
+size-insert : (n : ℕ) (x : Val) (es : Entries) → sizeEntries (insert n x es) ≤ sizeEntries (entry n x es)
 unfolding insert
 size-insert n x no-entries = omega arith
 size-insert n x (entry m v es) = by (size-insert n x es) (eqb n m) (ltb n m)
   where
-    by : size-entries (insert n x es) ≤ size-entries (entry n x es) → (q r : Bool)
-        → size-entries (cond q (entry n x es) (cond r (entry n x (entry m v es)) (entry m v (insert n x es)))) ≤ size-entries (entry n x (entry m v es))
+    by : sizeEntries (insert n x es) ≤ sizeEntries (entry n x es) → (q r : Bool)
+        → sizeEntries (cond q (entry n x es) (cond r (entry n x (entry m v es)) (entry m v (insert n x es)))) ≤ sizeEntries (entry n x (entry m v es))
     by ih true r = omega (arith, size-next n x es, size-next n x (entry m v es), size-next m v es)
     by ih false true = omega arith
     by ih false false = omega (arith, size-next n x es, size-next n x (entry m v es), size-next m v es, size-next m v (insert n x es))
 
 -- ---- create_entries and apply_entries: every name of the path adds at most one level to the value's
-level-child : (n : ℕ) (es : Entries) → suc (levelEntries (or-empty (context-at n es))) ≤ max 1 (levelEntries es)
+level-child : (n : ℕ) (es : Entries) → suc (levelEntries (orEmpty (contextUnder n es))) ≤ max 1 (levelEntries es)
 unfolding levelV levelEntries
-level-child n es = go (context-at n es) refl
+level-child n es = go (contextUnder n es) refl
   where
-    go : (o : Option Entries) → context-at n es ≡ o → suc (levelEntries (or-empty o)) ≤ max 1 (levelEntries es)
+    go : (o : Option Entries) → contextUnder n es ≡ o → suc (levelEntries (orEmpty o)) ≤ max 1 (levelEntries es)
     go none e = omega arith
     go (some fs) e =
-        let G = given-is (value-of n es) entries-of fs e in
+        let G = given-is (valueOf n es) entriesOf fs e in
         let c : G .0 ≡ v-context fs = of-context (G .0) fs (G .2) in
         omega (arith, ap levelV c, value-level n (G .0) es (G .1))
 
@@ -61,7 +62,7 @@ unfolding levelV create
 level-created [] x es = omega arith
 level-created (n ∷ []) x es = omega (arith, level-insert n x es)
 level-created (n ∷ m ∷ ns) x es =
-    let fs = or-empty (context-at n es) in
+    let fs = orEmpty (contextUnder n es) in
     omega (arith, level-insert n (v-context (create (m ∷ ns) x fs)) es, level-created (m ∷ ns) x fs, level-child n es)
 
 pub level-updated : (strict : Bool) (p : List ℕ) (x : Val) (es fs : Entries) → updated strict p x es ≡ some fs → levelV (v-context fs) ≤ max (levelV (v-context es)) (length p + levelV x)
@@ -78,11 +79,11 @@ level-one false n x es = by (containsEntry n es)
     by true = level-insert n x es
     by false = omega arith
 
-size-one : (all : Bool) (n : ℕ) (x : Val) (es : Entries) → size-entries (merged-one all n x es) ≤ size-entries (entry n x es)
+size-one : (all : Bool) (n : ℕ) (x : Val) (es : Entries) → sizeEntries (merged-one all n x es) ≤ sizeEntries (entry n x es)
 size-one true n x es = size-insert n x es
 size-one false n x es = by (containsEntry n es)
   where
-    by : (q : Bool) → size-entries (cond q (insert n x es) es) ≤ size-entries (entry n x es)
+    by : (q : Bool) → sizeEntries (cond q (insert n x es) es) ≤ sizeEntries (entry n x es)
     by true = size-insert n x es
     by false = omega (arith, size-next n x es)
 
@@ -95,6 +96,6 @@ pub level-merged : (all : Bool) (es gs : Entries) → levelV (v-context (merged 
 unfolding levelV
 level-merged all es gs = omega (arith, entries-merged all es gs)
 
-pub size-merged : (all : Bool) (es gs : Entries) → size-entries (merged all es gs) ≤ size-entries es + size-entries gs
-size-merged all es no-entries = omega (arith, ap size-entries (merged-none all es))
-size-merged all es (entry m x gs) = omega (arith, ap size-entries (merged-next all m x es gs), size-merged all (merged-one all m x es) gs, size-one all m x es, size-next m x es, size-next m x gs)
+pub size-merged : (all : Bool) (es gs : Entries) → sizeEntries (merged all es gs) ≤ sizeEntries es + sizeEntries gs
+size-merged all es no-entries = omega (arith, ap sizeEntries (merged-none all es))
+size-merged all es (entry m x gs) = omega (arith, ap sizeEntries (merged-next all m x es gs), size-merged all (merged-one all m x es) gs, size-one all m x es, size-next m x es, size-next m x gs)

@@ -1,9 +1,9 @@
-pub mod Pieces
-pub mod Inserting
-pub mod Updating
-pub mod Entering
-pub mod Merging
-pub mod Joining
+pub mod ContextFront
+pub mod InsertedEntries
+pub mod PathSteps
+pub mod Builders
+pub mod MergedContexts
+pub mod MergeLoop
 pub mod Theorems
 pub mod Formed
 pub mod Levels

@@ -1,4 +1,7 @@
 -- What is proved of updates on trees: what stands at every path behind an update, and when apply refuses.
+-- Idea: induction on the path, one step at a time.
+-- Index: `created-found`, `created-other`, `created-inside`, `created-way` (create); `apply-create`, `apply-refuses`, `refuses-apply` (apply); `set-create`, `null-create` (one name);
+-- `move-absent`, `move-nests`, `move-found`, `move-gone`, `move-other`, `move-parent`, `move-replaced`, `move-inside`, `move-below` (move); `removed-gone`, `removed-other` (remove).
 -- Assumes nothing.
 use Prim.Native.Nat.{ℕ, _+_, _<_}
 use native.Mathlib.Omega.{arith}
@@ -8,14 +11,14 @@ use mathlib.Core.Option.{Option, none, some}
 use mathlib.Core.List.{List, [], _∷_, _++_}
 use lib.Dec.{eqb, ltb}
 use borrow.Author.Tests.{ne-eqb, lt-ltb, eqb-true, ltb-true}
-use Rattle.form.specs.Trees.{Val, v-context, Entries, no-entries, entry}
+use Rattle.form.specs.Trees.{Val, v-context, Entries, no-entries, entry, nothing}
 use Rattle.form.specs.Form.{WfEntries}
-use Rattle.retrieval.specs.Retrieve.{mapped, nothing}
-use Rattle.retrieval.proofs.Theorems.{none-some, some-same, mapped-is}
-use Rattle.paths.specs.Paths.{value-of, entries-of, given, or-empty, context-at, search}
-use Rattle.updates.specs.Update.{insert, remove, create, on-the-way, apply, moved, moveEntry, setEntry, setNull, removeEntry}
+use Rattle.paths.specs.Paths.{valueOf, entriesOf, bind, orEmpty, contextUnder, search}
+use Rattle.updates.specs.Update.{insert, remove, create, onTheWay, apply, moved, moveEntry, setEntry, setNull, removeEntry}
 use Rattle.updates.specs.Laws.{Apart, here, later, Blocked}
-use Rattle.updates.proofs.Inserting.{absent, value-insert, value-insert-other, value-remove, value-remove-other, remove-absent}
+use Rattle.updates.proofs.InsertedEntries.{absent, value-insert, value-insert-other, value-remove, value-remove-other, remove-absent}
+use Rattle.form.specs.Options.{map}
+use Rattle.form.proofs.Options.{none-some, some-same, map-is}
 
 not-empty : {n : ℕ} {ns : List ℕ} → n ∷ ns ≡ [] → ⊥
 not-empty e = let z : _≡_ {A = ℕ} 0 1 = cc in omega arith
@@ -23,24 +26,24 @@ not-empty e = let z : _≡_ {A = ℕ} 0 1 = cc in omega arith
 -- ---- a search, one name further
 -- nothing is found where there are no entries
 pub search-none : (p : List ℕ) → search p no-entries ≡ none
-unfolding search value-of
+unfolding search valueOf
 search-none [] = refl
 search-none (n ∷ []) = refl
 search-none (n ∷ m ∷ ns) = refl
 
-search-or-empty : (p : List ℕ) (o : Option Entries) → search p (or-empty o) ≡ given o (λ fs. search p fs)
+search-or-empty : (p : List ℕ) (o : Option Entries) → search p (orEmpty o) ≡ bind o (λ fs. search p fs)
 search-or-empty p none = search-none p
 search-or-empty p (some fs) = refl
 
 -- under a name just inserted, and under another
-search-under : (n m : ℕ) (ns : List ℕ) (x : Val) (es : Entries) → search (n ∷ m ∷ ns) (insert n x es) ≡ given (entries-of x) (λ fs. search (m ∷ ns) fs)
+search-under : (n m : ℕ) (ns : List ℕ) (x : Val) (es : Entries) → search (n ∷ m ∷ ns) (insert n x es) ≡ bind (entriesOf x) (λ fs. search (m ∷ ns) fs)
 unfolding search
-search-under n m ns x es = ap (λ (o : Option Val). given (given o entries-of) (λ fs. search (m ∷ ns) fs)) (value-insert n x es)
+search-under n m ns x es = ap (λ (o : Option Val). bind (bind o entriesOf) (λ fs. search (m ∷ ns) fs)) (value-insert n x es)
 
 search-beside : (n : ℕ) (p : List ℕ) (m : ℕ) (x : Val) (es : Entries) → (n ≡ m → ⊥) → search (n ∷ p) (insert m x es) ≡ search (n ∷ p) es
 unfolding search
 search-beside n [] m x es d = value-insert-other n m x es d
-search-beside n (k ∷ ks) m x es d = ap (λ (o : Option Val). given (given o entries-of) (λ fs. search (k ∷ ks) fs)) (value-insert-other n m x es d)
+search-beside n (k ∷ ks) m x es d = ap (λ (o : Option Val). bind (bind o entriesOf) (λ fs. search (k ∷ ks) fs)) (value-insert-other n m x es d)
 
 -- ---- create
 pub created-found : (p : List ℕ) (x : Val) (es : Entries) → (p ≡ [] → ⊥) → search p (create p x es) ≡ some x
@@ -48,76 +51,76 @@ unfolding search create
 created-found [] x es d = absurd (d refl)
 created-found (n ∷ []) x es d = value-insert n x es
 created-found (n ∷ m ∷ ns) x es d =
-    let fs = or-empty (context-at n es) in
+    let fs = orEmpty (contextUnder n es) in
     search-under n m ns (v-context (create (m ∷ ns) x fs)) es ∙ created-found (m ∷ ns) x fs not-empty
 
 created-beside : (n m : ℕ) (q p : List ℕ) (x : Val) (es : Entries) → (n ≡ m → ⊥) → search (n ∷ q) (create (m ∷ p) x es) ≡ search (n ∷ q) es
 unfolding create
 created-beside n m q [] x es d = search-beside n q m x es d
-created-beside n m q (k ∷ ks) x es d = search-beside n q m (v-context (create (k ∷ ks) x (or-empty (context-at m es)))) es d
+created-beside n m q (k ∷ ks) x es d = search-beside n q m (v-context (create (k ∷ ks) x (orEmpty (contextUnder m es)))) es d
 
 created-deeper : (n : ℕ) (q p : List ℕ) (x : Val) (es : Entries) → Apart q p → ((fs : Entries) → search q (create p x fs) ≡ search q fs) → search (n ∷ q) (create (n ∷ p) x es) ≡ search (n ∷ q) es
 unfolding search create
 created-deeper n (k ∷ ks) (m ∷ ms) x es a ih =
-    let fs = or-empty (context-at n es) in
-    search-under n k ks (v-context (create (m ∷ ms) x fs)) es ∙ ih fs ∙ search-or-empty (k ∷ ks) (context-at n es)
+    let fs = orEmpty (contextUnder n es) in
+    search-under n k ks (v-context (create (m ∷ ms) x fs)) es ∙ ih fs ∙ search-or-empty (k ∷ ks) (contextUnder n es)
 
 pub created-other : (q p : List ℕ) (x : Val) (es : Entries) → Apart q p → search q (create p x es) ≡ search q es
 created-other q p x es (here n m r s d) = created-beside n m r s x es d
 created-other q p x es (later n r s a) = created-deeper n r s x es a (λ fs. created-other r s x fs a)
 
-pub created-inside : (p r : List ℕ) (x : Val) (es : Entries) → (p ≡ [] → ⊥) → (r ≡ [] → ⊥) → search (p ++ r) (create p x es) ≡ given (entries-of x) (λ fs. search r fs)
+pub created-inside : (p r : List ℕ) (x : Val) (es : Entries) → (p ≡ [] → ⊥) → (r ≡ [] → ⊥) → search (p ++ r) (create p x es) ≡ bind (entriesOf x) (λ fs. search r fs)
 unfolding create
 created-inside [] r x es d f = absurd (d refl)
 created-inside (n ∷ []) [] x es d f = absurd (f refl)
 created-inside (n ∷ []) (k ∷ ks) x es d f = search-under n k ks x es
 created-inside (n ∷ m ∷ ns) r x es d f =
-    let fs = or-empty (context-at n es) in
+    let fs = orEmpty (contextUnder n es) in
     search-under n m (ns ++ r) (v-context (create (m ∷ ns) x fs)) es ∙ created-inside (m ∷ ns) r x fs not-empty f
 
-pub created-way : (q r : List ℕ) (x : Val) (es : Entries) → (q ≡ [] → ⊥) → (r ≡ [] → ⊥) → search q (create (q ++ r) x es) ≡ some (v-context (create r x (or-empty (given (search q es) entries-of))))
+pub created-way : (q r : List ℕ) (x : Val) (es : Entries) → (q ≡ [] → ⊥) → (r ≡ [] → ⊥) → search q (create (q ++ r) x es) ≡ some (v-context (create r x (orEmpty (bind (search q es) entriesOf))))
 unfolding search create
 created-way [] r x es d f = absurd (d refl)
 created-way (n ∷ []) [] x es d f = absurd (f refl)
-created-way (n ∷ []) (k ∷ ks) x es d f = value-insert n (v-context (create (k ∷ ks) x (or-empty (context-at n es)))) es
+created-way (n ∷ []) (k ∷ ks) x es d f = value-insert n (v-context (create (k ∷ ks) x (orEmpty (contextUnder n es)))) es
 created-way (n ∷ m ∷ ns) r x es d f =
-    let fs = or-empty (context-at n es) in
+    let fs = orEmpty (contextUnder n es) in
     search-under n m ns (v-context (create (m ∷ (ns ++ r)) x fs)) es ∙ created-way (m ∷ ns) r x fs not-empty f
-    ∙ ap (λ (o : Option Val). some (v-context (create r x (or-empty (given o entries-of))))) (search-or-empty (m ∷ ns) (context-at n es))
+    ∙ ap (λ (o : Option Val). some (v-context (create r x (orEmpty (bind o entriesOf))))) (search-or-empty (m ∷ ns) (contextUnder n es))
 
 -- ---- apply
-mapped-none : {X Y : Type 0} (f : X → Y) (o : Option X) → mapped f o ≡ none → o ≡ none
+mapped-none : {X Y : Type 0} (f : X → Y) (o : Option X) → map f o ≡ none → o ≡ none
 mapped-none f none e = refl
 mapped-none f (some x) e = absurd (none-some (sym e))
 
 -- the rest of a path applied to the context on the way
 abbrev onward : ℕ → ℕ → List ℕ → Val → Entries → Option Entries → Option Entries
-onward n m ns x es o = given o (λ fs. mapped (λ gs. insert n (v-context gs) es) (apply (m ∷ ns) x fs))
+onward n m ns x es o = bind o (λ fs. map (λ gs. insert n (v-context gs) es) (apply (m ∷ ns) x fs))
 
 pub apply-create : (p : List ℕ) (x : Val) (es fs : Entries) → apply p x es ≡ some fs → fs ≡ create p x es
 unfolding apply create
 apply-create [] x es fs e = sym (some-same e)
 apply-create (n ∷ []) x es fs e = sym (some-same e)
-apply-create (n ∷ m ∷ ns) x es fs e = by (value-of n es) (λ gs hs z. apply-create (m ∷ ns) x gs hs z) e
+apply-create (n ∷ m ∷ ns) x es fs e = by (valueOf n es) (λ gs hs z. apply-create (m ∷ ns) x gs hs z) e
   where
     on : (o : Option Entries) → ((gs hs : Entries) → apply (m ∷ ns) x gs ≡ some hs → hs ≡ create (m ∷ ns) x gs) → onward n m ns x es o ≡ some fs
-        → fs ≡ insert n (v-context (create (m ∷ ns) x (or-empty o))) es
+        → fs ≡ insert n (v-context (create (m ∷ ns) x (orEmpty o))) es
     on none ih z = absurd (none-some z)
     on (some gs) ih z =
-        let h = mapped-is (λ hs. insert n (v-context hs) es) (apply (m ∷ ns) x gs) fs z in
+        let h = map-is (λ hs. insert n (v-context hs) es) (apply (m ∷ ns) x gs) fs z in
         h .2 ∙ ap (λ hs. insert n (v-context hs) es) (ih gs (h .0) (h .1))
 
-    by : (o : Option Val) → ((gs hs : Entries) → apply (m ∷ ns) x gs ≡ some hs → hs ≡ create (m ∷ ns) x gs) → onward n m ns x es (on-the-way o) ≡ some fs
-        → fs ≡ insert n (v-context (create (m ∷ ns) x (or-empty (given o entries-of)))) es
+    by : (o : Option Val) → ((gs hs : Entries) → apply (m ∷ ns) x gs ≡ some hs → hs ≡ create (m ∷ ns) x gs) → onward n m ns x es (onTheWay o) ≡ some fs
+        → fs ≡ insert n (v-context (create (m ∷ ns) x (orEmpty (bind o entriesOf)))) es
     by none ih z = on (some no-entries) ih z
-    by (some v) ih z = on (entries-of v) ih z
+    by (some v) ih z = on (entriesOf v) ih z
 
-search-in : (n : ℕ) (p : List ℕ) (fs es : Entries) (v : Val) → context-at n es ≡ some fs → search p fs ≡ some v → search (n ∷ p) es ≡ some v
+search-in : (n : ℕ) (p : List ℕ) (fs es : Entries) (v : Val) → contextUnder n es ≡ some fs → search p fs ≡ some v → search (n ∷ p) es ≡ some v
 unfolding search
 search-in n [] fs es v c e = absurd (none-some e)
-search-in n (m ∷ ns) fs es v c e = ap (λ o. given o (λ gs. search (m ∷ ns) gs)) c ∙ e
+search-in n (m ∷ ns) fs es v c e = ap (λ o. bind o (λ gs. search (m ∷ ns) gs)) c ∙ e
 
-blocked-in : (n : ℕ) (p : List ℕ) (fs es : Entries) → context-at n es ≡ some fs → Blocked p fs → Blocked (n ∷ p) es
+blocked-in : (n : ℕ) (p : List ℕ) (fs es : Entries) → contextUnder n es ≡ some fs → Blocked p fs → Blocked (n ∷ p) es
 blocked-in n p fs es c B =
     record {
       before = n ∷ B .before;
@@ -132,7 +135,7 @@ blocked-in n p fs es c B =
 none-blocked : (p : List ℕ) → Blocked p no-entries → ⊥
 none-blocked p B = none-some (sym (search-none (B .before)) ∙ B .is-there)
 
-blocked-here : (n m : ℕ) (ns : List ℕ) (es : Entries) (v : Val) → value-of n es ≡ some v → entries-of v ≡ none → Blocked (n ∷ m ∷ ns) es
+blocked-here : (n m : ℕ) (ns : List ℕ) (es : Entries) (v : Val) → valueOf n es ≡ some v → entriesOf v ≡ none → Blocked (n ∷ m ∷ ns) es
 unfolding search
 blocked-here n m ns es v e h = record { before = n ∷ []; after = m ∷ ns; parts = refl; goes-on = not-empty; v = v; is-there = e; no-context = h }
 
@@ -140,35 +143,35 @@ pub apply-refuses : (p : List ℕ) (x : Val) (es : Entries) → apply p x es ≡
 unfolding apply
 apply-refuses [] x es e = absurd (none-some (sym e))
 apply-refuses (n ∷ []) x es e = absurd (none-some (sym e))
-apply-refuses (n ∷ m ∷ ns) x es e = by (value-of n es) refl (λ fs z. apply-refuses (m ∷ ns) x fs z) e
+apply-refuses (n ∷ m ∷ ns) x es e = by (valueOf n es) refl (λ fs z. apply-refuses (m ∷ ns) x fs z) e
   where
     rest : (fs : Entries) → onward n m ns x es (some fs) ≡ none → apply (m ∷ ns) x fs ≡ none
     rest fs z = mapped-none (λ gs. insert n (v-context gs) es) (apply (m ∷ ns) x fs) z
 
-    on : (v : Val) → value-of n es ≡ some v → (o : Option Entries) → entries-of v ≡ o → ((fs : Entries) → apply (m ∷ ns) x fs ≡ none → Blocked (m ∷ ns) fs)
+    on : (v : Val) → valueOf n es ≡ some v → (o : Option Entries) → entriesOf v ≡ o → ((fs : Entries) → apply (m ∷ ns) x fs ≡ none → Blocked (m ∷ ns) fs)
         → onward n m ns x es o ≡ none → Blocked (n ∷ m ∷ ns) es
     on v q none r ih z = blocked-here n m ns es v q r
-    on v q (some fs) r ih z = blocked-in n (m ∷ ns) fs es (ap (λ (o : Option Val). given o entries-of) q ∙ r) (ih fs (rest fs z))
+    on v q (some fs) r ih z = blocked-in n (m ∷ ns) fs es (ap (λ (o : Option Val). bind o entriesOf) q ∙ r) (ih fs (rest fs z))
 
-    by : (o : Option Val) → value-of n es ≡ o → ((fs : Entries) → apply (m ∷ ns) x fs ≡ none → Blocked (m ∷ ns) fs) → onward n m ns x es (on-the-way o) ≡ none → Blocked (n ∷ m ∷ ns) es
+    by : (o : Option Val) → valueOf n es ≡ o → ((fs : Entries) → apply (m ∷ ns) x fs ≡ none → Blocked (m ∷ ns) fs) → onward n m ns x es (onTheWay o) ≡ none → Blocked (n ∷ m ∷ ns) es
     by none q ih z = absurd (none-blocked (m ∷ ns) (ih no-entries (rest no-entries z)))
-    by (some v) q ih z = on v q (entries-of v) refl ih z
+    by (some v) q ih z = on v q (entriesOf v) refl ih z
 
-refuses-at : (q r : List ℕ) (x : Val) (es : Entries) (v : Val) → (r ≡ [] → ⊥) → search q es ≡ some v → entries-of v ≡ none → apply (q ++ r) x es ≡ none
+refuses-at : (q r : List ℕ) (x : Val) (es : Entries) (v : Val) → (r ≡ [] → ⊥) → search q es ≡ some v → entriesOf v ≡ none → apply (q ++ r) x es ≡ none
 unfolding search apply
 refuses-at [] r x es v d e h = absurd (none-some e)
 refuses-at (n ∷ []) [] x es v d e h = absurd (d refl)
-refuses-at (n ∷ []) (m ∷ ns) x es v d e h = ap (λ (o : Option Val). onward n m ns x es (on-the-way o)) e ∙ ap (λ (o : Option Entries). onward n m ns x es o) h
-refuses-at (n ∷ m ∷ ns) r x es v d e h = by (value-of n es) (λ fs z. refuses-at (m ∷ ns) r x fs v d z h) e
+refuses-at (n ∷ []) (m ∷ ns) x es v d e h = ap (λ (o : Option Val). onward n m ns x es (onTheWay o)) e ∙ ap (λ (o : Option Entries). onward n m ns x es o) h
+refuses-at (n ∷ m ∷ ns) r x es v d e h = by (valueOf n es) (λ fs z. refuses-at (m ∷ ns) r x fs v d z h) e
   where
-    on : (o : Option Entries) → ((fs : Entries) → search (m ∷ ns) fs ≡ some v → apply (m ∷ (ns ++ r)) x fs ≡ none) → given o (λ fs. search (m ∷ ns) fs) ≡ some v → onward n m (ns ++ r) x es o ≡ none
+    on : (o : Option Entries) → ((fs : Entries) → search (m ∷ ns) fs ≡ some v → apply (m ∷ (ns ++ r)) x fs ≡ none) → bind o (λ fs. search (m ∷ ns) fs) ≡ some v → onward n m (ns ++ r) x es o ≡ none
     on none ih z = refl
-    on (some fs) ih z = ap (mapped (λ gs. insert n (v-context gs) es)) (ih fs z)
+    on (some fs) ih z = ap (map (λ gs. insert n (v-context gs) es)) (ih fs z)
 
     by : (o : Option Val) → ((fs : Entries) → search (m ∷ ns) fs ≡ some v → apply (m ∷ (ns ++ r)) x fs ≡ none)
-        → given (given o entries-of) (λ fs. search (m ∷ ns) fs) ≡ some v → onward n m (ns ++ r) x es (on-the-way o) ≡ none
+        → bind (bind o entriesOf) (λ fs. search (m ∷ ns) fs) ≡ some v → onward n m (ns ++ r) x es (onTheWay o) ≡ none
     by none ih z = absurd (none-some z)
-    by (some w) ih z = on (entries-of w) ih z
+    by (some w) ih z = on (entriesOf w) ih z
 
 pub refuses-apply : (p : List ℕ) (x : Val) (es : Entries) → Blocked p es → apply p x es ≡ none
 refuses-apply p x es B = ap (λ q. apply q x es) (B .parts) ∙ refuses-at (B .before) (B .after) x es (B .v) (B .goes-on) (B .is-there) (B .no-context)
@@ -183,7 +186,7 @@ unfolding create
 null-create n es = refl
 
 -- ---- move
-pub move-absent : (n parent : ℕ) (es : Entries) → value-of n es ≡ none → moveEntry n parent es ≡ es
+pub move-absent : (n parent : ℕ) (es : Entries) → valueOf n es ≡ none → moveEntry n parent es ≡ es
 move-absent n parent es e = ap (moved n parent es) e
 
 insert-first : (n k : ℕ) (x : Val) (es : Entries) → WfEntries es k → n < k → insert n x es ≡ entry n x es
@@ -213,56 +216,56 @@ insert-removed n k x (entry m v es) w = by (insert-removed n (m + 1) x es (w .1 
         ∙ ap (λ q. cond q (entry n x (entry m v (remove n es))) (entry m v (insert n x (remove n es)))) f
         ∙ ap (entry m v) ih
 
-pub move-nests : (n k : ℕ) (x : Val) (es : Entries) → WfEntries es k → value-of n es ≡ some x → moveEntry n n es ≡ insert n (v-context (entry n x no-entries)) es
+pub move-nests : (n k : ℕ) (x : Val) (es : Entries) → WfEntries es k → valueOf n es ≡ some x → moveEntry n n es ≡ insert n (v-context (entry n x no-entries)) es
 unfolding create insert
 move-nests n k x es w e =
     ap (moved n n es) e
-    ∙ ap (λ (o : Option Val). insert n (v-context (insert n x (or-empty (given o entries-of)))) (remove n es)) (value-remove n k es w)
+    ∙ ap (λ (o : Option Val). insert n (v-context (insert n x (orEmpty (bind o entriesOf)))) (remove n es)) (value-remove n k es w)
     ∙ insert-removed n k (v-context (entry n x no-entries)) es w
 
-pub move-found : (n parent : ℕ) (x : Val) (es : Entries) → value-of n es ≡ some x → search (parent ∷ n ∷ []) (moveEntry n parent es) ≡ some x
+pub move-found : (n parent : ℕ) (x : Val) (es : Entries) → valueOf n es ≡ some x → search (parent ∷ n ∷ []) (moveEntry n parent es) ≡ some x
 move-found n parent x es e = ap (λ o. search (parent ∷ n ∷ []) (moved n parent es o)) e ∙ created-found (parent ∷ n ∷ []) x (remove n es) not-empty
 
-moved-other : (m n parent : ℕ) (x : Val) (es : Entries) → (m ≡ parent → ⊥) → value-of m (moved n parent es (some x)) ≡ value-of m (remove n es)
+moved-other : (m n parent : ℕ) (x : Val) (es : Entries) → (m ≡ parent → ⊥) → valueOf m (moved n parent es (some x)) ≡ valueOf m (remove n es)
 unfolding create
-moved-other m n parent x es d = value-insert-other m parent (v-context (create (n ∷ []) x (or-empty (context-at parent (remove n es))))) (remove n es) d
+moved-other m n parent x es d = value-insert-other m parent (v-context (create (n ∷ []) x (orEmpty (contextUnder parent (remove n es))))) (remove n es) d
 
-pub move-gone : (n parent k : ℕ) (es : Entries) → WfEntries es k → (n ≡ parent → ⊥) → value-of n (moveEntry n parent es) ≡ none
-move-gone n parent k es w d = by (value-of n es) refl
+pub move-gone : (n parent k : ℕ) (es : Entries) → WfEntries es k → (n ≡ parent → ⊥) → valueOf n (moveEntry n parent es) ≡ none
+move-gone n parent k es w d = by (valueOf n es) refl
   where
-    by : (o : Option Val) → value-of n es ≡ o → value-of n (moved n parent es o) ≡ none
+    by : (o : Option Val) → valueOf n es ≡ o → valueOf n (moved n parent es o) ≡ none
     by none e = e
     by (some x) e = moved-other n n parent x es d ∙ value-remove n k es w
 
-pub move-other : (m n parent : ℕ) (es : Entries) → (m ≡ n → ⊥) → (m ≡ parent → ⊥) → value-of m (moveEntry n parent es) ≡ value-of m es
-move-other m n parent es d f = by (value-of n es)
+pub move-other : (m n parent : ℕ) (es : Entries) → (m ≡ n → ⊥) → (m ≡ parent → ⊥) → valueOf m (moveEntry n parent es) ≡ valueOf m es
+move-other m n parent es d f = by (valueOf n es)
   where
-    by : (o : Option Val) → value-of m (moved n parent es o) ≡ value-of m es
+    by : (o : Option Val) → valueOf m (moved n parent es o) ≡ valueOf m es
     by none = refl
     by (some x) = moved-other m n parent x es f ∙ value-remove-other m n es d
 
 -- the parent behind a move, by what it was
-pub move-parent : (n parent : ℕ) (x : Val) (es : Entries) → (n ≡ parent → ⊥) → value-of n es ≡ some x
-    → value-of parent (moveEntry n parent es) ≡ some (v-context (insert n x (or-empty (context-at parent es))))
+pub move-parent : (n parent : ℕ) (x : Val) (es : Entries) → (n ≡ parent → ⊥) → valueOf n es ≡ some x
+    → valueOf parent (moveEntry n parent es) ≡ some (v-context (insert n x (orEmpty (contextUnder parent es))))
 unfolding create
 move-parent n parent x es d e =
-    ap (λ o. value-of parent (moved n parent es o)) e
-    ∙ value-insert parent (v-context (insert n x (or-empty (context-at parent (remove n es))))) (remove n es)
-    ∙ ap (λ (o : Option Val). some (v-context (insert n x (or-empty (given o entries-of))))) (value-remove-other parent n es (λ z. d (sym z)))
+    ap (λ o. valueOf parent (moved n parent es o)) e
+    ∙ value-insert parent (v-context (insert n x (orEmpty (contextUnder parent (remove n es))))) (remove n es)
+    ∙ ap (λ (o : Option Val). some (v-context (insert n x (orEmpty (bind o entriesOf))))) (value-remove-other parent n es (λ z. d (sym z)))
 
-pub move-replaced : (n parent : ℕ) (x : Val) (es : Entries) → (n ≡ parent → ⊥) → value-of n es ≡ some x → context-at parent es ≡ none
-    → value-of parent (moveEntry n parent es) ≡ some (v-context (entry n x no-entries))
+pub move-replaced : (n parent : ℕ) (x : Val) (es : Entries) → (n ≡ parent → ⊥) → valueOf n es ≡ some x → contextUnder parent es ≡ none
+    → valueOf parent (moveEntry n parent es) ≡ some (v-context (entry n x no-entries))
 unfolding insert
-move-replaced n parent x es d e c = move-parent n parent x es d e ∙ ap (λ (o : Option Entries). some (v-context (insert n x (or-empty o)))) c
+move-replaced n parent x es d e c = move-parent n parent x es d e ∙ ap (λ (o : Option Entries). some (v-context (insert n x (orEmpty o)))) c
 
 search-removed : (m n : ℕ) (p : List ℕ) (es : Entries) → (m ≡ n → ⊥) → search (m ∷ p) (remove n es) ≡ search (m ∷ p) es
 unfolding search
 search-removed m n [] es d = value-remove-other m n es d
-search-removed m n (k ∷ ks) es d = ap (λ (o : Option Val). given (given o entries-of) (λ fs. search (k ∷ ks) fs)) (value-remove-other m n es d)
+search-removed m n (k ∷ ks) es d = ap (λ (o : Option Val). bind (bind o entriesOf) (λ fs. search (k ∷ ks) fs)) (value-remove-other m n es d)
 
 pub move-inside : (n parent q : ℕ) (rest : List ℕ) (es : Entries) → (n ≡ parent → ⊥) → (q ≡ n → ⊥)
     → search (parent ∷ q ∷ rest) (moveEntry n parent es) ≡ search (parent ∷ q ∷ rest) es
-move-inside n parent q rest es d f = by (value-of n es)
+move-inside n parent q rest es d f = by (valueOf n es)
   where
     by : (o : Option Val) → search (parent ∷ q ∷ rest) (moved n parent es o) ≡ search (parent ∷ q ∷ rest) es
     by none = refl
@@ -270,13 +273,13 @@ move-inside n parent q rest es d f = by (value-of n es)
         created-other (parent ∷ q ∷ rest) (parent ∷ n ∷ []) x (remove n es) (later parent (q ∷ rest) (n ∷ []) (here q n rest [] f))
         ∙ search-removed parent n (q ∷ rest) es (λ z. d (sym z))
 
-pub move-below : (n parent : ℕ) (r : List ℕ) (x : Val) (es : Entries) → (r ≡ [] → ⊥) → value-of n es ≡ some x
-    → search (parent ∷ n ∷ r) (moveEntry n parent es) ≡ given (entries-of x) (λ fs. search r fs)
+pub move-below : (n parent : ℕ) (r : List ℕ) (x : Val) (es : Entries) → (r ≡ [] → ⊥) → valueOf n es ≡ some x
+    → search (parent ∷ n ∷ r) (moveEntry n parent es) ≡ bind (entriesOf x) (λ fs. search r fs)
 move-below n parent r x es f e = ap (λ o. search (parent ∷ n ∷ r) (moved n parent es o)) e ∙ created-inside (parent ∷ n ∷ []) r x (remove n es) not-empty f
 
 -- ---- remove
-pub removed-gone : (n k : ℕ) (es : Entries) → WfEntries es k → value-of n (removeEntry n es) ≡ none
+pub removed-gone : (n k : ℕ) (es : Entries) → WfEntries es k → valueOf n (removeEntry n es) ≡ none
 removed-gone n k es w = value-remove n k es w
 
-pub removed-other : (m n : ℕ) (es : Entries) → (m ≡ n → ⊥) → value-of m (removeEntry n es) ≡ value-of m es
+pub removed-other : (m n : ℕ) (es : Entries) → (m ≡ n → ⊥) → valueOf m (removeEntry n es) ≡ valueOf m es
 removed-other m n es d = value-remove-other m n es d

@@ -1,13 +1,13 @@
 -- Updates of a context, on trees: the writing half of context.rs.
 -- Assumes nothing.
 use Prim.Native.Nat.{ℕ}
-use mathlib.Core.Bool.{Bool, true, false, cond}
+use mathlib.Core.Bool.{cond}
 use mathlib.Core.Option.{Option, none, some}
 use mathlib.Core.List.{List, [], _∷_}
 use lib.Dec.{eqb, ltb}
-use Rattle.form.specs.Trees.{l-null, Val, v-leaf, v-context, Entries, no-entries, entry}
-use Rattle.retrieval.specs.Retrieve.{mapped, nothing}
-use Rattle.paths.specs.Paths.{value-of, entries-of, given, or-empty, context-at, containsEntry}
+use Rattle.form.specs.Trees.{Val, v-context, Entries, no-entries, entry, nothing}
+use Rattle.paths.specs.Paths.{valueOf, entriesOf, bind, orEmpty, contextUnder, containsEntry}
+use Rattle.form.specs.Options.{map}
 
 -- BTreeMap::insert: at its place among the ascending names, or in place of the old value
 unfoldable pub insert : ℕ → Val → Entries → Entries
@@ -24,18 +24,18 @@ remove n (entry m v es) = cond (eqb n m) es (entry m v (remove n es))
 unfoldable pub create : List ℕ → Val → Entries → Entries
 create [] x es = es
 create (n ∷ []) x es = insert n x es
-create (n ∷ m ∷ ns) x es = insert n (v-context (create (m ∷ ns) x (or-empty (context-at n es)))) es
+create (n ∷ m ∷ ns) x es = insert n (v-context (create (m ∷ ns) x (orEmpty (contextUnder n es)))) es
 
 -- the context on the way: a new one where the name is absent, Err where its value is none
-abbrev pub on-the-way : Option Val → Option Entries
-on-the-way none = some no-entries
-on-the-way (some v) = entries-of v
+abbrev pub onTheWay : Option Val → Option Entries
+onTheWay none = some no-entries
+onTheWay (some v) = entriesOf v
 
 -- FeelContext::apply_entries: the same, but none (Err) where a value on the way is no context
 unfoldable pub apply : List ℕ → Val → Entries → Option Entries
 apply [] x es = some es
 apply (n ∷ []) x es = some (insert n x es)
-apply (n ∷ m ∷ ns) x es = given (on-the-way (value-of n es)) (λ fs. mapped (λ gs. insert n (v-context gs) es) (apply (m ∷ ns) x fs))
+apply (n ∷ m ∷ ns) x es = bind (onTheWay (valueOf n es)) (λ fs. map (λ gs. insert n (v-context gs) es) (apply (m ∷ ns) x fs))
 
 -- FeelContext::zip: every entry of the other is inserted
 unfoldable pub zip : Entries → Entries → Entries
@@ -53,7 +53,7 @@ moved n parent es none = es
 moved n parent es (some x) = create (parent ∷ n ∷ []) x (remove n es)
 
 abbrev pub moveEntry : ℕ → ℕ → Entries → Entries
-moveEntry n parent es = moved n parent es (value-of n es)
+moveEntry n parent es = moved n parent es (valueOf n es)
 
 -- FeelContext::set_entry, set_null, remove_entry
 abbrev pub setEntry : ℕ → Val → Entries → Entries

@@ -9,12 +9,12 @@ use lib.ListN.{length, take, drop}
 use Rattle.form.specs.Limits.{nameWidth, mostBytes, mostNames}
 use Rattle.form.specs.Trees.{Val, v-context, Entries}
 use Rattle.form.specs.Form.{bytes, encV}
-use Rattle.retrieval.specs.Retrieve.{mapped}
-use Rattle.retrieval.specs.Filling.{fill, Filled}
-use Rattle.paths.specs.Paths.{entries-of, given, or-empty}
+use Rattle.paths.specs.Paths.{entriesOf, bind, orEmpty}
 use Rattle.updates.specs.Update.{create, apply, zip, overwrite}
 use Rattle.updates.specs.declared.Made.{Made}
 use Rattle.updates.specs.declared.Made.the-variants as made-is
+use Rattle.form.specs.Options.{map}
+use Rattle.output.specs.Output.{fill, Filled}
 
 -- ---- create_entries and apply_entries, told apart by whether a value on the way that is no context is Err
 abbrev pub updated : Bool → List ℕ → Val → Entries → Option Entries
@@ -23,13 +23,13 @@ updated false p x es = some (create p x es)
 
 -- the context in which the rest of the path is created
 abbrev pub way : Bool → Val → Option Entries
-way true v = entries-of v
-way false v = some (or-empty (entries-of v))
+way true v = entriesOf v
+way false v = some (orEmpty (entriesOf v))
 
 -- what stands in place of the value w when the path has gone so far
 abbrev pub replaced : Bool → List ℕ → Val → Val → Option Val
 replaced strict [] x w = some x
-replaced strict (n ∷ ns) x w = given (way strict w) (λ es. mapped v-context (updated strict (n ∷ ns) x es))
+replaced strict (n ∷ ns) x w = bind (way strict w) (λ es. map v-context (updated strict (n ∷ ns) x es))
 
 -- ---- the answers
 -- the length of what was made; or Err
@@ -43,8 +43,8 @@ pub record Wrote (o : Option (List ℕ)) (old new : List ℕ) (most : ℕ) (r : 
   pub short : (n : ℕ) → r ≡ made-is.Bytes n → n ≤ most
 
 -- the most bytes of a context of k bytes after a path of n names to a value of m bytes
-abbrev pub grown : ℕ → ℕ → ℕ → ℕ
-grown k n m = k + m + 8 * n
+abbrev pub updateBound : ℕ → ℕ → ℕ → ℕ
+updateBound k n m = k + m + 8 * n
 
 -- the arguments of a builder are small
 pub record Small (c path v : List ℕ) : Type 0 where
@@ -67,17 +67,17 @@ unfoldable pub closed : ℕ → List ℕ → ℕ → ℕ → List ℕ
 closed count c at to = begun count c at ++ drop to c
 
 unfoldable pub Updates : Bool → Option Entries → List ℕ → Option Val → List ℕ → List ℕ → ℕ → Made → Type 0
-Updates strict (some es) p (some x) old new most r = Wrote (mapped encV (mapped v-context (updated strict p x es))) old new most r
+Updates strict (some es) p (some x) old new most r = Wrote (map encV (map v-context (updated strict p x es))) old new most r
 Updates strict (some es) p none old new most r = Unit {0}
 Updates strict none p x old new most r = Unit {0}
 
 unfoldable pub Replaces : Bool → Option Val → List ℕ → Option Val → List ℕ → List ℕ → ℕ → Made → Type 0
-Replaces strict (some w) p (some x) old new most r = Wrote (mapped encV (replaced strict p x w)) old new most r
+Replaces strict (some w) p (some x) old new most r = Wrote (map encV (replaced strict p x w)) old new most r
 Replaces strict (some w) p none old new most r = Unit {0}
 Replaces strict none p x old new most r = Unit {0}
 
 unfoldable pub Enters : Bool → ℕ → List ℕ → ℕ → ℕ → Option Val → List ℕ → Option Val → List ℕ → List ℕ → ℕ → Made → Type 0
-Enters strict count c at to (some w) (n ∷ p) (some x) old new most r = Wrote (mapped (framed count c at to n) (replaced strict p x w)) old new most r
+Enters strict count c at to (some w) (n ∷ p) (some x) old new most r = Wrote (map (framed count c at to n) (replaced strict p x w)) old new most r
 Enters strict count c at to (some w) [] (some x) old new most r = Unit {0}
 Enters strict count c at to (some w) p none old new most r = Unit {0}
 Enters strict count c at to none p x old new most r = Unit {0}

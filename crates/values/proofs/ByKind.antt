@@ -1,4 +1,6 @@
 -- A value against a type by their commands: a value of one kind conforms to no other kind's types but Any, and a null to all.
+-- Index: `kind`, `kind-is`, `kind-plain`, `kind-other`, `leaf-is`, `small-is`, `long-is`, `definition-is` (a value that was read, by its command); `kinds-differ`, `to-any` (conformance by kinds);
+-- `leaf-null`, `leaf-same`, `simple-is`, `simple-cmd` (leaves); `held-function`, `counts-differ` (definitions).
 -- Assumes nothing.
 use Prim.Native.Nat.{ℕ, zero, suc, _+_, _-_, _≤_}
 use mathlib.Core.Path.{_≡_, refl, sym, ap, _∙_}
@@ -10,7 +12,7 @@ use lib.ListN.{length, getD, drop}
 use lib.Dec.{eqb, leb}
 use borrow.Author.Tests.{ne-eqb, le-leb, lt-leb}
 use Rattle.form.specs.Trees.{Simple, any, Ty, leaf, built, list, range, context, function, Tys, no-params, param, code, simple, Leaf, Params, Val, v-leaf, v-range, v-list, v-context, v-function}
-use Rattle.form.specs.Trees.{v-built-in, v-type, v-irrelevant, isDataLeaf, decode-temporal}
+use Rattle.form.specs.Trees.{v-built-in, v-type, v-irrelevant, isDataLeaf, decodeTemporal}
 use Rattle.form.specs.Limits.{nameWidth}
 use Rattle.form.specs.Form.{countTys}
 use Rattle.form.specs.Outcome.{pick}
@@ -19,12 +21,12 @@ use Rattle.form.proofs.ExactValues.{code-decode}
 use Rattle.order.specs.Order.{up, fixed, flat}
 use Rattle.order.specs.Types.{cmp, cmps}
 use Rattle.order.specs.Size.{size}
-use Rattle.order.specs.Values.{leaf-type, types-of, conforms}
+use Rattle.order.specs.Values.{leafType, typesOf, conforms}
 use Rattle.order.proofs.Simple.{fixed-laws, temporal-code}
 use Rattle.order.proofs.Bools.{and-false}
 use Rattle.types.specs.At.{Sig, sig, funOf}
 use Rattle.types.proofs.Reading.{cmd}
-use Rattle.types.proofs.Conforming.{le-null, le-other, le-leaves, same-simple, count-sig}
+use Rattle.types.proofs.ByCommand.{le-null, le-other, le-leaves, same-simple, count-sig}
 use Rattle.values.specs.At.{valueAt, Definition, definition, definitionAt}
 use Rattle.values.specs.Held.{definitionConforms}
 use Rattle.values.proofs.Reading.{IsVal, is-null, is-boolean, is-number, is-string, is-temporal, is-range, is-list, is-context, is-definition, is-built-in, is-type, is-irrelevant, is-val}
@@ -32,7 +34,7 @@ use Rattle.values.proofs.Reading.{paramsAt, next-parameter, no-paramete
 
 -- the command of the types of a value's kind; Any's for a value that has none
 abbrev pub kind : Val → ℕ
-kind (v-leaf f) = 0x20 + code (leaf-type f)
+kind (v-leaf f) = 0x20 + code (leafType f)
 kind (v-range i j a b) = 0x2B
 kind (v-list vs) = 0x2A
 kind (v-context es) = 0x2C
@@ -42,7 +44,7 @@ kind (v-type t) = 0x20
 kind v-irrelevant = 0x20
 
 -- ---- by the command of a value that was read
--- the same, by the value's own command
+-- by the value's own command
 unfoldable pub kindAt : ℕ → ℕ
 kindAt c = pick (eqb c 0x00) 0x29 (pick (leb c 0x08) (c + 0x20) (pick (eqb c 0x09) 0x2B (pick (eqb c 0x0A) 0x2A (pick (eqb c 0x0B) 0x2C (pick (eqb c 0x0C) 0x2D 0x20)))))
 
@@ -68,7 +70,7 @@ kind-of l s x (is-null y c) = ap kindAt (sym c)
 kind-of l s x (is-boolean y c) = ap kindAt (sym c)
 kind-of l s x (is-number y c) = ap kindAt (sym c)
 kind-of l s x (is-string y c) = ap kindAt (sym c)
-kind-of l s x (is-temporal y h i) = omega (arith, temporal-code (decode-temporal (getD s 0 0 - 4)), code-decode (getD s 0 0 - 4) (omega arith), kind-plain (getD s 0 0) (omega arith) (omega arith))
+kind-of l s x (is-temporal y h i) = omega (arith, temporal-code (decodeTemporal (getD s 0 0 - 4)), code-decode (getD s 0 0 - 4) (omega arith), kind-plain (getD s 0 0) (omega arith) (omega arith))
 kind-of l s x (is-range i j a b c k p) = ap kindAt (sym c)
 kind-of l s x (is-list vs c k p) = ap kindAt (sym c)
 kind-of l s x (is-context es c k p) = ap kindAt (sym c)
@@ -138,7 +140,7 @@ not-any s a = simp (ne-eqb (code s) 0 (λ e. a (omega arith)), ne-eqb 0 (code s)
 
 pub kinds-differ : (x : Val) (u : Ty) → (kind x ≡ 41 → ⊥) → (cmd u ≡ 32 → ⊥) → (kind x ≡ cmd u → ⊥) → conforms fixed x u ≡ false
 unfolding conforms
-kinds-differ (v-leaf f) u n a d = le-other (leaf (leaf-type f)) u d n a
+kinds-differ (v-leaf f) u n a d = le-other (leaf (leafType f)) u d n a
 kinds-differ (v-range i j x y) (leaf s) n a d = not-any s a
 kinds-differ (v-range i j x y) (built (list t)) n a d = refl
 kinds-differ (v-range i j x y) (built (range t)) n a d = absurd (d refl)
@@ -175,7 +177,7 @@ any-type (built (function ps r)) e = absurd (omega arith)
 
 of-any : (x : Val) → conforms fixed x (leaf any) ≡ true
 unfolding conforms cmp
-of-any (v-leaf f) = fixed-laws .any-greatest (leaf-type f)
+of-any (v-leaf f) = fixed-laws .any-greatest (leafType f)
 of-any (v-range i j a b) = refl
 of-any (v-list vs) = refl
 of-any (v-context es) = refl
@@ -200,11 +202,11 @@ leaf-tree v-irrelevant e = absurd (true≢false (sym e))
 
 pub leaf-null : (x : Val) (u : Ty) → isDataLeaf x ≡ true → kind x ≡ 41 → conforms fixed x u ≡ true
 unfolding conforms
-leaf-null x u h e = let g = leaf-tree x h in ap (λ y. conforms fixed y u) (g .1) ∙ le-null (leaf (leaf-type (g .0))) u (sym (ap kind (g .1)) ∙ e) .1
+leaf-null x u h e = let g = leaf-tree x h in ap (λ y. conforms fixed y u) (g .1) ∙ le-null (leaf (leafType (g .0))) u (sym (ap kind (g .1)) ∙ e) .1
 
 pub leaf-same : (x : Val) (u : Ty) → isDataLeaf x ≡ true → simple u ≡ true → kind x ≡ cmd u → conforms fixed x u ≡ true
 unfolding conforms
-leaf-same x (leaf s) h k e = let g = leaf-tree x h in ap (λ y. conforms fixed y (leaf s)) (g .1) ∙ le-leaves (leaf-type (g .0)) s (same-simple (leaf-type (g .0)) s (sym (ap kind (g .1)) ∙ e))
+leaf-same x (leaf s) h k e = let g = leaf-tree x h in ap (λ y. conforms fixed y (leaf s)) (g .1) ∙ le-leaves (leafType (g .0)) s (same-simple (leafType (g .0)) s (sym (ap kind (g .1)) ∙ e))
 leaf-same x (built y) h k e = absurd (true≢false (sym k))
 
 pub simple-is : (u : Ty) → cmd u ≤ 41 → simple u ≡ true
@@ -219,13 +221,6 @@ unfolding size
 simple-cmd (leaf s) h = let k = code-small s in (omega arith, refl)
 simple-cmd (built y) h = absurd (true≢false (sym h))
 
-pub not-simple : (u : Ty) → simple u ≡ false → 42 ≤ cmd u
-not-simple (leaf s) h = absurd (true≢false h)
-not-simple (built (list t)) h = omega arith
-not-simple (built (range t)) h = omega arith
-not-simple (built (context fs)) h = omega arith
-not-simple (built (function ps r)) h = omega arith
-
 -- ---- definitions
 cmps-count : (ps qs : Tys) → (countTys ps ≡ countTys qs → ⊥) → cmps fixed up ps qs ≡ false
 unfolding cmp countTys
@@ -234,20 +229,20 @@ cmps-count no-params (param t qs) d = refl
 cmps-count (param t ps) no-params d = refl
 cmps-count (param t ps) (param u qs) d = ap (λ x. cmp fixed up t u && x) (cmps-count ps qs (λ e. d (ap suc e))) ∙ and-false (cmp fixed up t u)
 
-params-count : (l n : ℕ) (s : List ℕ) (ps : Params) → paramsAt l n s ≡ some ps → countTys (types-of ps) ≡ n
-unfolding countTys types-of
-params-count l zero s ps e = ap (λ x. countTys (types-of x)) (no-parameter l s ps e)
+params-count : (l n : ℕ) (s : List ℕ) (ps : Params) → paramsAt l n s ≡ some ps → countTys (typesOf ps) ≡ n
+unfolding countTys typesOf
+params-count l zero s ps e = ap (λ x. countTys (typesOf x)) (no-parameter l s ps e)
 params-count l (suc n) s ps e =
     let g = next-parameter l n s ps e in
-    ap (λ x. countTys (types-of x)) (g .is) ∙ ap suc (params-count l n (drop (size (g .t)) (drop nameWidth s)) (g .more) (g .second))
+    ap (λ x. countTys (typesOf x)) (g .is) ∙ ap suc (params-count l n (drop (size (g .t)) (drop nameWidth s)) (g .more) (g .second))
 
 abbrev params-of : Definition → Params
 params-of (definition r ps) = ps
 
-definition-count : (l n : ℕ) (s : List ℕ) (r : Ty) (ps : Params) → definitionAt l n s ≡ some (definition r ps) → countTys (types-of ps) ≡ n
+definition-count : (l n : ℕ) (s : List ℕ) (r : Ty) (ps : Params) → definitionAt l n s ≡ some (definition r ps) → countTys (typesOf ps) ≡ n
 definition-count l n s r ps e =
     let g = definition-parts l n s (definition r ps) e in
-    ap (λ d. countTys (types-of (params-of d))) (g .is) ∙ params-count l n (drop (size (g .r)) s) (g .ps) (g .second)
+    ap (λ d. countTys (typesOf (params-of d))) (g .is) ∙ params-count l n (drop (size (g .r)) s) (g .ps) (g .second)
 
 pub held-function : (ps : Params) (b : ℕ) (r : Ty) (f : Sig) → conforms fixed (v-function ps b r) (funOf f) ≡ definitionConforms (definition r ps) f
 unfolding conforms
@@ -255,4 +250,4 @@ held-function ps b r (sig qs s) = refl
 
 -- no, since the counts differ
 pub counts-differ : (l n : ℕ) (s : List ℕ) (r : Ty) (ps : Params) (f : Sig) → definitionAt l n s ≡ some (definition r ps) → (n ≡ count-sig f → ⊥) → definitionConforms (definition r ps) f ≡ false
-counts-differ l n s r ps (sig qs t) e d = ap (λ x. x && cmp fixed up r t) (cmps-count (types-of ps) qs (λ z. d (sym (definition-count l n s r ps e) ∙ z)))
+counts-differ l n s r ps (sig qs t) e d = ap (λ x. x && cmp fixed up r t) (cmps-count (typesOf ps) qs (λ z. d (sym (definition-count l n s r ps e) ∙ z)))

@@ -1,5 +1,7 @@
 -- A function definition against a function type: each own parameter to the target's, result to result. The definition was read, with one level less than
 -- the type has; what is left of the type decides, whether it is read or not.
+-- Index: `DefinitionGo`, `definition-start`, `name-there`, `param-turn`, `param-apart`, `param-fits`, `result-yes`, `result-apart`, `result-fits` (the loop);
+-- `definition-bytes`, `definition-ok`, `definition-counts`, `met-definition` (in `conform_other`); `type-up` (more levels).
 -- Assumes nothing.
 use Prim.Native.Nat.{ℕ, _+_, _-_, _<_, _≤_}
 use mathlib.Core.Path.{_≡_, refl, sym, ap, ap₂, subst, _∙_}
@@ -13,29 +15,29 @@ use Rattle.form.specs.Trees.{Ty, no-params, Params, no-parameters, parameter, V
 use Rattle.form.specs.Limits.{nameWidth}
 use Rattle.form.specs.Read.{readT}
 use Rattle.form.proofs.AnySize.{Fair}
-use Rattle.form.proofs.Fuel.{stays}
+use Rattle.form.proofs.MoreLevels.{stays}
 use Rattle.form.proofs.Runs.{rest}
 use Rattle.order.specs.Order.{up, fixed}
 use Rattle.order.specs.Types.{cmp, cmps, le}
-use Rattle.order.specs.Size.{size, size-params, size-val}
-use Rattle.order.specs.Values.{types-of}
+use Rattle.order.specs.Size.{size, sizeParams, sizeVal}
+use Rattle.order.specs.Values.{typesOf}
 use Rattle.order.specs.Inferred.{valueConformsTo}
 use Rattle.order.proofs.Bools.{and-assoc}
-use Rattle.types.specs.At.{typeAt, Sig, sig, cons, funOf, size-sig, sigAt, sizeAt, Ok}
-use Rattle.types.specs.Conform.{Conform, judge, conformBy, grown, Met}
+use Rattle.types.specs.At.{typeAt, Sig, sig, cons, funOf, sizeSig, sigAt, sizeAt, Ok}
+use Rattle.types.specs.Conform.{Conform, judge, conformBy, addSizes, Met}
 use Rattle.types.proofs.Reading.{seen-got, got-seen, ok-got, is-ok, is-fun, t-good, size-cons, size-fun, result}
 use Rattle.types.proofs.Entries.{step, size-got}
-use Rattle.types.proofs.InStep.{param-at}
-use Rattle.types.proofs.Conforming.{sig-count}
+use Rattle.types.proofs.ParametersInStep.{param-at}
+use Rattle.types.proofs.ByCommand.{sig-count}
 use Rattle.types.proofs.Forward as forward
 use Rattle.types.proofs.Forward.{param-on, result-read}
-use Rattle.types.proofs.Names.{readable-type}
+use Rattle.types.proofs.SortedNames.{readable-type}
 use Rattle.types.proofs.Pairs.{mapO, mapO-same, both, no-when, mapped, grown-on, met-yes, met-no, met-as, Pair, MetAt, pair, pair-no, pair-in}
-use Rattle.values.specs.At.{valueAt, Definition, definition, size-definition, definitionAt}
+use Rattle.values.specs.At.{valueAt, Definition, definition, sizeDefinition, definitionAt}
 use Rattle.values.specs.Held.{held, definitionConforms, heldDefinition}
 use Rattle.values.proofs.Reading.{paramsAt, definition-parts, next-parameter, no-parameter}
 use Rattle.values.proofs.ByKind.{definition-is, held-function, counts-differ}
-use Rattle.values.proofs.Holding.{fails}
+use Rattle.values.proofs.ValueConformance.{fails}
 
 same-tree : {X : Type 0} {x y : X} → some x ≡ some y → x ≡ y
 same-tree e = cc
@@ -50,8 +52,8 @@ abbrev left-conforms : Ty → Params → Sig → Bool
 left-conforms r ps f = definitionConforms (definition r ps) f
 
 left-cons : (r : Ty) (n : ℕ) (a : Ty) (ps : Params) (u : Ty) (f : Sig) → left-conforms r (parameter n a ps) (cons u f) ≡ le fixed a u && left-conforms r ps f
-unfolding cmp types-of
-left-cons r n a ps u (sig qs s) = and-assoc (cmp fixed up a u) (cmps fixed up (types-of ps) qs) (cmp fixed up r s)
+unfolding cmp typesOf
+left-cons r n a ps u (sig qs s) = and-assoc (cmp fixed up a u) (cmps fixed up (typesOf ps) qs) (cmp fixed up r s)
 
 pub record DefinitionGo (l m : ℕ) (whole : Conform) (v t : List ℕ) (count at bt i : ℕ) : Type 0 where
   pub r : Ty
@@ -62,7 +64,7 @@ pub record DefinitionGo (l m : ℕ) (whole : Conform) (v t : List ℕ) (count at
   pub in-t : bt ≤ length t
   pub read-r : typeAt m v ≡ some r
   pub read-v : paramsAt l (count - i) (drop at v) ≡ some ps
-  pub goes : whole ≡ grown at bt (conformBy size-params size-sig (left-conforms r) (some ps) (sigAt m (count - i) (drop bt t)))
+  pub goes : whole ≡ addSizes at bt (conformBy sizeParams sizeSig (left-conforms r) (some ps) (sigAt m (count - i) (drop bt t)))
 
 pub definition-start : (l m : ℕ) (v t : List ℕ) (count : ℕ) → l ≤ m → Ok (definitionAt l count v) → (at : ℕ) → at ≡ sizeAt (typeAt m v)
     → DefinitionGo l m (heldDefinition (definitionAt l count v) (sigAt m count t)) v t count at 0 0
@@ -83,9 +85,9 @@ definition-start l m v t count h o at k =
       read-r = R;
       read-v = ap₂ (λ k z. paramsAt l k (drop z v)) (sym c) a ∙ P .second;
       goes = ap₂ heldDefinition (g .1 ∙ ap some (P .is)) (sym (mapO-same (sigAt m count t)))
-          ∙ mapped size-params size-sig (left-conforms (P .r)) size-definition size-sig definitionConforms (definition (P .r)) (λ f. f) at 0 (some (P .ps)) (sigAt m count t) (λ x y e f. refl)
+          ∙ mapped sizeParams sizeSig (left-conforms (P .r)) sizeDefinition sizeSig definitionConforms (definition (P .r)) (λ f. f) at 0 (some (P .ps)) (sigAt m count t) (λ x y e f. refl)
           (λ x e. omega arith) (λ f. omega arith)
-          ∙ ap (λ n. grown at 0 (conformBy size-params size-sig (left-conforms (P .r)) (some (P .ps)) (sigAt m n t))) c;
+          ∙ ap (λ n. addSizes at 0 (conformBy sizeParams sizeSig (left-conforms (P .r)) (some (P .ps)) (sigAt m n t))) c;
     }
 
 module _ {l m : ℕ} {whole : Conform} {v t : List ℕ} {count at bt i : ℕ} (I : DefinitionGo l m whole v t count at bt i) where
@@ -118,8 +120,8 @@ module _ {l m : ℕ} {whole : Conform} {v t : List ℕ} {count at bt i : ℕ} (I
   name-there h = own h .two
 
   module _ (h : i < count) (x y : ℕ) where
-    pub param-apart : MetAt (readable-type m) (readable-type m) (le fixed) v (at + nameWidth) t bt x y → x ≡ 0 → (u : ℕ) → Met (grown 4 2 whole) 0 u
-    param-apart w z u = met-no 0 u (ap (grown 4 2) (I .goes ∙ ap (grown at bt) (no-when size-params size-sig (left-conforms (I .r)) (some (I .ps)) (sigAt m (count - i) (drop bt t)) (λ qs f e g.
+    pub param-apart : MetAt (readable-type m) (readable-type m) (le fixed) v (at + nameWidth) t bt x y → x ≡ 0 → (u : ℕ) → Met (addSizes 4 2 whole) 0 u
+    param-apart w z u = met-no 0 u (ap (addSizes 4 2) (I .goes ∙ ap (addSizes at bt) (no-when sizeParams sizeSig (left-conforms (I .r)) (some (I .ps)) (sigAt m (count - i) (drop bt t)) (λ qs f e g.
         let A = own h in
         let B = param-at m i count bt t f h (I .in-t) g in
         ap₂ (left-conforms (I .r)) (sym (same-tree e) ∙ A .is) (B .is) ∙ left-cons (I .r) (A .name) (A .a) (A .more) (B .t) (B .more)
@@ -130,7 +132,7 @@ module _ {l m : ℕ} {whole : Conform} {v t : List ℕ} {count at bt i : ℕ} (I
       param-fits = pair-in (readable-type m) (readable-type m) (le fixed) v (at + nameWidth) t bt x y (own h .two) (I .in-t) P
 
       pub param-turn : DefinitionGo l m whole v t count (at + nameWidth + x) (bt + y) (i + 1)
-      unfolding size-params mapO
+      unfolding sizeParams mapO
       param-turn =
           let A = own h in
           let S = sigAt m (count - (i + 1)) (drop (bt + y) t) in
@@ -148,12 +150,12 @@ module _ {l m : ℕ} {whole : Conform} {v t : List ℕ} {count at bt i : ℕ} (I
             in-t = param-fits .1;
             read-r = I .read-r;
             read-v = ap (λ k. paramsAt l (count - (i + 1)) (drop (at + nameWidth + k) v)) xa ∙ A .second;
-            goes = I .goes ∙ ap (grown at bt) (ap₂ (conformBy size-params size-sig (left-conforms (I .r))) (ap some (A .is)) e
-                ∙ mapped size-params size-sig (left-conforms (I .r)) size-params size-sig (left-conforms (I .r)) (parameter (A .name) (A .a)) (cons (P .y)) (nameWidth + x) y (some (A .more)) S
+            goes = I .goes ∙ ap (addSizes at bt) (ap₂ (conformBy sizeParams sizeSig (left-conforms (I .r))) (ap some (A .is)) e
+                ∙ mapped sizeParams sizeSig (left-conforms (I .r)) sizeParams sizeSig (left-conforms (I .r)) (parameter (A .name) (A .a)) (cons (P .y)) (nameWidth + x) y (some (A .more)) S
                 (λ qs f p q. left-cons (I .r) (A .name) (A .a) qs (P .y) f ∙ ap (λ b. b && left-conforms (I .r) qs f) (ap (λ k. le fixed k (P .y)) (sym a) ∙ P .holds)) (λ qs p. omega (arith, xa))
                 (λ f. omega (arith, size-cons (P .y) f, P .size-b)))
-                ∙ grown-on at bt (nameWidth + x) y (conformBy size-params size-sig (left-conforms (I .r)) (some (A .more)) S)
-                ∙ ap (λ k. grown k (bt + y) (conformBy size-params size-sig (left-conforms (I .r)) (some (A .more)) S)) o;
+                ∙ grown-on at bt (nameWidth + x) y (conformBy sizeParams sizeSig (left-conforms (I .r)) (some (A .more)) S)
+                ∙ ap (λ k. addSizes k (bt + y) (conformBy sizeParams sizeSig (left-conforms (I .r)) (some (A .more)) S)) o;
           }
 
   -- behind the last parameter: the results
@@ -164,9 +166,9 @@ module _ {l m : ℕ} {whole : Conform} {v t : List ℕ} {count at bt i : ℕ} (I
     last : I .ps ≡ no-parameters
     last = no-parameter l (drop at v) (I .ps) (ap (λ n. paramsAt l n (drop at v)) (sym no-more) ∙ I .read-v)
 
-    pub result-apart : x ≡ 0 → (u : ℕ) → Met (grown 4 2 whole) 0 u
-    unfolding cmp types-of
-    result-apart z u = met-no 0 u (ap (grown 4 2) (I .goes ∙ ap (grown at bt) (no-when size-params size-sig (left-conforms (I .r)) (some (I .ps)) (sigAt m (count - i) (drop bt t)) (λ qs f e g.
+    pub result-apart : x ≡ 0 → (u : ℕ) → Met (addSizes 4 2 whole) 0 u
+    unfolding cmp typesOf
+    result-apart z u = met-no 0 u (ap (addSizes 4 2) (I .goes ∙ ap (addSizes at bt) (no-when sizeParams sizeSig (left-conforms (I .r)) (some (I .ps)) (sigAt m (count - i) (drop bt t)) (λ qs f e g.
         let S = result m (drop bt t) f (ap (λ n. sigAt m n (drop bt t)) (sym no-more) ∙ g) in
         ap₂ (left-conforms (I .r)) (sym (same-tree e) ∙ last) (S .2) ∙ pair-no (readable-type m) (readable-type m) (le fixed) v 0 t bt x y w z (I .r) (S .0) (I .read-r) (S .1))))) refl
 
@@ -177,13 +179,14 @@ module _ {l m : ℕ} {whole : Conform} {v t : List ℕ} {count at bt i : ℕ} (I
       pub result-fits : bt + y ≤ length t
       result-fits = pair-in (readable-type m) (readable-type m) (le fixed) v 0 t bt x y (omega arith) (I .in-t) P .1
 
-      pub result-yes : (p q : ℕ) → p ≡ at + 4 → q ≡ bt + y + 2 → Met (grown 4 2 whole) p q
-      unfolding cmp types-of size size-params mapO
+      pub result-yes : (p q : ℕ) → p ≡ at + 4 → q ≡ bt + y + 2 → Met (addSizes 4 2 whole) p q
+      unfolding cmp typesOf size sizeParams mapO
       result-yes p q e f =
           let s : sigAt m (count - i) (drop bt t) ≡ some (sig no-params (P .y)) = ap (λ n. sigAt m n (drop bt t)) no-more ∙ result-read m (drop bt t) ∙ ap (mapO (sig no-params)) (P .read-b) in
           let k : left-conforms (I .r) no-parameters (sig no-params (P .y)) ≡ true = ap (λ r. le fixed r (P .y)) (same-tree (sym (I .read-r) ∙ P .read-a)) ∙ P .holds in
-          met-yes (ap (grown 4 2) (I .goes ∙ ap (grown at bt) (both size-params size-sig (left-conforms (I .r)) (some (I .ps)) (sigAt m (count - i) (drop bt t)) no-parameters (sig no-params (P .y))
-          (ap some last) s ∙ ap (λ b. judge b 0 (size-sig (sig no-params (P .y)))) k))) (omega (arith, e)) (omega (arith, f, P .size-b))
+          met-yes (ap (addSizes 4 2) (I .goes ∙ ap (addSizes at bt)
+          (both sizeParams sizeSig (left-conforms (I .r)) (some (I .ps)) (sigAt m (count - i) (drop bt t)) no-parameters (sig no-params (P .y))
+          (ap some last) s ∙ ap (λ b. judge b 0 (sizeSig (sig no-params (P .y)))) k))) (omega (arith, e)) (omega (arith, f, P .size-b))
 
 -- ---- the returns of `conform_other` at a definition
 module _ (l m : ℕ) (v t : List ℕ) (mp : 0 < m) (c : getD v 0 0 ≡ 12) (d : getD t 0 0 ≡ 45) (two : 2 ≤ length t) (x : Val) (e : valueAt l v ≡ some x) where
@@ -204,21 +207,21 @@ module _ (l m : ℕ) (v t : List ℕ) (mp : 0 < m) (c : getD v 0 0 ≡ 12) (d : 
       ∙ counts-differ (l - 1) (getD v 1 0) (drop 4 v) (D .r) (D .ps) (F .f) (D .read) (λ z. n (z ∙ sig-count (m - 1) (getD t 1 0) (drop 2 t) (F .f) (F .read))))
 
   pub met-definition : (n : ℕ) → n ≡ getD v 1 0 → getD v 1 0 ≡ getD t 1 0 → (r u : ℕ)
-      → Met (grown 4 2 (heldDefinition (definitionAt (l - 1) n (take (length v - 4) (drop 4 v))) (sigAt (m - 1) n (take (length t - 2) (drop 2 t))))) r u
+      → Met (addSizes 4 2 (heldDefinition (definitionAt (l - 1) n (take (length v - 4) (drop 4 v))) (sigAt (m - 1) n (take (length t - 2) (drop 2 t))))) r u
       → Met (held (valueAt l v) (typeAt m t)) r u
-  unfolding size-val mapO function-of
+  unfolding sizeVal mapO function-of
   met-definition n k q r u w =
       let D = definition-is l v x e c in
       let ev : valueAt l v ≡ mapO (function-of (D .b)) (definitionAt (l - 1) n (drop 4 v)) = e ∙ ap some (D .is)
       ∙ sym (ap (λ j. mapO (function-of (D .b)) (definitionAt (l - 1) j (drop 4 v))) k ∙ ap (mapO (function-of (D .b))) (D .read)) in
       let et : typeAt m t ≡ mapO funOf (sigAt (m - 1) n (drop 2 t)) = forward.node-function m t mp (omega arith) d two ∙ ap (λ j. mapO funOf (sigAt (m - 1) j (drop 2 t))) (sym (k ∙ q)) in
-      met-as (grown 4 2 (heldDefinition (definitionAt (l - 1) n (drop 4 v)) (sigAt (m - 1) n (drop 2 t)))) r u
-      (ap₂ held ev et ∙ mapped size-definition size-sig definitionConforms size-val size valueConformsTo (function-of (D .b)) funOf 4 2 (definitionAt (l - 1) n (drop 4 v)) (sigAt (m - 1) n (drop 2 t))
+      met-as (addSizes 4 2 (heldDefinition (definitionAt (l - 1) n (drop 4 v)) (sigAt (m - 1) n (drop 2 t)))) r u
+      (ap₂ held ev et ∙ mapped sizeDefinition sizeSig definitionConforms sizeVal size valueConformsTo (function-of (D .b)) funOf 4 2 (definitionAt (l - 1) n (drop 4 v)) (sigAt (m - 1) n (drop 2 t))
       (tested (D .b)) (λ y f. sizes (D .b) y) size-fun) (rw (rest v 4, rest t 2) at w)
     where
       tested : (b : ℕ) (y : Definition) (f : Sig) → definitionAt (l - 1) n (drop 4 v) ≡ some y → sigAt (m - 1) n (drop 2 t) ≡ some f
           → valueConformsTo (function-of b y) (funOf f) ≡ definitionConforms y f
       tested b (definition s ps) f p g = held-function ps b s f
 
-      sizes : (b : ℕ) (y : Definition) → size-val (function-of b y) ≡ size-definition y + 4
+      sizes : (b : ℕ) (y : Definition) → sizeVal (function-of b y) ≡ sizeDefinition y + 4
       sizes b (definition s ps) = omega arith

@@ -1,4 +1,5 @@
 -- The entries of a context, as they are read, and their test against those of a type, name by name: what the laws of two ascending lists in step ask for.
+-- Index: `Above`, `entries-run`, `entries-tests` (for SortedNames of crate `types`); `entries-none`, `entries-left`, `entries-low` (no entries, no level).
 -- Assumes nothing.
 use Prim.Native.Nat.{ℕ, zero, suc, _-_, _<_, _≤_}
 use mathlib.Core.Path.{_≡_, refl, sym, ap, ap₂, _∙_}
@@ -12,45 +13,45 @@ use Rattle.form.specs.Trees.{Ty, Fields, no-fields, field, Val, Entries, no-ent
 use Rattle.form.specs.Limits.{nameWidth}
 use Rattle.form.specs.Read.{readNamed, readV}
 use Rattle.order.specs.Order.{fixed}
-use Rattle.order.specs.Types.{all-fields}
+use Rattle.order.specs.Types.{allFields}
 use Rattle.order.specs.Ascending.{Asc, AscFields}
-use Rattle.order.specs.Size.{size-fields, size-val, size-entries}
-use Rattle.order.specs.Values.{conforms, has-value}
+use Rattle.order.specs.Size.{sizeFields, sizeVal, sizeEntries}
+use Rattle.order.specs.Values.{conforms, hasValue}
 use Rattle.order.specs.Inferred.{valueConformsTo}
 use Rattle.types.specs.At.{seen, fieldsAt}
-use Rattle.types.specs.Conform.{grown, Met}
+use Rattle.types.specs.Conform.{addSizes, Met}
 use Rattle.types.proofs.Pairs.{no-when, met-no}
-use Rattle.types.proofs.Names.{Run, Tests, named-on, NamesGo, names-start, names-left, names-done}
+use Rattle.types.proofs.SortedNames.{Run, Tests, named-on, NamesGo, names-start, names-left, names-done}
 use Rattle.values.specs.At.{valueAt, entriesAt}
 use Rattle.values.specs.Held.{entriesConform, heldEntries}
 use Rattle.values.proofs.Reading.{value-told, some-level, next-entry, no-entry}
-use Rattle.values.proofs.Holding.{readable-value}
+use Rattle.values.proofs.ValueConformance.{readable-value}
 
 -- no name below k is there
 abbrev pub Above : Entries → ℕ → Type 0
-Above es k = (m : ℕ) (u : Ty) → m < k → has-value fixed es m u ≡ false
+Above es k = (m : ℕ) (u : Ty) → m < k → hasValue fixed es m u ≡ false
 
-has-other : (n : ℕ) (x : Val) (es : Entries) (m : ℕ) (u : Ty) → (m ≡ n → ⊥) → has-value fixed (entry n x es) m u ≡ has-value fixed es m u
+has-other : (n : ℕ) (x : Val) (es : Entries) (m : ℕ) (u : Ty) → (m ≡ n → ⊥) → hasValue fixed (entry n x es) m u ≡ hasValue fixed es m u
 unfolding conforms
-has-other n x es m u d = ap (λ q. cond q (conforms fixed x u) (has-value fixed es m u)) (ne-eqb m n d)
+has-other n x es m u d = ap (λ q. cond q (conforms fixed x u) (hasValue fixed es m u)) (ne-eqb m n d)
 
 above : (l n least : ℕ) (s : List ℕ) (es : Entries) → entriesAt l n least s ≡ some es → Above es least
 unfolding conforms
-above l zero least s es e m u h = ap (λ z. has-value fixed z m u) (no-entry l least s es e)
+above l zero least s es e m u h = ap (λ z. hasValue fixed z m u) (no-entry l least s es e)
 above l (suc n) least s es e m u h =
     let g = next-entry l n least s es e in
     let a = g .above in
-    ap (λ z. has-value fixed z m u) (g .is) ∙ has-other (g .name) (g .v) (g .more) m u (λ z. omega arith)
-    ∙ above l n (suc (g .name)) (drop (size-val (g .v)) (drop nameWidth s)) (g .more) (g .second) m u (omega arith)
+    ap (λ z. hasValue fixed z m u) (g .is) ∙ has-other (g .name) (g .v) (g .more) m u (λ z. omega arith)
+    ∙ above l n (suc (g .name)) (drop (sizeVal (g .v)) (drop nameWidth s)) (g .more) (g .second) m u (omega arith)
 
-pub entries-run : (l : ℕ) → Run size-val size-entries (valueAt l) (entriesAt l) no-entries entry Above
-unfolding size-val valueAt entriesAt seen readNamed
+pub entries-run : (l : ℕ) → Run sizeVal sizeEntries (valueAt l) (entriesAt l) no-entries entry Above
+unfolding sizeVal valueAt entriesAt seen readNamed
 entries-run l = record {
   readable = readable-value l;
   size-nil = refl;
   size-cons = λ n x es. refl;
   none = λ least s. refl;
-  on = λ n least s x w h e. named-on size-val no-entries entry (readV l) (λ r y m f. value-told l r y m f .sized) n least s x w h e;
+  on = λ n least s x w h e. named-on sizeVal no-entries entry (readV l) (λ r y m f. value-told l r y m f .sized) n least s x w h e;
   back = λ n least s es e. let E = next-entry l n least s es e in record {
     name = E .name;
     x = E .v;
@@ -61,39 +62,39 @@ entries-run l = record {
     first = E .first;
     is = E .is;
     asc = above l n (suc (E .name))
-        (drop (size-val (E .v)) (drop nameWidth s)) (E .more) (E .second);
+        (drop (sizeVal (E .v)) (drop nameWidth s)) (E .more) (E .second);
   };
 }
 
 -- a name smaller than all that are asked for does not matter
 skipped : (n : ℕ) (x : Val) (es : Entries) (fs : Fields) (k : ℕ) → AscFields fs k → n < k → entriesConform (entry n x es) fs ≡ entriesConform es fs
-unfolding all-fields Asc
+unfolding allFields Asc
 skipped n x es no-fields k w h = refl
 skipped n x es (field m u fs) k w h = ap₂ _&&_ (has-other n x es m u (λ e. omega (arith, w .0))) (skipped n x es fs (suc m) (w .2) (omega (arith, w .0)))
 
 pub entries-tests : Tests no-entries entry Above valueConformsTo entriesConform
-unfolding all-fields conforms
+unfolding allFields conforms
 entries-tests = record {
   done = refl;
   left = λ m u fs. refl;
   first = λ n x es fs w. skipped n x es fs (suc n) w (omega arith);
   missing = λ n x es m u fs w h. ap (λ z. z && entriesConform (entry n x es) fs) (has-other n x es m u (λ e. omega arith) ∙ w m u (omega arith));
-  common = λ n x u es fs w. ap₂ (λ q z. cond q (conforms fixed x u) (has-value fixed es n u) && z) (eq-eqb n n refl) (skipped n x es fs (suc n) w (omega arith));
+  common = λ n x u es fs w. ap₂ (λ q z. cond q (conforms fixed x u) (hasValue fixed es n u) && z) (eq-eqb n n refl) (skipped n x es fs (suc n) w (omega arith));
 }
 
 -- ---- no entries, and no level left for them
 module _ (l m : ℕ) (v : List ℕ) (n : ℕ) (t : List ℕ) (k : ℕ) where
-  go : NamesGo size-val size-entries (valueAt l) (entriesAt l) no-entries entry Above valueConformsTo entriesConform m (heldEntries (entriesAt l n 0 v) (fieldsAt m k 0 t)) v n t k 0 0 0 0 0
+  go : NamesGo sizeVal sizeEntries (valueAt l) (entriesAt l) no-entries entry Above valueConformsTo entriesConform m (heldEntries (entriesAt l n 0 v) (fieldsAt m k 0 t)) v n t k 0 0 0 0 0
   go = names-start (entries-run l) entries-tests m v n t k
 
-  pub entries-left : 0 ≡ n → 0 < k → (u : ℕ) → Met (grown 3 3 (heldEntries (entriesAt l n 0 v) (fieldsAt m k 0 t))) 0 u
+  pub entries-left : 0 ≡ n → 0 < k → (u : ℕ) → Met (addSizes 3 3 (heldEntries (entriesAt l n 0 v) (fieldsAt m k 0 t))) 0 u
   entries-left z h u = names-left go 3 u (omega (arith, z)) h
 
-  pub entries-none : 0 ≡ n → k ≤ 0 → (r u : ℕ) → r ≡ 3 → u ≡ 3 → Met (grown 3 3 (heldEntries (entriesAt l n 0 v) (fieldsAt m k 0 t))) r u
+  pub entries-none : 0 ≡ n → k ≤ 0 → (r u : ℕ) → r ≡ 3 → u ≡ 3 → Met (addSizes 3 3 (heldEntries (entriesAt l n 0 v) (fieldsAt m k 0 t))) r u
   entries-none z h r u p q = names-done go 3 u (omega (arith, z)) h r (omega (arith, p)) (omega (arith, q))
 
-  pub entries-low : (0 ≡ n → ⊥) → l ≡ 0 → (u : ℕ) → Met (grown 3 3 (heldEntries (entriesAt l n 0 v) (fieldsAt m k 0 t))) 0 u
-  entries-low z e u = met-no 0 u (ap (grown 3 3) (no-when size-entries size-fields entriesConform (entriesAt l n 0 v) (fieldsAt m k 0 t) (λ es fs f g.
+  pub entries-low : (0 ≡ n → ⊥) → l ≡ 0 → (u : ℕ) → Met (addSizes 3 3 (heldEntries (entriesAt l n 0 v) (fieldsAt m k 0 t))) 0 u
+  entries-low z e u = met-no 0 u (ap (addSizes 3 3) (no-when sizeEntries sizeFields entriesConform (entriesAt l n 0 v) (fieldsAt m k 0 t) (λ es fs f g.
       let o : n ≡ suc (n - 1) = omega (arith, z) in
       let E = next-entry l (n - 1) 0 v es (ap (λ j. entriesAt l j 0 v) (sym o) ∙ f) in
       absurd (omega (arith, some-level l (drop nameWidth v) (E .v) (E .first)))))) refl

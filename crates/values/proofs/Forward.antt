@@ -1,4 +1,5 @@
 -- The reader of values forward: what stands at the front is made of what stands behind it, whether that is read or not.
+-- Index: `node-range`, `no-range`, `node-list`, `node-context` (by the command); `item-on`, `items-gone` (items).
 -- Assumes nothing.
 use Prim.Native.Nat.{ℕ, suc, _+_, _-_, _<_, _≤_}
 use mathlib.Core.Path.{_≡_, refl, ap, _∙_}
@@ -20,7 +21,7 @@ use Rattle.types.specs.At.{seen}
 use Rattle.types.proofs.Reading.{seen-got}
 use Rattle.types.proofs.Entries.{step}
 use Rattle.types.proofs.Pairs.{mapO, seen-front}
-use Rattle.order.specs.Size.{size-val}
+use Rattle.order.specs.Size.{sizeVal}
 use Rattle.values.specs.At.{valueAt, itemsAt, entriesAt}
 use Rattle.values.proofs.Reading.{value-told}
 
@@ -33,12 +34,12 @@ run-on sx nil cons child told n s x e =
     rw (r, ← told s x m r) (seen-front (cons x) (0 + m) (readRun nil cons child n (drop m s))))
 
 -- an item that stands at `at`
-pub item-on : (l i n at : ℕ) (v : List ℕ) (x : Val) → i < n → valueAt l (drop at v) ≡ some x → itemsAt l (n - i) (drop at v) ≡ mapO (item x) (itemsAt l (n - (i + 1)) (drop (at + size-val x) v))
+pub item-on : (l i n at : ℕ) (v : List ℕ) (x : Val) → i < n → valueAt l (drop at v) ≡ some x → itemsAt l (n - i) (drop at v) ≡ mapO (item x) (itemsAt l (n - (i + 1)) (drop (at + sizeVal x) v))
 unfolding valueAt itemsAt
 item-on l i n at v x h e =
     ap (λ k. seen (readVals (readV l) k (drop at v))) (step i n h)
-    ∙ run-on size-val no-items item (readV l) (λ s y m r. value-told l s y m r .sized) (n - (i + 1)) (drop at v) x e
-    ∙ ap (λ r. mapO (item x) (seen (readVals (readV l) (n - (i + 1)) r))) (drop-drop (size-val x) at v)
+    ∙ run-on sizeVal no-items item (readV l) (λ s y m r. value-told l s y m r .sized) (n - (i + 1)) (drop at v) x e
+    ∙ ap (λ r. mapO (item x) (seen (readVals (readV l) (n - (i + 1)) r))) (drop-drop (sizeVal x) at v)
 
 pub items-gone : (l i n at : ℕ) (v : List ℕ) → n ≤ i → itemsAt l (n - i) (drop at v) ≡ some no-items
 unfolding itemsAt seen readRun

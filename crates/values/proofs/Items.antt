@@ -1,5 +1,6 @@
 -- The loop over the items of a list, or the two ends of a range, each held to the one type. The verdict on the whole is that on what is left, behind what was
 -- passed, whether it is read or not; each item that conforms tells the size of the type.
+-- Index: `ItemsGo`, `items-start`, `items-turn`, `items-fit`, `items-apart`, `items-done` (the loop); `items-none`, `items-unread` (no items).
 -- Assumes nothing.
 use Prim.Native.Nat.{ℕ, _+_, _-_, _<_, _≤_}
 use mathlib.Core.Path.{_≡_, refl, sym, ap, ap₂, _∙_}
@@ -10,26 +11,26 @@ use native.Mathlib.Omega.{arith}
 use lib.ListN.{length, take, drop}
 use Rattle.form.specs.Trees.{no-items, item}
 use Rattle.order.specs.Order.{fixed}
-use Rattle.order.specs.Size.{size, size-val, size-vals}
-use Rattle.order.specs.Values.{conforms, all-conform}
+use Rattle.order.specs.Size.{size, sizeVal, sizeVals}
+use Rattle.order.specs.Values.{conforms, allConform}
 use Rattle.order.specs.Inferred.{valueConformsTo}
 use Rattle.types.specs.At.{typeAt, sizeAt}
-use Rattle.types.specs.Conform.{Conform, conformBy, grown, Met}
+use Rattle.types.specs.Conform.{Conform, conformBy, addSizes, Met}
 use Rattle.types.proofs.Entries.{step}
-use Rattle.types.proofs.Names.{readable-type}
-use Rattle.types.proofs.Passing.{sized-part, unsized-part}
+use Rattle.types.proofs.SortedNames.{readable-type}
+use Rattle.types.proofs.TypeConformance.{sized-part, unsized-part}
 use Rattle.types.proofs.Pairs.{mapO, mapO-same, both, no-when, mapped, grown-on, grown-none, met-yes, met-no, Sized, Pair, MetAt, pair-no, pair-in}
 use Rattle.values.specs.At.{itemsAt}
 use Rattle.values.specs.Held.{heldItems}
 use Rattle.values.proofs.Reading.{next-item}
 use Rattle.values.proofs.Forward.{item-on, items-gone}
-use Rattle.values.proofs.Holding.{readable-value}
+use Rattle.values.proofs.ValueConformance.{readable-value}
 
 pub record ItemsGo (l m : ℕ) (whole : Conform) (v : List ℕ) (n : ℕ) (t : List ℕ) (at bt i : ℕ) : Type 0 where
   pub below : i ≤ n
   pub in-v : at ≤ length v
   pub known : 0 < i → Sized size (typeAt m) t bt
-  pub goes : whole ≡ grown at 0 (heldItems (itemsAt l (n - i) (drop at v)) (typeAt m t))
+  pub goes : whole ≡ addSizes at 0 (heldItems (itemsAt l (n - i) (drop at v)) (typeAt m t))
 
 pub items-start : (l m : ℕ) (v : List ℕ) (n : ℕ) (t : List ℕ) → ItemsGo l m (heldItems (itemsAt l n v) (typeAt m t)) v n t 0 0 0
 items-start l m v n t =
@@ -48,19 +49,19 @@ same-tree e = cc
 module _ {l m : ℕ} {whole : Conform} {v : List ℕ} {n : ℕ} {t : List ℕ} {at bt i : ℕ} (I : ItemsGo l m whole v n t at bt i) where
   module _ (h : i < n) (r s : ℕ) where
     -- an item that does not conform, or is none
-    pub items-apart : MetAt (readable-value l) (readable-type m) valueConformsTo v at t 0 r s → r ≡ 0 → (u : ℕ) → Met (grown 3 1 whole) 0 u
+    pub items-apart : MetAt (readable-value l) (readable-type m) valueConformsTo v at t 0 r s → r ≡ 0 → (u : ℕ) → Met (addSizes 3 1 whole) 0 u
     unfolding conforms
-    items-apart w z u = met-no 0 u (ap (grown 3 1) (I .goes ∙ ap (grown at 0) (no-when size-vals size (all-conform fixed) (itemsAt l (n - i) (drop at v)) (typeAt m t) (λ vs y e f.
+    items-apart w z u = met-no 0 u (ap (addSizes 3 1) (I .goes ∙ ap (addSizes at 0) (no-when sizeVals size (allConform fixed) (itemsAt l (n - i) (drop at v)) (typeAt m t) (λ vs y e f.
         let A = next-item l (n - (i + 1)) (drop at v) vs (ap (λ k. itemsAt l k (drop at v)) (sym (step i n h)) ∙ e) in
-        ap (λ x. all-conform fixed x y) (A .is)
-        ∙ ap (λ q. q && all-conform fixed (A .more) y) (pair-no (readable-value l) (readable-type m) valueConformsTo v at t 0 r s w z (A .v) y (A .first) f))))) refl
+        ap (λ x. allConform fixed x y) (A .is)
+        ∙ ap (λ q. q && allConform fixed (A .more) y) (pair-no (readable-value l) (readable-type m) valueConformsTo v at t 0 r s w z (A .v) y (A .first) f))))) refl
 
     module _ (P : Pair (readable-value l) (readable-type m) valueConformsTo v at t 0 r s) where
       pub items-fit : at + r ≤ length v
       items-fit = pair-in (readable-value l) (readable-type m) valueConformsTo v at t 0 r s (I .in-v) (omega arith) P .0
 
       pub items-turn : ItemsGo l m whole v n t (at + r) s (i + 1)
-      unfolding conforms size-val
+      unfolding conforms sizeVal
       items-turn =
           let A = itemsAt l (n - (i + 1)) (drop (at + r) v) in
           let e : itemsAt l (n - i) (drop at v) ≡ mapO (item (P .x)) A = item-on l i n at v (P .x) h (P .read-a)
@@ -70,18 +71,19 @@ module _ {l m : ℕ} {whole : Conform} {v : List ℕ} {n : ℕ} {t : List ℕ} {
             below = omega arith;
             in-v = items-fit;
             known = λ o. record { x = P .y; read = P .read-b; is = P .size-b };
-            goes = I .goes ∙ ap (grown at 0) (ap₂ (conformBy size-vals size (all-conform fixed)) e (sym (mapO-same (typeAt m t)))
-                ∙ mapped size-vals size (all-conform fixed) size-vals size (all-conform fixed) (item (P .x)) (λ y. y) r 0 A (typeAt m t)
-                (λ vs y p q. ap (λ b. b && all-conform fixed vs y) (ap (conforms fixed (P .x)) (same-tree (sym q ∙ P .read-b)) ∙ P .holds)) (λ vs p. omega arith) (λ y. omega arith))
+            goes = I .goes ∙ ap (addSizes at 0) (ap₂ (conformBy sizeVals size (allConform fixed)) e (sym (mapO-same (typeAt m t)))
+                ∙ mapped sizeVals size (allConform fixed) sizeVals size (allConform fixed) (item (P .x)) (λ y. y) r 0 A (typeAt m t)
+                (λ vs y p q. ap (λ b. b && allConform fixed vs y) (ap (conforms fixed (P .x)) (same-tree (sym q ∙ P .read-b)) ∙ P .holds)) (λ vs p. omega arith) (λ y. omega arith))
                 ∙ grown-on at 0 r 0 (heldItems A (typeAt m t));
           }
 
   -- behind the last item
-  pub items-done : n ≤ i → 0 < i → (r u : ℕ) → r ≡ at + 3 → u ≡ bt + 1 → Met (grown 3 1 whole) r u
-  unfolding conforms size-val
+  pub items-done : n ≤ i → 0 < i → (r u : ℕ) → r ≡ at + 3 → u ≡ bt + 1 → Met (addSizes 3 1 whole) r u
+  unfolding conforms sizeVal
   items-done h p r u e f =
       let T = I .known p in
-      met-yes (ap (grown 3 1) (I .goes ∙ ap (grown at 0) (both size-vals size (all-conform fixed) (itemsAt l (n - i) (drop at v)) (typeAt m t) no-items (T .x) (items-gone l i n at v h) (T .read))))
+      met-yes (ap (addSizes 3 1) (I .goes ∙ ap (addSizes at 0)
+      (both sizeVals size (allConform fixed) (itemsAt l (n - i) (drop at v)) (typeAt m t) no-items (T .x) (items-gone l i n at v h) (T .read))))
       (omega (arith, e)) (omega (arith, f, T .is))
 
 -- ---- no items
@@ -89,11 +91,11 @@ module _ (l m : ℕ) (v : List ℕ) (n : ℕ) (t : List ℕ) (z : 0 ≡ n) (k : 
   none-there : itemsAt l n v ≡ some no-items
   none-there = ap (λ j. itemsAt l j v) (omega (arith, z)) ∙ items-gone l 0 n 0 v (omega (arith, z))
 
-  pub items-unread : k ≡ 0 → (u : ℕ) → Met (grown 3 1 (heldItems (itemsAt l n v) (typeAt m t))) 0 u
-  items-unread o u = met-no 0 u (ap (grown 3 1) (no-when size-vals size (all-conform fixed) (itemsAt l n v) (typeAt m t) (λ vs y p q. absurd (unsized-part m t 0 k e o y q)))) refl
+  pub items-unread : k ≡ 0 → (u : ℕ) → Met (addSizes 3 1 (heldItems (itemsAt l n v) (typeAt m t))) 0 u
+  items-unread o u = met-no 0 u (ap (addSizes 3 1) (no-when sizeVals size (allConform fixed) (itemsAt l n v) (typeAt m t) (λ vs y p q. absurd (unsized-part m t 0 k e o y q)))) refl
 
-  pub items-none : (k ≡ 0 → ⊥) → (r u : ℕ) → r ≡ 3 → u ≡ k + 1 → Met (grown 3 1 (heldItems (itemsAt l n v) (typeAt m t))) r u
-  unfolding conforms size-val
+  pub items-none : (k ≡ 0 → ⊥) → (r u : ℕ) → r ≡ 3 → u ≡ k + 1 → Met (addSizes 3 1 (heldItems (itemsAt l n v) (typeAt m t))) r u
+  unfolding conforms sizeVal
   items-none o r u p q =
       let T = sized-part m t 0 k e o in
-      met-yes (ap (grown 3 1) (both size-vals size (all-conform fixed) (itemsAt l n v) (typeAt m t) no-items (T .x) none-there (T .read))) p (omega (arith, q, T .is))
+      met-yes (ap (addSizes 3 1) (both sizeVals size (allConform fixed) (itemsAt l n v) (typeAt m t) no-items (T .x) none-there (T .read))) p (omega (arith, q, T .is))

@@ -1,8 +1,9 @@
 pub mod Reading
 pub mod Forward
 pub mod ByKind
-pub mod Holding
+pub mod ValueConformance
 pub mod Items
 pub mod Entries
 pub mod Definitions
-pub mod Calling
+pub mod CallContracts
+pub mod EntriesAt

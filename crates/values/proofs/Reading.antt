@@ -1,30 +1,36 @@
 -- What stands at the front of the bytes of a value says of its parts, that the names of a context ascend, and that it ends within the bytes.
+-- Idea: one induction on the reader (`value-told`); the parts by the command (`IsVal`).
+-- Index: `value-told`, `v-inside`, `items-inside`, `entries-inside`, `definition-inside` (size and end); `is-val` (by the command); `next-item`, `no-item`, `next-entry`, `no-entry`,
+-- `definition-parts`, `next-parameter`, `no-parameter` (runs); `skip-is`, `skip-end`, `skip-short`, `size-got` (what `skip` answers); `encoded`, `front-text` (the bytes).
 -- Assumes nothing.
 use Prim.Native.Nat.{ℕ, zero, suc, _+_, _-_, _<_, _≤_}
 use mathlib.Core.Path.{_≡_, refl, sym, ap, subst, _∙_}
 use mathlib.Core.Bool.{Bool}
 use mathlib.Core.Option.{Option, some}
-use mathlib.Core.List.{List, []}
+use mathlib.Core.List.{List}
 use native.Mathlib.Omega.{arith}
 use native.Mathlib.Numerals.{add-one}
 use lib.ListN.{length, getD, take, drop, length-drop}
 use lib.Dec.{eqb}
 use Rattle.form.specs.Trees.{Ty, Params, no-parameters, parameter, l-null, l-boolean, l-number, l-string, l-temporal, Val, v-leaf, v-range, v-list, v-context, v-function, v-built-in, v-type}
-use Rattle.form.specs.Trees.{v-irrelevant, Vals, no-items, item, Entries, no-entries, entry, isDataLeaf, decode-temporal}
+use Rattle.form.specs.Trees.{v-irrelevant, Vals, no-items, item, Entries, no-entries, entry, isDataLeaf, decodeTemporal, Val}
 use Rattle.form.specs.Limits.{nameWidth}
-use Rattle.form.specs.Form.{num, numAt, levelV}
+use Rattle.form.specs.Form.{num, numAt, levelV, Bytes, encV, WfV}
 use Rattle.form.specs.Walks.{walkOf, sizeIn, Short}
 use Rattle.form.specs.Walks as walk
 use Rattle.form.specs.Read.{Got, got, bad, andThen, readRun, readNamed, readT, readV, readVals, readEntries, readParams, ascending, anyOrder}
-use Rattle.form.proofs.Told.{short-end}
+use Rattle.form.proofs.WalkAnswers.{short-end}
 use Rattle.form.proofs.ValueLaws.{leaf-level}
-use Rattle.form.proofs.Exact.{got-parts, then-parts}
+use Rattle.form.proofs.Exact.{got-parts, then-parts, Found}
 use Rattle.form.proofs.Nodes.{item-parts, named-parts, NodeV, nNull, nBoolean, nNumber, nString, nTemporal, nRangeV, nListV, nContextV, nDefinition, nBuiltIn, nType, nIrrelevant, value-read}
-use Rattle.order.specs.Size.{size, size-params, size-val, size-vals, size-entries}
+use Rattle.order.specs.Size.{size, sizeParams, sizeVal, sizeVals, sizeEntries}
 use Rattle.types.specs.At.{seen, typeAt}
 use Rattle.types.proofs.Reading as types
 use Rattle.types.proofs.Reading.{seen-got, got-seen, then-got}
-use Rattle.values.specs.At.{valueAt, itemsAt, entriesAt, Definition, definition, size-definition, definitionAt, sizeAtV}
+use Rattle.values.specs.At.{valueAt, itemsAt, entriesAt, Definition, definition, sizeDefinition, definitionAt, sizeAtV}
+use lib.Seq.{take-at}
+use Rattle.form.proofs.ExactValues.{enc-readV}
+use Rattle.order.proofs.LeastSize.{length-encV}
 
 -- ---- the sizes that the reader gives are those of the trees, and all ends within the bytes
 pub record Told {X : Type 0} (sz : X → ℕ) (s : List ℕ) (x : X) (n : ℕ) : Type 0 where
@@ -40,8 +46,8 @@ Tells {X} sz read = (s : List ℕ) (x : X) (n : ℕ) → read s ≡ got x n → 
 type-told : (l : ℕ) → Tells size (readT l)
 type-told l s t n e = let F = types.type-told l s t n e in record { sized = F .sized; inside = F .inside }
 
-params-told : (l c least : ℕ) → Tells size-params (readParams (readT l) c least)
-unfolding readNamed size-params
+params-told : (l c least : ℕ) → Tells sizeParams (readParams (readT l) c least)
+unfolding readNamed sizeParams
 params-told l zero least s x n e = got-parts no-parameters x 0 n e (λ p q. told-as p q (record { sized = refl; inside = omega arith }))
 params-told l (suc c) least s z n e =
     named-parts no-parameters parameter anyOrder (readT l) c least s z n e (λ w h x m px y j py pz pn.
@@ -49,9 +55,9 @@ params-told l (suc c) least s z n e =
     let G = params-told l c 0 (drop m (drop nameWidth s)) y j py in
     told-as pz refl (record { sized = omega (arith, F .sized, G .sized); inside = omega (arith, simp length-drop at (F .inside), simp (length-drop, length-drop) at (G .inside)) }))
 
-module _ (child : List ℕ → Got Val) (ih : Tells size-val child) where
-  items-told : (c : ℕ) → Tells size-vals (readVals child c)
-  unfolding readRun size-val
+module _ (child : List ℕ → Got Val) (ih : Tells sizeVal child) where
+  items-told : (c : ℕ) → Tells sizeVals (readVals child c)
+  unfolding readRun sizeVal
   items-told zero s x n e = got-parts no-items x 0 n e (λ p q. told-as p q (record { sized = refl; inside = omega arith }))
   items-told (suc c) s z n e =
       item-parts no-items item child c s z n e (λ x m px y j py pz pn.
@@ -59,8 +65,8 @@ module _ (child : List ℕ → Got Val) (ih : Tells size-val child) where
       let G = items-told c (drop m s) y j py in
       told-as pz refl (record { sized = omega (arith, F .sized, G .sized); inside = omega (arith, F .inside, simp length-drop at (G .inside)) }))
 
-  entries-told : (c least : ℕ) → Tells size-entries (readEntries child c least)
-  unfolding readNamed size-val
+  entries-told : (c least : ℕ) → Tells sizeEntries (readEntries child c least)
+  unfolding readNamed sizeVal
   entries-told zero least s x n e = got-parts no-entries x 0 n e (λ p q. told-as p q (record { sized = refl; inside = omega arith }))
   entries-told (suc c) least s z n e =
       named-parts no-entries entry ascending child c least s z n e (λ w h x m px y j py pz pn.
@@ -68,8 +74,8 @@ module _ (child : List ℕ → Got Val) (ih : Tells size-val child) where
       let G = entries-told c (num (take nameWidth s) + 1) (drop m (drop nameWidth s)) y j py in
       told-as pz refl (record { sized = omega (arith, F .sized, G .sized); inside = omega (arith, simp length-drop at (F .inside), simp (length-drop, length-drop) at (G .inside)) }))
 
-value-step : (left : ℕ) (s : List ℕ) → Tells size-val (readV left) → 0 < length s → (v : Val) (n : ℕ) → NodeV left s v n → Told size-val s v n
-unfolding size-val
+value-step : (left : ℕ) (s : List ℕ) → Tells sizeVal (readV left) → 0 < length s → (v : Val) (n : ℕ) → NodeV left s v n → Told sizeVal s v n
+unfolding sizeVal
 value-step left s ih h v n (nNull c k x) = record { sized = refl; inside = k }
 value-step left s ih h v n (nBoolean c k x) = record { sized = refl; inside = k }
 value-step left s ih h v n (nNumber c k) = record { sized = refl; inside = k }
@@ -91,7 +97,7 @@ value-step left s ih h v n (nBuiltIn c k x) = record { sized = refl; inside = k 
 value-step left s ih h v n (nType c t m p) = let F = type-told left (drop 1 s) t m p in record { sized = omega (arith, F .sized); inside = omega (arith, simp length-drop at (F .inside)) }
 value-step left s ih h v n (nIrrelevant c) = record { sized = refl; inside = omega arith }
 
-pub value-told : (l : ℕ) → Tells size-val (readV l)
+pub value-told : (l : ℕ) → Tells sizeVal (readV l)
 value-told zero s v n e = absurd (let h = value-read zero s v n e .some-level in omega arith)
 value-told (suc l) s v n e =
     let R = value-read (suc l) s v n e in
@@ -104,7 +110,7 @@ pub data IsVal (l : ℕ) (s : List ℕ) : Val → Type 0 where
   is-boolean : (x : Bool) → getD s 0 0 ≡ 1 → IsVal l s (v-leaf (l-boolean x))
   is-number : (x : ℕ) → getD s 0 0 ≡ 2 → IsVal l s (v-leaf (l-number x))
   is-string : (x : ℕ) → getD s 0 0 ≡ 3 → IsVal l s (v-leaf (l-string x))
-  is-temporal : (x : ℕ) → 4 ≤ getD s 0 0 → getD s 0 0 < 9 → IsVal l s (v-leaf (l-temporal (decode-temporal (getD s 0 0 - 4)) x))
+  is-temporal : (x : ℕ) → 4 ≤ getD s 0 0 → getD s 0 0 < 9 → IsVal l s (v-leaf (l-temporal (decodeTemporal (getD s 0 0 - 4)) x))
   is-range : (i j : ℕ) (a b : Val) → getD s 0 0 ≡ 9 → 3 ≤ length s → itemsAt (l - 1) 2 (drop 3 s) ≡ some (item a (item b no-items)) → IsVal l s (v-range i j a b)
   is-list : (vs : Vals) → getD s 0 0 ≡ 10 → 3 ≤ length s → itemsAt (l - 1) (numAt 2 1 s) (drop 3 s) ≡ some vs → IsVal l s (v-list vs)
   is-context : (es : Entries) → getD s 0 0 ≡ 11 → 3 ≤ length s → entriesAt (l - 1) (numAt 2 1 s) 0 (drop 3 s) ≡ some es → IsVal l s (v-context es)
@@ -150,7 +156,7 @@ module _ (l : ℕ) (s : List ℕ) (v : Val) (q : valueAt l s ≡ some v) where
   pub some-level : 0 < l
   some-level = opened (λ n e. value-read l s v n e .some-level)
 
-  pub v-inside : size-val v ≤ length s
+  pub v-inside : sizeVal v ≤ length s
   v-inside = opened (λ n e. let F = value-told l s v n e in omega (arith, F .sized, F .inside))
 
   pub is-val : IsVal l s v
@@ -161,7 +167,7 @@ pub record Item (l n : ℕ) (s : List ℕ) (vs : Vals) : Type 0 where
   pub v : Val
   pub more : Vals
   pub first : valueAt l s ≡ some v
-  pub second : itemsAt l n (drop (size-val v) s) ≡ some more
+  pub second : itemsAt l n (drop (sizeVal v) s) ≡ some more
   pub is : vs ≡ item v more
 
 pub next-item : (l n : ℕ) (s : List ℕ) (vs : Vals) → itemsAt l (suc n) s ≡ some vs → Item l n s vs
@@ -182,7 +188,7 @@ pub no-item : (l : ℕ) (s : List ℕ) (vs : Vals) → itemsAt l 0 s ≡ some vs
 unfolding itemsAt seen readRun
 no-item l s vs e = cc
 
-pub items-inside : (l n : ℕ) (s : List ℕ) (vs : Vals) → itemsAt l n s ≡ some vs → size-vals vs ≤ length s
+pub items-inside : (l n : ℕ) (s : List ℕ) (vs : Vals) → itemsAt l n s ≡ some vs → sizeVals vs ≤ length s
 unfolding itemsAt
 items-inside l n s vs e = seen-got (readVals (readV l) n s) vs e (λ m r. let F = items-told (readV l) (value-told l) n s vs m r in omega (arith, F .sized, F .inside))
 
@@ -195,7 +201,7 @@ pub record Entry (l n least : ℕ) (s : List ℕ) (es : Entries) : Type 0 where
   pub named : name ≡ num (take nameWidth s)
   pub above : least ≤ name
   pub first : valueAt l (drop nameWidth s) ≡ some v
-  pub second : entriesAt l n (suc name) (drop (size-val v) (drop nameWidth s)) ≡ some more
+  pub second : entriesAt l n (suc name) (drop (sizeVal v) (drop nameWidth s)) ≡ some more
   pub is : es ≡ entry name v more
 
 pub next-entry : (l n least : ℕ) (s : List ℕ) (es : Entries) → entriesAt l (suc n) least s ≡ some es → Entry l n least s es
@@ -222,7 +228,7 @@ pub no-entry : (l least : ℕ) (s : List ℕ) (es : Entries) → entriesAt l 0 l
 unfolding entriesAt seen readNamed
 no-entry l least s es e = cc
 
-pub entries-inside : (l n least : ℕ) (s : List ℕ) (es : Entries) → entriesAt l n least s ≡ some es → size-entries es ≤ length s
+pub entries-inside : (l n least : ℕ) (s : List ℕ) (es : Entries) → entriesAt l n least s ≡ some es → sizeEntries es ≤ length s
 unfolding entriesAt
 entries-inside l n least s es e = seen-got (readEntries (readV l) n least s) es e (λ m r. let F = entries-told (readV l) (value-told l) n least s es m r in omega (arith, F .sized, F .inside))
 
@@ -281,14 +287,14 @@ pub no-parameter : (l : ℕ) (s : List ℕ) (ps : Params) → paramsAt l 0 s ≡
 unfolding paramsAt seen readNamed
 no-parameter l s ps e = cc
 
-pub definition-inside : (l n : ℕ) (s : List ℕ) (d : Definition) → definitionAt l n s ≡ some d → size-definition d ≤ length s
+pub definition-inside : (l n : ℕ) (s : List ℕ) (d : Definition) → definitionAt l n s ≡ some d → sizeDefinition d ≤ length s
 unfolding definitionAt
 definition-inside l n s d e =
     seen-got (andThen definition 0 s (readParams (readT l) n 0) (readT l s)) d e (λ m r.
     then-parts definition 0 s (readParams (readT l) n 0) (readT l s) d m r (λ t k pt ps j pp pz pn.
     let F = type-told l s t k pt in
     let G = params-told l n 0 (drop k s) ps j pp in
-    subst (λ d. size-definition d ≤ length s) pz (omega (arith, F .sized, F .inside, G .sized, simp length-drop at (G .inside)))))
+    subst (λ d. sizeDefinition d ≤ length s) pz (omega (arith, F .sized, F .inside, G .sized, simp length-drop at (G .inside)))))
 
 -- ---- what `skip` answers
 skip-got : (l : ℕ) (s : List ℕ) (r : Got Val) → readV l s ≡ r → sizeIn (walkOf levelV r) ≡ sizeAtV (seen r)
@@ -306,6 +312,20 @@ skip-end l s n d e = ap sizeIn (sym e) ∙ skip-is l s
 pub skip-short : (l : ℕ) (s : List ℕ) (n room : ℕ) → Short isDataLeaf (readV l s) n room → (n ≡ 0 → ⊥) → n ≡ sizeAtV (valueAt l s)
 skip-short l s n room h z = skip-end l s n 1 (short-end levelV isDataLeaf leaf-level (readV l s) n room h z)
 
-pub size-got : (r : Option Val) (v : Val) → r ≡ some v → sizeAtV r ≡ size-val v
+pub size-got : (r : Option Val) (v : Val) → r ≡ some v → sizeAtV r ≡ sizeVal v
 unfolding sizeAtV
 size-got r v e = ap sizeAtV e
+
+-- ---- a value that was read from bytes
+pub encoded : (l : ℕ) (s : List ℕ) (v : Val) → Bytes s → valueAt l s ≡ some v → Found encV WfV levelV l s v (sizeVal v)
+unfolding valueAt
+encoded l s v bs e =
+    seen-got (readV l s) v e (λ n r.
+    subst (λ (k : ℕ). Found encV WfV levelV l s v k) (value-told l s v n r .sized) (enc-readV l s bs v n r))
+
+pub front-text : (l : ℕ) (s : List ℕ) (v : Val) → Bytes s → valueAt l s ≡ some v → take (sizeVal v) s ≡ encV v
+front-text l s v bs e = let F = encoded l s v bs e in ap (take (sizeVal v)) (F .bytes) ∙ take-at (encV v) (F .rest) (sizeVal v) (length-encV v)
+
+pub size-item : (v : Val) (vs : Vals) → sizeVals (item v vs) ≡ sizeVal v + sizeVals vs
+unfolding sizeVal
+size-item v vs = refl

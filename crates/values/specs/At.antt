@@ -3,9 +3,9 @@
 use Prim.Native.Nat.{ℕ, _+_}
 use mathlib.Core.Option.{Option, none, some}
 use mathlib.Core.List.{List}
-use Rattle.form.specs.Trees.{Ty, Val, v-function, Vals, Entries, Params}
+use Rattle.form.specs.Trees.{Ty, Val, Vals, Entries, Params}
 use Rattle.form.specs.Read.{andThen, readT, readV, readVals, readEntries, readParams}
-use Rattle.order.specs.Size.{size, size-val, size-params}
+use Rattle.order.specs.Size.{size, sizeVal, sizeParams}
 use Rattle.types.specs.At.{seen}
 
 -- the value at the front, with so many levels left
@@ -24,8 +24,8 @@ entriesAt l n least s = seen (readEntries (readV l) n least s)
 pub data Definition : Type 0 where
   definition : Ty → Params → Definition
 
-abbrev pub size-definition : Definition → ℕ
-size-definition (definition r ps) = size r + size-params ps
+abbrev pub sizeDefinition : Definition → ℕ
+sizeDefinition (definition r ps) = size r + sizeParams ps
 
 -- the result type, then n names and types in any order
 unfoldable pub definitionAt : ℕ → ℕ → List ℕ → Option Definition
@@ -33,5 +33,5 @@ definitionAt l n s = seen (andThen definition 0 s (readParams (readT l) n 0) (re
 
 -- the size, 0 where nothing was read
 unfoldable pub sizeAtV : Option Val → ℕ
-sizeAtV (some v) = size-val v
+sizeAtV (some v) = sizeVal v
 sizeAtV none = 0

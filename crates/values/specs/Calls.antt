@@ -6,6 +6,9 @@ use Prim.Native.Nat.{ℕ}
 use Rattle.form.specs.Outcome.{Outcome, done, _>>=_}
 use Rattle.form.specs.Read.{readType, readValue}
 use Rattle.order.specs.Inferred.{valueConformsTo}
+use mathlib.Core.Path.{_≡_}
+use Rattle.form.specs.Trees.{Ty, Val}
+use Rattle.form.specs.Form.{Bytes}
 
 -- Value::is_conformant: self, then the target
 unfoldable pub isConformant : List ℕ → List ℕ → Outcome Bool
@@ -13,3 +16,12 @@ isConformant v t = do
   w ← readValue v
   u ← readType t
   done (valueConformsTo w u)
+
+-- both arguments of a call were accepted
+pub record Accepted (t v : List ℕ) : Type 0 where
+  pub bytes-t : Bytes t
+  pub bytes-v : Bytes v
+  pub type : Ty
+  pub value : Val
+  pub read-t : readType t ≡ done type
+  pub read-v : readValue v ≡ done value

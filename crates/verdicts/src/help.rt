@@ -1,7 +1,8 @@
 // How to ask.
 use libc::STDOUT_FILENO;
 
-const HELP: [u8; 3725] = *b"\
+// How lines are read.
+const LINES: [u8; 753] = *b"\
     verdicts [FILE ..] answers questions on FEEL types and values in their byte form: one line of answer for each question.\n\
     It reads the files in the order named, or standard input where none is named; - names standard input.\n\
     \n\
@@ -14,6 +15,10 @@ const HELP: [u8; 3725] = *b"\
     Where none stands and one argument is wanted, all words are that one:\n\
     \x20   check-value 0A 01 00 01 01\n\
     \n\
+";
+
+// What arguments are.
+const ARGUMENTS: [u8; 594] = *b"\
     V          a value\n\
     T A B      a type\n\
     C D        a context, which is a value\n\
@@ -26,6 +31,10 @@ const HELP: [u8; 3725] = *b"\
     S          a text: any bytes\n\
     All arguments of a line have together at most 49216 bytes.\n\
     \n\
+";
+
+// The questions on types and values.
+const QUESTIONS: [u8; 1122] = *b"\
     check-type T                  a number: the level\n\
     type-conforms A B             yes or no: A conforms to B\n\
     instance-of A B               yes or no\n\
@@ -54,6 +63,10 @@ const HELP: [u8; 3725] = *b"\
     opened I\n\
     closed I\n\
     undefined I\n\
+";
+
+// Those on contexts and texts.
+const MORE: [u8; 889] = *b"\
     get-entry C NAME              bytes: the value, or none\n\
     search C PATH                 bytes: the value, or none\n\
     get-first C                   bytes: the value, or none\n\
@@ -76,6 +89,10 @@ const HELP: [u8; 3725] = *b"\
     name-new PARTS                bytes: the name\n\
     trim S                        bytes: S without the blanks at both ends\n\
     \n\
+";
+
+// What is answered.
+const ANSWERS: [u8; 367] = *b"\
     An answer is yes or no, a number in decimal, bytes in upper-case hexadecimal (. where there are none), none, unknown,\n\
     or refused with the number of the refusal and its words.\n\
     A line that cannot be read gets its number and what is wrong with it, where files are named behind the file's name.\n\
@@ -84,5 +101,9 @@ const HELP: [u8; 3725] = *b"\
 
 // Writes it.
 pub(crate) fn print() {
-    io::write_all(STDOUT_FILENO, &HELP);
+    io::write_all(STDOUT_FILENO, &LINES);
+    io::write_all(STDOUT_FILENO, &ARGUMENTS);
+    io::write_all(STDOUT_FILENO, &QUESTIONS);
+    io::write_all(STDOUT_FILENO, &MORE);
+    io::write_all(STDOUT_FILENO, &ANSWERS);
 }

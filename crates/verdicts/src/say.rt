@@ -1,9 +1,10 @@
 // What is written: texts and bytes gathered in a buffer, and the lines of answers.
 ghost use Prim.Native.Nat.{_<_, _≤_};
 ghost use lib.ListN.{length};
+use crate::Tally;
 use libc::STDOUT_FILENO;
-use questions::ask::Answer;
-use questions::text;
+use lines::text;
+use lines::text::Answer;
 
 // The bytes that are written in hexadecimal at a time.
 const PIECE: usize = 16384;
@@ -64,7 +65,7 @@ pub(crate) fn put(o: Out, text: &[u8], buf: &mut [u8]) -> Out {
     if buf.len() - at < text.len() {
         return r;
     }
-    retrieval::fill(text, &mut buf[at..]);
+    output::fill(text, &mut buf[at..]);
     Out {
         at: at + text.len(),
         broken: r.broken,
@@ -108,16 +109,12 @@ fn put_bytes(o: Out, bytes: &[u8], buf: &mut [u8]) -> Out {
     r
 }
 
-// Puts the part of `n` bytes from `from` on.
-fn put_part(o: Out, all: &[u8], from: usize, n: usize, buf: &mut [u8]) -> Out {
-    if all.len() < from {
+// Puts the first `n` bytes of `all`.
+fn put_front(o: Out, all: &[u8], n: usize, buf: &mut [u8]) -> Out {
+    if all.len() < n {
         return o;
     }
-    if all.len() - from < n {
-        return o;
-    }
-    let end = from + n;
-    put_bytes(o, &all[from..end], buf)
+    put_bytes(o, &all[0..n], buf)
 }
 
 // ---- lines
@@ -125,17 +122,8 @@ fn put_part(o: Out, all: &[u8], from: usize, n: usize, buf: &mut [u8]) -> Out {
 // Puts the words of an answer.
 fn put_words(o: Out, a: Answer, buf: &mut [u8]) -> Out {
     let mut words = [0u8; WORDS];
-    let n = text::words(a, &mut words);
+    let n = text::words(a, &mut words, 0);
     put(o, &words[0..n], buf)
-}
-
-// The front of a line that tells what is wrong: the file's name, where it has one, and the line's number.
-fn line_front(o: Out, name: &[u8], line: u64, buf: &mut [u8]) -> Out {
-    let mut words = [0u8; WORDS];
-    let a = text::put(b"line ", &mut words, 0);
-    let b = text::put_number(line, &mut words, a);
-    let n = text::put(b": ", &mut words, b);
-    put(file_front(o, name, buf), &words[0..n], buf)
 }
 
 // The file's name and a colon, where it has a name.
@@ -147,39 +135,105 @@ fn file_front(o: Out, name: &[u8], buf: &mut [u8]) -> Out {
     put(a, b": ", buf)
 }
 
-// A line that tells what is wrong with a line of the input.
-pub(crate) fn wrong(o: Out, a: Answer, name: &[u8], line: u64, buf: &mut [u8]) -> Out {
-    let b = line_front(o, name, line, buf);
-    let c = put_words(b, a, buf);
-    put(c, b"\n", buf)
+// What is wrong with a line of the input: the file's name, where it has one, the line's number, and the words.
+fn put_wrong(o: Out, a: Answer, name: &[u8], line: u64, buf: &mut [u8]) -> Out {
+    let mut words = [0u8; WORDS];
+    let k = text::line_front(line, &mut words);
+    let n = text::words(a, &mut words, k);
+    put(file_front(o, name, buf), &words[0..n], buf)
 }
 
-// A line on a whole file.
-fn file_line(o: Out, name: &[u8], what: &[u8], buf: &mut [u8]) -> Out {
-    let a = file_front(o, name, buf);
-    let b = put(a, what, buf);
-    put(b, b"\n", buf)
-}
-
-// A line on a whole file, which is called `other` where it has no name.
-pub(crate) fn whole_file(o: Out, name: &[u8], other: &[u8], what: &[u8], buf: &mut [u8]) -> Out {
-    if name.len() == 0 {
-        return file_line(o, other, what, buf);
-    }
-    file_line(o, name, what, buf)
-}
-
-// What is answered: a record or a text, or words. `all` has the arguments, `built` what the call wrote.
-fn put_answer(o: Out, a: Answer, all: &[u8], built: &[u8], buf: &mut [u8]) -> Out {
+// What is answered to a line: a record or a text, which `built` has, or words.
+fn put_answer(o: Out, a: Answer, name: &[u8], line: u64, built: &[u8], buf: &mut [u8]) -> Out {
     match a {
-        Answer::Bytes(n) => put_part(o, built, 0, n, buf),
-        Answer::Part { place, size } => put_part(o, all, place, size, buf),
+        Answer::Bytes(n) => put_front(o, built, n, buf),
+        Answer::Wrong(_) => put_wrong(o, a, name, line, buf),
+        Answer::Count { .. } => put_wrong(o, a, name, line, buf),
         _ => put_words(o, a, buf),
     }
 }
 
-// An answer's line.
-pub(crate) fn answer(o: Out, a: Answer, all: &[u8], built: &[u8], buf: &mut [u8]) -> Out {
-    let r = put_answer(o, a, all, built, buf);
+// An answer's line; none where nothing was asked.
+pub(crate) fn answer(
+    o: Out,
+    a: Answer,
+    name: &[u8],
+    line: u64,
+    built: &[u8],
+    buf: &mut [u8],
+) -> Out {
+    if let Answer::Nothing = a {
+        return o;
+    }
+    let r = put_answer(o, a, name, line, built, buf);
     put(r, b"\n", buf)
+}
+
+// A line on a whole file, which is called `other` where it has no name.
+pub(crate) fn file(o: Out, name: &[u8], other: &[u8], what: &[u8], buf: &mut [u8]) -> Out {
+    if name.len() == 0 {
+        let a = put(o, other, buf);
+        return put(a, what, buf);
+    }
+    let a = put(o, name, buf);
+    put(a, what, buf)
+}
+
+// ---- the last line
+
+// What stands behind its numbers.
+const COUNTED: [u8; 146] = *b"\
+    \x20question: \n\
+    \x20questions: \n\
+    \x20answered, \n\
+    \x20refused, \n\
+    \x20not read\n\
+    \x20file not opened\n\
+    \x20files not opened\n\
+    \x20file not read to the end\n\
+    \x20files not read to the end\n\
+";
+
+// A sum, as long as there is one.
+fn plus(a: u64, b: u64) -> u64 {
+    if a <= u64::MAX - b { a + b } else { u64::MAX }
+}
+
+// What stands behind one, or behind another number.
+fn counted(n: u64, one: u8, many: u8) -> u8 {
+    if n == 1 { one } else { many }
+}
+
+// A number, and what stands behind it.
+fn count(o: Out, n: u64, k: u8, buf: &mut [u8]) -> Out {
+    let mut words = [0u8; WORDS];
+    let a = text::put_number(n, &mut words, 0);
+    let b = text::put_line(&COUNTED, k, &mut words, a);
+    put(o, &words[0..b], buf)
+}
+
+// How many files something happened to, where it did.
+fn files(o: Out, n: u64, k: u8, buf: &mut [u8]) -> Out {
+    if n == 0 {
+        return o;
+    }
+    let a = put(o, b", ", buf);
+    count(a, n, k, buf)
+}
+
+// How many lines, and how many of each kind.
+fn lines(o: Out, t: Tally, buf: &mut [u8]) -> Out {
+    let all = plus(plus(t.answered, t.refused), t.unread);
+    let a = count(o, all, counted(all, 0, 1), buf);
+    let b = count(a, t.answered, 2, buf);
+    let c = count(b, t.refused, 3, buf);
+    count(c, t.unread, 4, buf)
+}
+
+// Tells what was counted, and writes what is left.
+pub(crate) fn total(o: Out, t: Tally, buf: &mut [u8; 65536]) {
+    let a = lines(o, t, buf);
+    let b = files(a, t.unopened, counted(t.unopened, 5, 6), buf);
+    let c = files(b, t.broken, counted(t.broken, 7, 8), buf);
+    flush(put(c, b"\n", buf), buf);
 }

@@ -1,4 +1,4 @@
--- Agreement with DMN holds: the laws on trees of crate `order` and of coercion, asked of what was accepted.
+-- Agreement with DMN holds (`agreement`): the laws on trees of crate `order` and of coercion, asked of what was accepted.
 -- Assumes nothing.
 use Prim.Native.Nat.{ℕ}
 use mathlib.Core.Path.{_≡_, refl, sym, ap, _∙_}
@@ -22,13 +22,13 @@ use Rattle.order.proofs.Definitions.{definition-here, definition-dmn, definitio
 use Rattle.types.specs.Calls as types
 use Rattle.values.specs.Calls as values
 use Rattle.infer.specs.Calls.{wanted, typeOfCall}
-use Rattle.retrieval.specs.Calls.{result}
 use Rattle.coercion.specs.Dmn.{dmnCoerced}
 use Rattle.coercion.specs.Calls.{coercedCall}
 use Rattle.coercion.proofs.Theorems.{coercion}
 use Rattle.vote.specs.Vote.{DataValue, AcceptedType}
 use Rattle.vote.specs.Agreement.{TypeOfAnswered, Agreement}
 use Rattle.vote.proofs.Vote.{accepted-value, short, wf-any, wf-accepted, long-value, held-call}
+use Rattle.output.specs.Result.{result}
 
 -- what `instance_of` answered
 instance-answered : (a b : AcceptedType) → types.instanceOf (a .bytes) (b .bytes) ≡ done true → isInstanceOf (a .type) (b .type) ≡ true

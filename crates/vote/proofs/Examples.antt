@@ -1,4 +1,4 @@
--- The examples hold: each row by computing it, example 12 by the law of crate `context`.
+-- The examples hold (`examples`): each row by computing it, example 12 by the law of crate `context`.
 -- Assumes nothing.
 use Prim.Native.Nat.{ℕ, _+_}
 use native.Mathlib.Omega.{arith}
@@ -11,9 +11,9 @@ use Rattle.form.specs.Form.{bytes, num, countFields, countTys, countVals, count
 use Rattle.form.specs.Layout.{kindOf}
 use Rattle.form.specs.Read.{front, andThen, orElse, operand, readRun, named, readNamed, readFlag, readKey, counted, readFunction, readRange, signature, readDefinition}
 use Rattle.form.specs.Read.{stepType, stepT, readT, stepValue, stepV, readV, numberOf, all, readWhole, checkValue, checkType}
-use Rattle.order.specs.Types.{cmp, reduce, bound, look, place, same-count, all-fields}
+use Rattle.order.specs.Types.{cmp, reduce, bound, lookup, insertWith, sameCount, allFields}
 use Rattle.order.specs.Document.{eqTy}
-use Rattle.order.specs.Values.{least, is-data, conforms}
+use Rattle.order.specs.Values.{least, isDataBy, conforms}
 use Rattle.order.specs.Inferred.{typeOf}
 use Rattle.types.specs.Calls as types
 use Rattle.values.specs.Calls as values
@@ -25,7 +25,7 @@ use Rattle.context.specs.Calls.{createEntriesCall, applyEntriesCall}
 use Rattle.context.specs.Example12.{self, path, created}
 use Rattle.context.proofs.Example12.{example12}
 use Rattle.vote.specs.Vote.{AcceptedValue}
-use Rattle.vote.specs.Examples.{Fitting, Holds, All, one, null, yes, pair, full, part, inferred, least-of, nested, times, longest, lists, longest-type, table}
+use Rattle.vote.specs.Examples.{Fitting, Holds, All, one, null, yes, pair, full, part, inferred, leastOf, nested, times, longest, lists, longestType, table}
 
 longer : (v : List ℕ) → length (created v) ≡ 10 + length v
 longer v = omega arith
@@ -40,9 +40,9 @@ apply-every : (v : AcceptedValue) → applyEntriesCall self path (v .bytes) most
 apply-every v = example12 .apply (v .bytes) (record { are-bytes = v .are-bytes; value = v .value; read = v .accepted }) mostBytes
 
 pub examples : All table
-unfolding Holds All one null yes pair full part inferred least-of nested times longest lists longest-type table bytes num countFields countTys enc level levelV kindOf
+unfolding Holds All one null yes pair full part inferred leastOf nested times longest lists longestType table bytes num countFields countTys enc level levelV kindOf
     front andThen orElse operand readRun named readNamed readFlag readKey counted readFunction readRange signature readDefinition stepType stepT readT stepValue stepV readV
-    numberOf all readWhole checkValue checkType cmp reduce bound look place same-count all-fields eqTy least is-data conforms typeOf types.isConformant leastTypeCall typeOfCall
+    numberOf all readWhole checkValue checkType cmp reduce bound lookup insertWith sameCount allFields eqTy least isDataBy conforms typeOf types.isConformant leastTypeCall typeOfCall
     values.isConformant getValueCheckedCall coercedCall retrieve encV encLeaf countVals countEntries _>>=_ _>>_
 examples = (
   refl,

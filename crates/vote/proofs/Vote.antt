@@ -1,6 +1,7 @@
--- The statements of the vote hold.
+-- The statements of the vote hold (`vote`).
 -- Idea: what was accepted is the encoding of a well-formed tree (`byte-form`), so each statement is a theorem on trees; and a call that answered has passed every line
 -- of its definition, one law for each kind of line (`bind-done`, `check-done`, `fits-done`).
+-- Index: `accepted-value`, `long-value`, `short` (data values); `wf-accepted`, `wf-any` (types); `held-call` (conformance as a call); `vote` (the record).
 -- Assumes nothing.
 use Prim.Native.Nat.{ℕ, _+_, _<_, _≤_}
 use native.Mathlib.Omega.{arith}

@@ -1,7 +1,7 @@
 -- Agreement with FEEL (the second demand): where document 01's definitions are DMN 1.3's own, over bytes and calls, and exactly where they are not.
 --
 -- DMN defines conformance between types. Of a value it asks whether the value's type conforms, and gives a value no other type than what its parts say; the least type is
--- that one type: it conforms to every type that the value conforms to and to no other (the vote, 2), so no other choice could agree. That is our reading; DECISIONS 65 has it.
+-- that one type: it conforms to every type that the value conforms to and to no other (the vote, 2), so no other choice could agree. That is our reading; DECISIONS (Readings, 24) has it.
 -- Left out: DMN's third implicit conversion, date to date and time. The Rust and document 01 have none (docs/DIFFERENCES.md).
 -- Assumes nothing.
 use Prim.Native.Nat.{ℕ}
@@ -15,16 +15,16 @@ use Rattle.form.specs.Form.{WfParams}
 use Rattle.order.specs.Order.{fixed}
 use Rattle.order.specs.Types.{les}
 use Rattle.order.specs.Document.{conformsTo, reducedForm, isInstanceOf}
-use Rattle.order.specs.Values.{types-of}
+use Rattle.order.specs.Values.{typesOf}
 use Rattle.order.specs.Inferred.{valueConformsTo, leastType, typeOf}
 use Rattle.order.specs.Dmn.{strictOrder, dmnConformsTo, resultsConform, Parameters, definitionType}
 use Rattle.types.specs.Calls as types
 use Rattle.values.specs.Calls as values
 use Rattle.infer.specs.Calls.{typeOfCall}
-use Rattle.retrieval.specs.Calls.{result}
 use Rattle.coercion.specs.Dmn.{dmnCoerced}
 use Rattle.coercion.specs.Calls.{coercedCall}
 use Rattle.vote.specs.Vote.{DataValue, AcceptedType, AnyType}
+use Rattle.output.specs.Result.{result}
 
 -- what `type_of` answered, with some scratch and some room
 pub record TypeOfAnswered (v answer : List ℕ) : Type 0 where
@@ -63,14 +63,14 @@ pub record Agreement : Type 0 where
       → valueConformsTo (v-function ps b r) (t .type) ≡ dmnConformsTo (definitionType ps r) (t .type)
   -- To a function type: here each own parameter conforms to the target's, by DMN the target's to the own; the results alike, without parameters too.
   pub definition-here : (ps : Params) (b : ℕ) (r : Ty) (qs : Tys) (s : Ty)
-      → valueConformsTo (v-function ps b r) (built (function qs s)) ≡ les fixed (types-of ps) qs && conformsTo r s
+      → valueConformsTo (v-function ps b r) (built (function qs s)) ≡ les fixed (typesOf ps) qs && conformsTo r s
   pub definition-dmn : (ps : Params) (r : Ty) (qs : Tys) (s : Ty)
-      → dmnConformsTo (definitionType ps r) (built (function qs s)) ≡ les strictOrder qs (types-of ps) && dmnConformsTo r s
+      → dmnConformsTo (definitionType ps r) (built (function qs s)) ≡ les strictOrder qs (typesOf ps) && dmnConformsTo r s
   -- So they agree where the parameters conform alike both ways round and the results agree: with equal parameter types, and without parameters.
   pub definition-agrees : (ps : Params) (b : ℕ) (r : Ty) (qs : Tys) (s : Ty)
-      → les fixed (types-of ps) qs ≡ les strictOrder qs (types-of ps) → conformsTo r s ≡ dmnConformsTo r s
+      → les fixed (typesOf ps) qs ≡ les strictOrder qs (typesOf ps) → conformsTo r s ≡ dmnConformsTo r s
       → valueConformsTo (v-function ps b r) (built (function qs s)) ≡ dmnConformsTo (definitionType ps r) (built (function qs s))
-  pub definition-same : (ps : Params) (b : ℕ) (r : Ty) (qs : Tys) (s : Ty) → WfParams ps → types-of ps ≡ qs → conformsTo r s ≡ dmnConformsTo r s
+  pub definition-same : (ps : Params) (b : ℕ) (r : Ty) (qs : Tys) (s : Ty) → WfParams ps → typesOf ps ≡ qs → conformsTo r s ≡ dmnConformsTo r s
       → valueConformsTo (v-function ps b r) (built (function qs s)) ≡ dmnConformsTo (definitionType ps r) (built (function qs s))
   pub definition-plain : (b : ℕ) (r : Ty) (qs : Tys) (s : Ty) → conformsTo r s ≡ dmnConformsTo r s
       → valueConformsTo (v-function no-parameters b r) (built (function qs s)) ≡ dmnConformsTo (definitionType no-parameters r) (built (function qs s))

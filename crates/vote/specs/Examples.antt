@@ -75,8 +75,8 @@ part = 0x0B ∷ 1 ∷ 0 ∷ 5 ∷ 0 ∷ null
 unfoldable pub inferred : List ℕ → Outcome (List ℕ)
 inferred v = typeOfCall v 256 64
 
-unfoldable pub least-of : List ℕ → Outcome (List ℕ)
-least-of v = leastTypeCall v 256 64
+unfoldable pub leastOf : List ℕ → Outcome (List ℕ)
+leastOf v = leastTypeCall v 256 64
 
 -- so many lists of one item, one in the other, around an empty list
 unfoldable pub nested : ℕ → List ℕ
@@ -97,26 +97,26 @@ unfoldable pub lists : ℕ → List ℕ
 lists n = replicate n 0x2A ++ (0x22 ∷ [])
 
 -- a function type of 190 parameters: 63 are function types of 255 parameters, all other types number; 16,384 bytes
-unfoldable pub longest-type : List ℕ
-longest-type = 0x2D ∷ 0xBE ∷ times 63 (0x2D ∷ 0xFF ∷ replicate 256 0x22) ++ replicate 128 0x22
+unfoldable pub longestType : List ℕ
+longestType = 0x2D ∷ 0xBE ∷ times 63 (0x2D ∷ 0xFF ∷ replicate 256 0x22) ++ replicate 128 0x22
 
 unfoldable pub table : List Row
 table =
     -- 1. []
     bytes-are (inferred (0x0A ∷ 0 ∷ 0 ∷ [])) (0x2A ∷ 0x29 ∷ [])
-    ∷ bytes-are (least-of (0x0A ∷ 0 ∷ 0 ∷ [])) (0x2A ∷ 0x29 ∷ [])
+    ∷ bytes-are (leastOf (0x0A ∷ 0 ∷ 0 ∷ [])) (0x2A ∷ 0x29 ∷ [])
     -- 2. [1, null]
     ∷ bytes-are (inferred (pair one null)) (0x2A ∷ 0x22 ∷ [])
-    ∷ bytes-are (least-of (pair one null)) (0x2A ∷ 0x22 ∷ [])
+    ∷ bytes-are (leastOf (pair one null)) (0x2A ∷ 0x22 ∷ [])
     -- 3. [null, 1]
     ∷ bytes-are (inferred (pair null one)) (0x2A ∷ 0x20 ∷ [])
-    ∷ bytes-are (least-of (pair null one)) (0x2A ∷ 0x22 ∷ [])
+    ∷ bytes-are (leastOf (pair null one)) (0x2A ∷ 0x22 ∷ [])
     -- 4. [1, true]
     ∷ bytes-are (inferred (pair one yes)) (0x2A ∷ 0x20 ∷ [])
-    ∷ bytes-are (least-of (pair one yes)) (0x2A ∷ 0x20 ∷ [])
+    ∷ bytes-are (leastOf (pair one yes)) (0x2A ∷ 0x20 ∷ [])
     -- 5. [{5: 1, 7: true}, {5: null}]
     ∷ bytes-are (inferred (pair full part)) (0x2A ∷ 0x20 ∷ [])
-    ∷ bytes-are (least-of (pair full part)) (0x2A ∷ 0x2C ∷ 1 ∷ 0 ∷ 5 ∷ 0 ∷ 0x22 ∷ [])
+    ∷ bytes-are (leastOf (pair full part)) (0x2A ∷ 0x2C ∷ 1 ∷ 0 ∷ 5 ∷ 0 ∷ 0x22 ∷ [])
     -- 6. 2D 00 22 and 2D 00 23
     ∷ verdict-is (types.isConformant (0x2D ∷ 0 ∷ 0x22 ∷ []) (0x2D ∷ 0 ∷ 0x23 ∷ [])) true
     ∷ verdict-is (types.isConformant (0x2D ∷ 0 ∷ 0x23 ∷ []) (0x2D ∷ 0 ∷ 0x22 ∷ [])) true
@@ -147,6 +147,6 @@ table =
     ∷ level-is (checkType (lists 31)) 32
     ∷ refused-by (checkType (lists 32)) 9
     -- a type of 16,384 bytes is read, of 16,385 refused
-    ∷ level-is (checkType longest-type) 3
-    ∷ refused-by (checkType (longest-type ++ (0x22 ∷ []))) 6
+    ∷ level-is (checkType longestType) 3
+    ∷ refused-by (checkType (longestType ++ (0x22 ∷ []))) 6
     ∷ []

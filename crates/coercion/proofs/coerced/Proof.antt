@@ -1,23 +1,15 @@
--- `coercion::coerced` meets its contract.
+-- `coercion::coerced` meets its contract: a value that conforms is handed on; otherwise the readers give the refusals, and then the rules give the result.
 -- Assumes nothing.
 use borrow.Author.Needs.{needs}
 use Rattle.coercion.proofs.coerced.Statement.{statement}
 use Rattle.coercion.proofs.coerced.Tie as tie
-use Rattle.coercion.proofs.coerced.Reads as reads
-use Rattle.coercion.proofs.coerced.Lts as lts
-use Rattle.coercion.proofs.convert.Reads as convert-reads
-use Rattle.form.proofs.check_type.Reads as check-type-reads
-use Rattle.form.proofs.check_value.Reads as check-value-reads
-use Rattle.retrieval.proofs.give.Reads as give-reads
-use Rattle.values.proofs.passes.Reads as passes-reads
 use mathlib.Core.Path.{sym, ap, _∙_, subst}
 use lib.ListN.{length}
 use Rattle.form.specs.Answers.{checked, Built}
 use Rattle.form.proofs.Whole.{bytes-of}
-use Rattle.types.proofs.Calling.{was-refused}
-use Rattle.values.proofs.Calling.{value-refused, value-accepted}
-use Rattle.bounds.proofs.Outcomes.{built-refused}
-use Rattle.retrieval.proofs.Calling.{passed}
+use Rattle.types.proofs.CallContracts.{was-refused}
+use Rattle.values.proofs.CallContracts.{value-refused, value-accepted, passed}
+use Rattle.output.proofs.Outcomes.{built-refused}
 use Rattle.coercion.proofs.Rules.{give-conformant, ready, first-refused, second-refused}
 
 pub coerced-spec : {M : Type 1} → statement M

@@ -1,24 +1,16 @@
--- `context::move_entry` meets its contract.
+-- `context::move_entry` meets its contract: a name that is absent leaves a copy; otherwise the value is put at the path in the context without its entry.
 -- Assumes nothing.
 use borrow.Author.Needs.{needs}
 use Rattle.context.proofs.move_entry.Statement.{statement}
 use Rattle.context.proofs.move_entry.Tie as tie
-use Rattle.context.proofs.move_entry.Reads as reads
-use Rattle.context.proofs.move_entry.Lts as lts
-use Rattle.context.proofs.move_in.Reads as move-in-reads
-use Rattle.context.proofs.open.Reads as open-reads
-use Rattle.form.proofs.word_at.Reads as word-at-reads
-use Rattle.paths.proofs.find.Reads as find-reads
-use Rattle.paths.proofs.name_number.Reads as name-number-reads
-use Rattle.retrieval.proofs.give.Reads as give-reads
 use Prim.Native.Nat.{_-_}
 use native.Mathlib.Omega.{arith}
 use mathlib.Core.Path.{refl}
 use Rattle.form.proofs.Whole.{bytes-of}
 use Rattle.paths.specs.Calls.{contextOf}
-use Rattle.paths.proofs.Calling.{opened-ok}
-use Rattle.paths.proofs.Searching.{hit, hit-inside, hit-start, miss}
-use Rattle.context.proofs.Calling.{call-refused, hit-as, miss-as, some-entry, deep, deep-refused, deep-some, short, move-copy, rest-ok, part-ok, part-level, move-small, move-done}
+use Rattle.paths.proofs.CallContracts.{opened-ok}
+use Rattle.paths.proofs.PathSearch.{hit, hit-inside, hit-start, miss}
+use Rattle.context.proofs.CallContracts.{call-refused, hit-as, miss-as, some-entry, deep, deep-refused, deep-some, short, move-copy, rest-ok, part-ok, part-level, move-small, move-done}
 
 pub move-entry-spec : {M : Type 1} → statement M
 move-entry-spec =
@@ -28,24 +20,147 @@ move-entry-spec =
     (λ c. search needs)
     (λ c. search needs)
     (λ c κs. search needs)
-    (λ c κs. opened-ok ((deep (c .before .before .before .before .before .before .before .args .c .now) (c .before .before .before .before .«open» .result) _ (c .before .before .before .before .«open» .ensures) (c .before .before .level .given .1)) .opened))
+    (λ c κs.
+    let c4 = c .before .before .before .before in
+    opened-ok
+    ((deep (c4 .before .before .before .args .c .now) (c4 .check-context .result) _ (c4 .check-context .ensures) (c .before .before .level .given .1)) .opened))
     (λ c. search needs)
     (λ c κs. search needs)
     (λ c. search needs)
-    (λ c κs. omega (arith, ((deep (c .before .before .before .before .before .before .before .before .before .before .before .args .c .now) (c .before .before .before .before .before .before .before .before .«open» .result) _ (c .before .before .before .before .before .before .before .before .«open» .ensures) (c .before .before .before .before .before .before .level .given .1)) .opened) .ctx .three))
-    (λ c. omega (arith, c .word-at .ensures .0, some-entry (hit _ _ _ _ _ _ (opened-ok ((deep (c .before .before .before .before .before .before .before .before .before .before .before .before .args .c .now) (c .before .before .before .before .before .before .before .before .before .«open» .result) _ (c .before .before .before .before .before .before .before .before .before .«open» .ensures) (c .before .before .before .before .before .before .before .level .given .1)) .opened)) (c .before .before .before .before .find .ensures) (c .before .before .from .given .1)) (bytes-of _ (c .before .before .before .before .before .before .before .before .before .before .before .shared-slice-known .given))))
+    (λ c κs.
+    omega (
+      arith,
+      let c6 = c .before .before .before .before .before .before in
+          let c8 = c6 .before .before in
+          ((deep (c8 .before .before .before .args .c .now) (c8 .check-context .result) _ (c8 .check-context .ensures) (c6 .level .given .1)) .opened) .ctx .three,
+    ))
+    (λ c.
+    omega (
+      arith,
+      c .word-at .ensures .0,
+      let c4 = c .before .before .before .before in
+          let c7 = c4 .before .before .before in
+          let c9 = c7 .before .before in
+          some-entry
+          (hit _ _ _ _ _ _
+          (opened-ok ((deep (c9 .before .before .before .args .c .now) (c9 .check-context .result) _ (c9 .check-context .ensures) (c7 .level .given .1)) .opened))
+          (c4 .find .ensures) (c .before .before .from .given .1))
+          (bytes-of _ (c9 .before .before .shared-slice-known .given)),
+    ))
     (λ c. search needs)
-    (λ c. deep-some (deep (c .before .before .before .before .before .before .before .before .before .before .before .before .before .before .args .c .now) (c .before .before .before .before .before .before .before .before .before .before .before .«open» .result) _ (c .before .before .before .before .before .before .before .before .before .before .before .«open» .ensures) (c .before .before .before .before .before .before .before .before .before .level .given .1)))
+    (λ c.
+    let c9 = c .before .before .before .before .before .before .before .before .before in
+    deep-some
+    (deep (c9 .before .before .before .before .before .args .c .now) (c9 .before .before .check-context .result) _
+    (c9 .before .before .check-context .ensures) (c9 .level .given .1)))
     (λ c. search needs)
-    (λ c κs. ((omega (arith, (hit _ _ _ _ _ _ (opened-ok ((deep (c .before .before .before .before .before .before .before .before .before .before .before .before .before .before .before .before .args .c .now) (c .before .before .before .before .before .before .before .before .before .before .before .before .before .«open» .result) _ (c .before .before .before .before .before .before .before .before .before .before .before .before .before .«open» .ensures) (c .before .before .before .before .before .before .before .before .before .before .before .level .given .1)) .opened)) (c .before .before .before .before .before .before .before .before .find .ensures) (c .before .before .before .before .before .before .from .given .1)) .start), omega (arith, hit-start (hit _ _ _ _ _ _ (opened-ok ((deep (c .before .before .before .before .before .before .before .before .before .before .before .before .before .before .before .before .args .c .now) (c .before .before .before .before .before .before .before .before .before .before .before .before .before .«open» .result) _ (c .before .before .before .before .before .before .before .before .before .before .before .before .before .«open» .ensures) (c .before .before .before .before .before .before .before .before .before .before .before .level .given .1)) .opened)) (c .before .before .before .before .before .before .before .before .find .ensures) (c .before .before .before .before .before .before .from .given .1)) (bytes-of _ (c .before .before .before .before .before .before .before .before .before .before .before .before .before .before .before .shared-slice-known .given))), hit-inside (hit _ _ _ _ _ _ (opened-ok ((deep (c .before .before .before .before .before .before .before .before .before .before .before .before .before .before .before .before .args .c .now) (c .before .before .before .before .before .before .before .before .before .before .before .before .before .«open» .result) _ (c .before .before .before .before .before .before .before .before .before .before .before .before .before .«open» .ensures) (c .before .before .before .before .before .before .before .before .before .before .before .level .given .1)) .opened)) (c .before .before .before .before .before .before .before .before .find .ensures) (c .before .before .before .before .before .before .from .given .1)) (bytes-of _ (c .before .before .before .before .before .before .before .before .before .before .before .before .before .before .before .shared-slice-known .given)), omega (arith, c .before .before .before .before .word-at .ensures .1)), (rest-ok (c .before .before .before .before .before .before .before .before .before .before .before .before .before .before .before .before .args .c .now) (c .before .before .before .before .before .before .before .before .before .before .before .before .before .before .before .before .args .out .now) (c .before .before .before .before .before .before .before .before .before .before .before .before .before .before .before .before .args .name) ((deep (c .before .before .before .before .before .before .before .before .before .before .before .before .before .before .before .before .args .c .now) (c .before .before .before .before .before .before .before .before .before .before .before .before .before .«open» .result) _ (c .before .before .before .before .before .before .before .before .before .before .before .before .before .«open» .ensures) (c .before .before .before .before .before .before .before .before .before .before .before .level .given .1)) .opened) (bytes-of _ (c .before .before .before .before .before .before .before .before .before .before .before .before .before .before .before .shared-slice-known .given)) _ _ (hit-as (c .before .before .before .before .before .before .before .before .before .name-number .ensures .0) (hit _ _ _ _ _ _ (opened-ok ((deep (c .before .before .before .before .before .before .before .before .before .before .before .before .before .before .before .before .args .c .now) (c .before .before .before .before .before .before .before .before .before .before .before .before .before .«open» .result) _ (c .before .before .before .before .before .before .before .before .before .before .before .before .before .«open» .ensures) (c .before .before .before .before .before .before .before .before .before .before .before .level .given .1)) .opened)) (c .before .before .before .before .before .before .before .before .find .ensures) (c .before .before .before .before .before .before .from .given .1))) _ (omega (arith, c .before .before .before .before .word-at .ensures .0, some-entry (hit-as (c .before .before .before .before .before .before .before .before .before .name-number .ensures .0) (hit _ _ _ _ _ _ (opened-ok ((deep (c .before .before .before .before .before .before .before .before .before .before .before .before .before .before .before .before .args .c .now) (c .before .before .before .before .before .before .before .before .before .before .before .before .before .«open» .result) _ (c .before .before .before .before .before .before .before .before .before .before .before .before .before .«open» .ensures) (c .before .before .before .before .before .before .before .before .before .before .before .level .given .1)) .opened)) (c .before .before .before .before .before .before .before .before .find .ensures) (c .before .before .before .before .before .before .from .given .1))) (bytes-of _ (c .before .before .before .before .before .before .before .before .before .before .before .before .before .before .before .shared-slice-known .given)))), (part-ok (c .before .before .before .before .before .before .before .before .before .before .before .before .before .before .before .before .args .c .now) (c .before .before .before .before .before .before .before .before .before .before .before .before .before .before .before .before .args .out .now) (c .before .before .before .before .before .before .before .before .before .before .before .before .before .before .before .before .args .name) ((deep (c .before .before .before .before .before .before .before .before .before .before .before .before .before .before .before .before .args .c .now) (c .before .before .before .before .before .before .before .before .before .before .before .before .before .«open» .result) _ (c .before .before .before .before .before .before .before .before .before .before .before .before .before .«open» .ensures) (c .before .before .before .before .before .before .before .before .before .before .before .level .given .1)) .opened) (bytes-of _ (c .before .before .before .before .before .before .before .before .before .before .before .before .before .before .before .shared-slice-known .given)) _ _ (hit-as (c .before .before .before .before .before .before .before .before .before .name-number .ensures .0) (hit _ _ _ _ _ _ (opened-ok ((deep (c .before .before .before .before .before .before .before .before .before .before .before .before .before .before .before .before .args .c .now) (c .before .before .before .before .before .before .before .before .before .before .before .before .before .«open» .result) _ (c .before .before .before .before .before .before .before .before .before .before .before .before .before .«open» .ensures) (c .before .before .before .before .before .before .before .before .before .before .before .level .given .1)) .opened)) (c .before .before .before .before .before .before .before .before .find .ensures) (c .before .before .before .before .before .before .from .given .1))) (c .before .before .before .before .word-at .result - 1) (omega (arith, c .before .before .before .before .word-at .ensures .0, some-entry (hit-as (c .before .before .before .before .before .before .before .before .before .name-number .ensures .0) (hit _ _ _ _ _ _ (opened-ok ((deep (c .before .before .before .before .before .before .before .before .before .before .before .before .before .before .before .before .args .c .now) (c .before .before .before .before .before .before .before .before .before .before .before .before .before .«open» .result) _ (c .before .before .before .before .before .before .before .before .before .before .before .before .before .«open» .ensures) (c .before .before .before .before .before .before .before .before .before .before .before .level .given .1)) .opened)) (c .before .before .before .before .before .before .before .before .find .ensures) (c .before .before .before .before .before .before .from .given .1))) (bytes-of _ (c .before .before .before .before .before .before .before .before .before .before .before .before .before .before .before .shared-slice-known .given)))), (move-small (c .before .before .before .before .before .before .before .before .before .before .before .before .before .before .before .before .args .c .now) (c .before .before .before .before .before .before .before .before .before .before .before .before .before .before .before .before .args .out .now) (c .before .before .before .before .before .before .before .before .before .before .before .before .before .before .before .before .args .name) ((deep (c .before .before .before .before .before .before .before .before .before .before .before .before .before .before .before .before .args .c .now) (c .before .before .before .before .before .before .before .before .before .before .before .before .before .«open» .result) _ (c .before .before .before .before .before .before .before .before .before .before .before .before .before .«open» .ensures) (c .before .before .before .before .before .before .before .before .before .before .before .level .given .1)) .opened) (bytes-of _ (c .before .before .before .before .before .before .before .before .before .before .before .before .before .before .before .shared-slice-known .given)) _ refl, (part-level (c .before .before .before .before .before .before .before .before .before .before .before .before .before .before .before .before .args .c .now) (c .before .before .before .before .before .before .before .before .before .before .before .before .before .before .before .before .args .out .now) (c .before .before .before .before .before .before .before .before .before .before .before .before .before .before .before .before .args .name) ((deep (c .before .before .before .before .before .before .before .before .before .before .before .before .before .before .before .before .args .c .now) (c .before .before .before .before .before .before .before .before .before .before .before .before .before .«open» .result) _ (c .before .before .before .before .before .before .before .before .before .before .before .before .before .«open» .ensures) (c .before .before .before .before .before .before .before .before .before .before .before .level .given .1)) .opened) (bytes-of _ (c .before .before .before .before .before .before .before .before .before .before .before .before .before .before .before .shared-slice-known .given)) _ _ (hit-as (c .before .before .before .before .before .before .before .before .before .name-number .ensures .0) (hit _ _ _ _ _ _ (opened-ok ((deep (c .before .before .before .before .before .before .before .before .before .before .before .before .before .before .before .before .args .c .now) (c .before .before .before .before .before .before .before .before .before .before .before .before .before .«open» .result) _ (c .before .before .before .before .before .before .before .before .before .before .before .before .before .«open» .ensures) (c .before .before .before .before .before .before .before .before .before .before .before .level .given .1)) .opened)) (c .before .before .before .before .before .before .before .before .find .ensures) (c .before .before .before .before .before .before .from .given .1))) (c .before .before .before .before .word-at .result - 1) (omega (arith, c .before .before .before .before .word-at .ensures .0, some-entry (hit-as (c .before .before .before .before .before .before .before .before .before .name-number .ensures .0) (hit _ _ _ _ _ _ (opened-ok ((deep (c .before .before .before .before .before .before .before .before .before .before .before .before .before .before .before .before .args .c .now) (c .before .before .before .before .before .before .before .before .before .before .before .before .before .«open» .result) _ (c .before .before .before .before .before .before .before .before .before .before .before .before .before .«open» .ensures) (c .before .before .before .before .before .before .before .before .before .before .before .level .given .1)) .opened)) (c .before .before .before .before .before .before .before .before .find .ensures) (c .before .before .before .before .before .before .from .given .1))) (bytes-of _ (c .before .before .before .before .before .before .before .before .before .before .before .before .before .before .before .shared-slice-known .given)))) _ ((deep (c .before .before .before .before .before .before .before .before .before .before .before .before .before .before .before .before .args .c .now) (c .before .before .before .before .before .before .before .before .before .before .before .before .before .«open» .result) _ (c .before .before .before .before .before .before .before .before .before .before .before .before .before .«open» .ensures) (c .before .before .before .before .before .before .before .before .before .before .before .level .given .1)) .level), c .before .before .before .if1 .taken))))))
+    (λ c κs.
+    let c4 = c .before .before .before .before in
+    let c8 = c4 .before .before .before .before in
+    let c9 = c8 .before in
+    let c13 = c9 .before .before .before .before in
+    let c15 = c13 .before .before in
+    let bytes-of1 = bytes-of _ (c15 .shared-slice-known .given) in
+    let args = c15 .before .args in
+    let c-now = args .c .now in
+    let deep1 = deep c-now (c13 .check-context .result) _ (c13 .check-context .ensures) (c9 .before .before .level .given .1) in
+    let hit1 = hit _ _ _ _ _ _ (opened-ok (deep1 .opened)) (c8 .find .ensures) (c4 .before .before .from .given .1) in
+    let hit-as1 = hit-as (c9 .name-number .ensures .0) hit1 in (
+      (omega (arith, hit1 .start), omega (arith, hit-start hit1 bytes-of1), hit-inside hit1 bytes-of1, omega (arith, c4 .word-at .ensures .1)),
+      (
+        rest-ok c-now (args .out .now) (args .name) (deep1 .opened) bytes-of1 _ _ hit-as1 _
+            (omega (arith, c4 .word-at .ensures .0, some-entry hit-as1 bytes-of1)),
+        (
+          part-ok c-now (args .out .now) (args .name) (deep1 .opened) bytes-of1 _ _ hit-as1 (c4 .word-at .result - 1)
+              (omega (arith, c4 .word-at .ensures .0, some-entry hit-as1 bytes-of1)),
+          (
+            move-small c-now (args .out .now) (args .name) (deep1 .opened) bytes-of1 _ refl,
+            (
+              part-level c-now (args .out .now) (args .name) (deep1 .opened) bytes-of1 _ _ hit-as1 (c4 .word-at .result - 1)
+                  (omega (arith, c4 .word-at .ensures .0, some-entry hit-as1 bytes-of1)) _ (deep1 .level),
+              c .before .before .before .if1 .taken,
+            ),
+          ),
+        ),
+      ),
+    ))
     (λ c. search needs)
-    (λ c. move-done (c .before .before .before .before .before .before .before .before .before .before .before .before .before .before .before .before .before .before .before .before .args .c .now) (c .before .before .before .before .before .before .before .before .before .before .before .before .before .before .before .before .before .before .before .before .args .out .now) (c .before .before .before .before .before .before .before .before .before .before .before .before .before .before .before .before .before .before .before .before .args .name) ((deep (c .before .before .before .before .before .before .before .before .before .before .before .before .before .before .before .before .before .before .before .before .args .c .now) (c .before .before .before .before .before .before .before .before .before .before .before .before .before .before .before .before .before .«open» .result) _ (c .before .before .before .before .before .before .before .before .before .before .before .before .before .before .before .before .before .«open» .ensures) (c .before .before .before .before .before .before .before .before .before .before .before .before .before .before .before .level .given .1)) .opened) (bytes-of _ (c .before .before .before .before .before .before .before .before .before .before .before .before .before .before .before .before .before .before .before .shared-slice-known .given)) _ _ (hit-as (c .before .before .before .before .before .before .before .before .before .before .before .before .before .name-number .ensures .0) (hit _ _ _ _ _ _ (opened-ok ((deep (c .before .before .before .before .before .before .before .before .before .before .before .before .before .before .before .before .before .before .before .before .args .c .now) (c .before .before .before .before .before .before .before .before .before .before .before .before .before .before .before .before .before .«open» .result) _ (c .before .before .before .before .before .before .before .before .before .before .before .before .before .before .before .before .before .«open» .ensures) (c .before .before .before .before .before .before .before .before .before .before .before .before .before .before .before .level .given .1)) .opened)) (c .before .before .before .before .before .before .before .before .before .before .before .before .find .ensures) (c .before .before .before .before .before .before .before .before .before .before .from .given .1))) _ (omega (arith, c .before .before .before .before .before .before .before .before .word-at .ensures .0, some-entry (hit-as (c .before .before .before .before .before .before .before .before .before .before .before .before .before .name-number .ensures .0) (hit _ _ _ _ _ _ (opened-ok ((deep (c .before .before .before .before .before .before .before .before .before .before .before .before .before .before .before .before .before .before .before .before .args .c .now) (c .before .before .before .before .before .before .before .before .before .before .before .before .before .before .before .before .before .«open» .result) _ (c .before .before .before .before .before .before .before .before .before .before .before .before .before .before .before .before .before .«open» .ensures) (c .before .before .before .before .before .before .before .before .before .before .before .before .before .before .before .level .given .1)) .opened)) (c .before .before .before .before .before .before .before .before .before .before .before .before .find .ensures) (c .before .before .before .before .before .before .before .before .before .before .from .given .1))) (bytes-of _ (c .before .before .before .before .before .before .before .before .before .before .before .before .before .before .before .before .before .before .before .shared-slice-known .given)))) (c .before .before .before .before .before .before .before .before .before .before .before .before .before .before .before .before .before .before .before .before .args .parent) _ _ (c .before .before .before .move-in .ensures))
+    (λ c.
+    let c8 = c .before .before .before .before .before .before .before .before in
+    let c12 = c8 .before .before .before .before in
+    let c15 = c12 .before .before .before in
+    let c19 = c15 .before .before .before .before in
+    let args = c19 .before .args in
+    let opened =
+    (deep (args .c .now) (c15 .before .before .check-context .result) _ (c15 .before .before .check-context .ensures) (c15 .level .given .1)) .opened in
+    let hit-as1 =
+    hit-as (c12 .before .name-number .ensures .0) (hit _ _ _ _ _ _ (opened-ok opened) (c12 .find .ensures) (c8 .before .before .from .given .1)) in
+    move-done (args .c .now) (args .out .now) (args .name) opened (bytes-of _ (c19 .shared-slice-known .given)) _ _ hit-as1 _
+    (omega (arith, c8 .word-at .ensures .0, some-entry hit-as1 (bytes-of _ (c19 .shared-slice-known .given)))) (args .parent) _ _
+    (c .before .before .before .move-in .ensures))
     (λ c. search needs)
-    (λ c. deep-some (deep (c .before .before .before .before .before .before .before .before .before .before .before .before .before .before .args .c .now) (c .before .before .before .before .before .before .before .before .before .before .before .«open» .result) _ (c .before .before .before .before .before .before .before .before .before .before .before .«open» .ensures) (c .before .before .before .before .before .before .before .before .before .level .given .1)))
+    (λ c.
+    let c9 = c .before .before .before .before .before .before .before .before .before in
+    deep-some
+    (deep (c9 .before .before .before .before .before .args .c .now) (c9 .before .before .check-context .result) _
+    (c9 .before .before .check-context .ensures) (c9 .level .given .1)))
     (λ c. search needs)
-    (λ c κs. ((omega (arith, (hit _ _ _ _ _ _ (opened-ok ((deep (c .before .before .before .before .before .before .before .before .before .before .before .before .before .before .before .before .args .c .now) (c .before .before .before .before .before .before .before .before .before .before .before .before .before .«open» .result) _ (c .before .before .before .before .before .before .before .before .before .before .before .before .before .«open» .ensures) (c .before .before .before .before .before .before .before .before .before .before .before .level .given .1)) .opened)) (c .before .before .before .before .before .before .before .before .find .ensures) (c .before .before .before .before .before .before .from .given .1)) .start), omega (arith, hit-start (hit _ _ _ _ _ _ (opened-ok ((deep (c .before .before .before .before .before .before .before .before .before .before .before .before .before .before .before .before .args .c .now) (c .before .before .before .before .before .before .before .before .before .before .before .before .before .«open» .result) _ (c .before .before .before .before .before .before .before .before .before .before .before .before .before .«open» .ensures) (c .before .before .before .before .before .before .before .before .before .before .before .level .given .1)) .opened)) (c .before .before .before .before .before .before .before .before .find .ensures) (c .before .before .before .before .before .before .from .given .1)) (bytes-of _ (c .before .before .before .before .before .before .before .before .before .before .before .before .before .before .before .shared-slice-known .given))), hit-inside (hit _ _ _ _ _ _ (opened-ok ((deep (c .before .before .before .before .before .before .before .before .before .before .before .before .before .before .before .before .args .c .now) (c .before .before .before .before .before .before .before .before .before .before .before .before .before .«open» .result) _ (c .before .before .before .before .before .before .before .before .before .before .before .before .before .«open» .ensures) (c .before .before .before .before .before .before .before .before .before .before .before .level .given .1)) .opened)) (c .before .before .before .before .before .before .before .before .find .ensures) (c .before .before .before .before .before .before .from .given .1)) (bytes-of _ (c .before .before .before .before .before .before .before .before .before .before .before .before .before .before .before .shared-slice-known .given)), omega (arith, c .before .before .before .before .word-at .ensures .1)), (rest-ok (c .before .before .before .before .before .before .before .before .before .before .before .before .before .before .before .before .args .c .now) (c .before .before .before .before .before .before .before .before .before .before .before .before .before .before .before .before .args .out .now) (c .before .before .before .before .before .before .before .before .before .before .before .before .before .before .before .before .args .name) ((deep (c .before .before .before .before .before .before .before .before .before .before .before .before .before .before .before .before .args .c .now) (c .before .before .before .before .before .before .before .before .before .before .before .before .before .«open» .result) _ (c .before .before .before .before .before .before .before .before .before .before .before .before .before .«open» .ensures) (c .before .before .before .before .before .before .before .before .before .before .before .level .given .1)) .opened) (bytes-of _ (c .before .before .before .before .before .before .before .before .before .before .before .before .before .before .before .shared-slice-known .given)) _ _ (hit-as (c .before .before .before .before .before .before .before .before .before .name-number .ensures .0) (hit _ _ _ _ _ _ (opened-ok ((deep (c .before .before .before .before .before .before .before .before .before .before .before .before .before .before .before .before .args .c .now) (c .before .before .before .before .before .before .before .before .before .before .before .before .before .«open» .result) _ (c .before .before .before .before .before .before .before .before .before .before .before .before .before .«open» .ensures) (c .before .before .before .before .before .before .before .before .before .before .before .level .given .1)) .opened)) (c .before .before .before .before .before .before .before .before .find .ensures) (c .before .before .before .before .before .before .from .given .1))) _ (omega (arith, c .before .before .before .before .word-at .ensures .0, some-entry (hit-as (c .before .before .before .before .before .before .before .before .before .name-number .ensures .0) (hit _ _ _ _ _ _ (opened-ok ((deep (c .before .before .before .before .before .before .before .before .before .before .before .before .before .before .before .before .args .c .now) (c .before .before .before .before .before .before .before .before .before .before .before .before .before .«open» .result) _ (c .before .before .before .before .before .before .before .before .before .before .before .before .before .«open» .ensures) (c .before .before .before .before .before .before .before .before .before .before .before .level .given .1)) .opened)) (c .before .before .before .before .before .before .before .before .find .ensures) (c .before .before .before .before .before .before .from .given .1))) (bytes-of _ (c .before .before .before .before .before .before .before .before .before .before .before .before .before .before .before .shared-slice-known .given)))), (part-ok (c .before .before .before .before .before .before .before .before .before .before .before .before .before .before .before .before .args .c .now) (c .before .before .before .before .before .before .before .before .before .before .before .before .before .before .before .before .args .out .now) (c .before .before .before .before .before .before .before .before .before .before .before .before .before .before .before .before .args .name) ((deep (c .before .before .before .before .before .before .before .before .before .before .before .before .before .before .before .before .args .c .now) (c .before .before .before .before .before .before .before .before .before .before .before .before .before .«open» .result) _ (c .before .before .before .before .before .before .before .before .before .before .before .before .before .«open» .ensures) (c .before .before .before .before .before .before .before .before .before .before .before .level .given .1)) .opened) (bytes-of _ (c .before .before .before .before .before .before .before .before .before .before .before .before .before .before .before .shared-slice-known .given)) _ _ (hit-as (c .before .before .before .before .before .before .before .before .before .name-number .ensures .0) (hit _ _ _ _ _ _ (opened-ok ((deep (c .before .before .before .before .before .before .before .before .before .before .before .before .before .before .before .before .args .c .now) (c .before .before .before .before .before .before .before .before .before .before .before .before .before .«open» .result) _ (c .before .before .before .before .before .before .before .before .before .before .before .before .before .«open» .ensures) (c .before .before .before .before .before .before .before .before .before .before .before .level .given .1)) .opened)) (c .before .before .before .before .before .before .before .before .find .ensures) (c .before .before .before .before .before .before .from .given .1))) (c .before .before .before .before .word-at .result - 1) (omega (arith, c .before .before .before .before .word-at .ensures .0, some-entry (hit-as (c .before .before .before .before .before .before .before .before .before .name-number .ensures .0) (hit _ _ _ _ _ _ (opened-ok ((deep (c .before .before .before .before .before .before .before .before .before .before .before .before .before .before .before .before .args .c .now) (c .before .before .before .before .before .before .before .before .before .before .before .before .before .«open» .result) _ (c .before .before .before .before .before .before .before .before .before .before .before .before .before .«open» .ensures) (c .before .before .before .before .before .before .before .before .before .before .before .level .given .1)) .opened)) (c .before .before .before .before .before .before .before .before .find .ensures) (c .before .before .before .before .before .before .from .given .1))) (bytes-of _ (c .before .before .before .before .before .before .before .before .before .before .before .before .before .before .before .shared-slice-known .given)))), (move-small (c .before .before .before .before .before .before .before .before .before .before .before .before .before .before .before .before .args .c .now) (c .before .before .before .before .before .before .before .before .before .before .before .before .before .before .before .before .args .out .now) (c .before .before .before .before .before .before .before .before .before .before .before .before .before .before .before .before .args .name) ((deep (c .before .before .before .before .before .before .before .before .before .before .before .before .before .before .before .before .args .c .now) (c .before .before .before .before .before .before .before .before .before .before .before .before .before .«open» .result) _ (c .before .before .before .before .before .before .before .before .before .before .before .before .before .«open» .ensures) (c .before .before .before .before .before .before .before .before .before .before .before .level .given .1)) .opened) (bytes-of _ (c .before .before .before .before .before .before .before .before .before .before .before .before .before .before .before .shared-slice-known .given)) _ refl, (part-level (c .before .before .before .before .before .before .before .before .before .before .before .before .before .before .before .before .args .c .now) (c .before .before .before .before .before .before .before .before .before .before .before .before .before .before .before .before .args .out .now) (c .before .before .before .before .before .before .before .before .before .before .before .before .before .before .before .before .args .name) ((deep (c .before .before .before .before .before .before .before .before .before .before .before .before .before .before .before .before .args .c .now) (c .before .before .before .before .before .before .before .before .before .before .before .before .before .«open» .result) _ (c .before .before .before .before .before .before .before .before .before .before .before .before .before .«open» .ensures) (c .before .before .before .before .before .before .before .before .before .before .before .level .given .1)) .opened) (bytes-of _ (c .before .before .before .before .before .before .before .before .before .before .before .before .before .before .before .shared-slice-known .given)) _ _ (hit-as (c .before .before .before .before .before .before .before .before .before .name-number .ensures .0) (hit _ _ _ _ _ _ (opened-ok ((deep (c .before .before .before .before .before .before .before .before .before .before .before .before .before .before .before .before .args .c .now) (c .before .before .before .before .before .before .before .before .before .before .before .before .before .«open» .result) _ (c .before .before .before .before .before .before .before .before .before .before .before .before .before .«open» .ensures) (c .before .before .before .before .before .before .before .before .before .before .before .level .given .1)) .opened)) (c .before .before .before .before .before .before .before .before .find .ensures) (c .before .before .before .before .before .before .from .given .1))) (c .before .before .before .before .word-at .result - 1) (omega (arith, c .before .before .before .before .word-at .ensures .0, some-entry (hit-as (c .before .before .before .before .before .before .before .before .before .name-number .ensures .0) (hit _ _ _ _ _ _ (opened-ok ((deep (c .before .before .before .before .before .before .before .before .before .before .before .before .before .before .before .before .args .c .now) (c .before .before .before .before .before .before .before .before .before .before .before .before .before .«open» .result) _ (c .before .before .before .before .before .before .before .before .before .before .before .before .before .«open» .ensures) (c .before .before .before .before .before .before .before .before .before .before .before .level .given .1)) .opened)) (c .before .before .before .before .before .before .before .before .find .ensures) (c .before .before .before .before .before .before .from .given .1))) (bytes-of _ (c .before .before .before .before .before .before .before .before .before .before .before .before .before .before .before .shared-slice-known .given)))) _ ((deep (c .before .before .before .before .before .before .before .before .before .before .before .before .before .before .before .before .args .c .now) (c .before .before .before .before .before .before .before .before .before .before .before .before .before .«open» .result) _ (c .before .before .before .before .before .before .before .before .before .before .before .before .before .«open» .ensures) (c .before .before .before .before .before .before .before .before .before .before .before .level .given .1)) .level), short (c .before .before .before .before .before .before .before .before .before .before .before .before .before .before .before .before .args .c .now) (c .before .before .before .before .before .before .before .before .before .before .before .before .before .before .before .before .args .out .now) (c .before .before .before .before .before .before .before .before .before .before .before .before .before .before .before .before .args .name) ((deep (c .before .before .before .before .before .before .before .before .before .before .before .before .before .before .before .before .args .c .now) (c .before .before .before .before .before .before .before .before .before .before .before .before .before .«open» .result) _ (c .before .before .before .before .before .before .before .before .before .before .before .before .before .«open» .ensures) (c .before .before .before .before .before .before .before .before .before .before .before .level .given .1)) .opened) (bytes-of _ (c .before .before .before .before .before .before .before .before .before .before .before .before .before .before .before .shared-slice-known .given))))))))
-    (λ c. call-refused (contextOf (c .before .before .before .before .before .before .args .c .now) 0) _ _ _ (deep-refused (c .before .before .before .before .before .before .args .c .now) (c .before .before .before .«open» .result) _ (c .before .before .before .«open» .ensures) (c .before .n .given .1)))
+    (λ c κs.
+    let c4 = c .before .before .before .before in
+    let c8 = c4 .before .before .before .before in
+    let c9 = c8 .before in
+    let c13 = c9 .before .before .before .before in
+    let c15 = c13 .before .before in
+    let bytes-of1 = bytes-of _ (c15 .shared-slice-known .given) in
+    let args = c15 .before .args in
+    let c-now = args .c .now in
+    let deep1 = deep c-now (c13 .check-context .result) _ (c13 .check-context .ensures) (c9 .before .before .level .given .1) in
+    let opened = deep1 .opened in
+    let hit1 = hit _ _ _ _ _ _ (opened-ok opened) (c8 .find .ensures) (c4 .before .before .from .given .1) in
+    let hit-as1 = hit-as (c9 .name-number .ensures .0) hit1 in (
+      (omega (arith, hit1 .start), omega (arith, hit-start hit1 bytes-of1), hit-inside hit1 bytes-of1, omega (arith, c4 .word-at .ensures .1)),
+      (
+        rest-ok c-now (args .out .now) (args .name) opened bytes-of1 _ _ hit-as1 _ (omega (arith, c4 .word-at .ensures .0, some-entry hit-as1 bytes-of1)),
+        (
+          part-ok c-now (args .out .now) (args .name) opened bytes-of1 _ _ hit-as1 (c4 .word-at .result - 1)
+              (omega (arith, c4 .word-at .ensures .0, some-entry hit-as1 bytes-of1)),
+          (
+            move-small c-now (args .out .now) (args .name) opened bytes-of1 _ refl,
+            (
+              part-level c-now (args .out .now) (args .name) opened bytes-of1 _ _ hit-as1 (c4 .word-at .result - 1)
+                  (omega (arith, c4 .word-at .ensures .0, some-entry hit-as1 bytes-of1)) _ (deep1 .level),
+              short c-now (args .out .now) (args .name) opened bytes-of1,
+            ),
+          ),
+        ),
+      ),
+    ))
+    (λ c.
+    let c3 = c .before .before .before in
+    let c-now = c3 .before .before .before .args .c .now in
+    call-refused (contextOf c-now 0) _ _ _ (deep-refused c-now (c3 .check-context .result) _ (c3 .check-context .ensures) (c .before .n .given .1)))
     (λ c. search needs)
-    (λ c. move-copy (c .before .before .before .before .before .before .before .before .before .before .before .before .before .before .args .c .now) (c .before .before .before .before .before .before .before .before .before .before .before .before .before .before .args .out .now) (c .before .before .before .before .before .before .before .before .before .before .before .before .before .before .args .name) ((deep (c .before .before .before .before .before .before .before .before .before .before .before .before .before .before .args .c .now) (c .before .before .before .before .before .before .before .before .before .before .before .«open» .result) _ (c .before .before .before .before .before .before .before .before .before .before .before .«open» .ensures) (c .before .before .before .before .before .before .before .before .before .level .given .1)) .opened) (bytes-of _ (c .before .before .before .before .before .before .before .before .before .before .before .before .before .shared-slice-known .given)) (c .before .before .before .before .before .before .before .before .before .before .before .before .before .before .args .parent) _ (miss-as (c .before .before .before .before .before .before .before .name-number .ensures .0) (miss _ _ _ _ _ (opened-ok ((deep (c .before .before .before .before .before .before .before .before .before .before .before .before .before .before .args .c .now) (c .before .before .before .before .before .before .before .before .before .before .before .«open» .result) _ (c .before .before .before .before .before .before .before .before .before .before .before .«open» .ensures) (c .before .before .before .before .before .before .before .before .before .level .given .1)) .opened)) (c .before .before .before .before .before .before .find .ensures) (c .before .before .before .before .enum-told .given .1))) _ _ (c .before .before .give .ensures))
+    (λ c.
+    let c4 = c .before .before .before .before in
+    let c6 = c4 .before .before in
+    let c11 = c6 .before .before .before .before .before in
+    let args = c11 .before .before .before .args in
+    let opened =
+    (deep (args .c .now) (c11 .check-context .result) _ (c11 .check-context .ensures) (c6 .before .before .before .level .given .1)) .opened in
+    move-copy (args .c .now) (args .out .now) (args .name) opened (bytes-of _ (c11 .before .before .shared-slice-known .given)) (args .parent) _
+    (miss-as (c6 .before .name-number .ensures .0) (miss _ _ _ _ _ (opened-ok opened) (c6 .find .ensures) (c4 .enum-told .given .1))) _ _
+    (c .before .before .give .ensures))
     (λ c. search needs)
-    (λ c. move-done (c .before .before .before .before .before .before .before .before .before .before .before .before .before .before .before .before .before .before .before .before .args .c .now) (c .before .before .before .before .before .before .before .before .before .before .before .before .before .before .before .before .before .before .before .before .args .out .now) (c .before .before .before .before .before .before .before .before .before .before .before .before .before .before .before .before .before .before .before .before .args .name) ((deep (c .before .before .before .before .before .before .before .before .before .before .before .before .before .before .before .before .before .before .before .before .args .c .now) (c .before .before .before .before .before .before .before .before .before .before .before .before .before .before .before .before .before .«open» .result) _ (c .before .before .before .before .before .before .before .before .before .before .before .before .before .before .before .before .before .«open» .ensures) (c .before .before .before .before .before .before .before .before .before .before .before .before .before .before .before .level .given .1)) .opened) (bytes-of _ (c .before .before .before .before .before .before .before .before .before .before .before .before .before .before .before .before .before .before .before .shared-slice-known .given)) _ _ (hit-as (c .before .before .before .before .before .before .before .before .before .before .before .before .before .name-number .ensures .0) (hit _ _ _ _ _ _ (opened-ok ((deep (c .before .before .before .before .before .before .before .before .before .before .before .before .before .before .before .before .before .before .before .before .args .c .now) (c .before .before .before .before .before .before .before .before .before .before .before .before .before .before .before .before .before .«open» .result) _ (c .before .before .before .before .before .before .before .before .before .before .before .before .before .before .before .before .before .«open» .ensures) (c .before .before .before .before .before .before .before .before .before .before .before .before .before .before .before .level .given .1)) .opened)) (c .before .before .before .before .before .before .before .before .before .before .before .before .find .ensures) (c .before .before .before .before .before .before .before .before .before .before .from .given .1))) _ (omega (arith, c .before .before .before .before .before .before .before .before .word-at .ensures .0, some-entry (hit-as (c .before .before .before .before .before .before .before .before .before .before .before .before .before .name-number .ensures .0) (hit _ _ _ _ _ _ (opened-ok ((deep (c .before .before .before .before .before .before .before .before .before .before .before .before .before .before .before .before .before .before .before .before .args .c .now) (c .before .before .before .before .before .before .before .before .before .before .before .before .before .before .before .before .before .«open» .result) _ (c .before .before .before .before .before .before .before .before .before .before .before .before .before .before .before .before .before .«open» .ensures) (c .before .before .before .before .before .before .before .before .before .before .before .before .before .before .before .level .given .1)) .opened)) (c .before .before .before .before .before .before .before .before .before .before .before .before .find .ensures) (c .before .before .before .before .before .before .before .before .before .before .from .given .1))) (bytes-of _ (c .before .before .before .before .before .before .before .before .before .before .before .before .before .before .before .before .before .before .before .shared-slice-known .given)))) (c .before .before .before .before .before .before .before .before .before .before .before .before .before .before .before .before .before .before .before .before .args .parent) _ _ (c .before .before .before .move-in2 .ensures)))
+    (λ c.
+    let c8 = c .before .before .before .before .before .before .before .before in
+    let c12 = c8 .before .before .before .before in
+    let c15 = c12 .before .before .before in
+    let c19 = c15 .before .before .before .before in
+    let args = c19 .before .args in
+    let opened =
+    (deep (args .c .now) (c15 .before .before .check-context .result) _ (c15 .before .before .check-context .ensures) (c15 .level .given .1)) .opened in
+    let hit-as1 =
+    hit-as (c12 .before .name-number .ensures .0) (hit _ _ _ _ _ _ (opened-ok opened) (c12 .find .ensures) (c8 .before .before .from .given .1)) in
+    move-done (args .c .now) (args .out .now) (args .name) opened (bytes-of _ (c19 .shared-slice-known .given)) _ _ hit-as1 _
+    (omega (arith, c8 .word-at .ensures .0, some-entry hit-as1 (bytes-of _ (c19 .shared-slice-known .given)))) (args .parent) _ _
+    (c .before .before .before .move-in2 .ensures)))

@@ -1,38 +1,76 @@
--- `context::remove_entry` meets its contract.
+-- `context::remove_entry` meets its contract: a name that is absent leaves a copy; otherwise the entry's bytes are left out and the count is one less.
 -- Assumes nothing.
 use borrow.Author.Needs.{needs}
 use Rattle.context.proofs.remove_entry.Statement.{statement}
 use Rattle.context.proofs.remove_entry.Tie as tie
-use Rattle.context.proofs.remove_entry.Reads as reads
-use Rattle.context.proofs.remove_entry.Lts as lts
-use Rattle.context.proofs.give_without.Reads as give-without-reads
-use Rattle.form.proofs.word_at.Reads as word-at-reads
-use Rattle.paths.proofs.find.Reads as find-reads
-use Rattle.paths.proofs.name_number.Reads as name-number-reads
-use Rattle.paths.proofs.refusal.Reads as refusal-reads
-use Rattle.retrieval.proofs.give.Reads as give-reads
 use native.Mathlib.Omega.{arith}
 use Rattle.form.proofs.Whole.{bytes-of}
 use Rattle.paths.specs.Calls.{contextOf}
-use Rattle.paths.proofs.Calling.{opened, opened-ok, is-refused}
-use Rattle.paths.proofs.Searching.{hit, hit-inside, hit-start, miss}
-use Rattle.context.proofs.Calling.{call-refused, hit-as, miss-as, some-entry, remove-copy, remove-done}
+use Rattle.paths.proofs.CallContracts.{opened, opened-ok, is-refused}
+use Rattle.paths.proofs.PathSearch.{hit, hit-inside, hit-start, miss}
+use Rattle.context.proofs.CallContracts.{call-refused, hit-as, miss-as, some-entry, remove-copy, remove-done}
 
 pub remove-entry-spec : {M : Type 1} → statement M
 remove-entry-spec =
     tie.close
     (tie.spec
     (λ c κs. search needs)
-    (λ c. call-refused (contextOf (c .before .before .before .before .args .c .now) 0) _ _ _ (is-refused (c .before .before .before .before .args .c .now) 0 (c .before .refusal .result) (c .before .refusal .ensures) (c .if1 .taken)))
+    (λ c.
+    let c-now = c .before .before .before .before .args .c .now in
+    call-refused (contextOf c-now 0) _ _ _ (is-refused c-now 0 (c .before .refusal .result) (c .before .refusal .ensures) (c .if1 .taken)))
     (λ c κs. search needs)
-    (λ c κs. opened-ok (opened (c .before .before .before .before .before .args .c .now) 0 (c .before .before .refusal .result) (c .before .before .refusal .ensures) (c .before .if1 .left)))
+    (λ c κs.
+    opened-ok
+    (opened (c .before .before .before .before .before .args .c .now) 0 (c .before .before .refusal .result) (c .before .before .refusal .ensures)
+    (c .before .if1 .left)))
     (λ c. search needs)
     (λ c κs. search needs)
     (λ c. search needs)
-    (λ c κs. omega (arith, (opened (c .before .before .before .before .before .before .before .before .before .args .c .now) 0 (c .before .before .before .before .before .before .refusal .result) (c .before .before .before .before .before .before .refusal .ensures) (c .before .before .before .before .before .if1 .left)) .ctx .three))
-    (λ c. omega (arith, c .word-at .ensures .0, some-entry (hit _ _ _ _ _ _ (opened-ok (opened (c .before .before .before .before .before .before .before .before .before .before .args .c .now) 0 (c .before .before .before .before .before .before .before .refusal .result) (c .before .before .before .before .before .before .before .refusal .ensures) (c .before .before .before .before .before .before .if1 .left))) (c .before .before .before .before .find .ensures) (c .before .before .from .given .1)) (bytes-of _ (c .before .before .before .before .before .before .before .before .before .shared-slice-known .given))))
-    (λ c κs. (omega (arith, (hit _ _ _ _ _ _ (opened-ok (opened (c .before .before .before .before .before .before .before .before .before .before .before .args .c .now) 0 (c .before .before .before .before .before .before .before .before .refusal .result) (c .before .before .before .before .before .before .before .before .refusal .ensures) (c .before .before .before .before .before .before .before .if1 .left))) (c .before .before .before .before .before .find .ensures) (c .before .before .before .from .given .1)) .start), omega (arith, hit-start (hit _ _ _ _ _ _ (opened-ok (opened (c .before .before .before .before .before .before .before .before .before .before .before .args .c .now) 0 (c .before .before .before .before .before .before .before .before .refusal .result) (c .before .before .before .before .before .before .before .before .refusal .ensures) (c .before .before .before .before .before .before .before .if1 .left))) (c .before .before .before .before .before .find .ensures) (c .before .before .before .from .given .1)) (bytes-of _ (c .before .before .before .before .before .before .before .before .before .before .shared-slice-known .given))), hit-inside (hit _ _ _ _ _ _ (opened-ok (opened (c .before .before .before .before .before .before .before .before .before .before .before .args .c .now) 0 (c .before .before .before .before .before .before .before .before .refusal .result) (c .before .before .before .before .before .before .before .before .refusal .ensures) (c .before .before .before .before .before .before .before .if1 .left))) (c .before .before .before .before .before .find .ensures) (c .before .before .before .from .given .1)) (bytes-of _ (c .before .before .before .before .before .before .before .before .before .before .shared-slice-known .given)), omega (arith, c .before .word-at .ensures .1)))
+    (λ c κs.
+    omega (
+      arith,
+      let c5 = c .before .before .before .before .before in
+          (opened (c5 .before .before .before .before .args .c .now) 0 (c5 .before .refusal .result) (c5 .before .refusal .ensures) (c5 .if1 .left)) .ctx .three,
+    ))
+    (λ c.
+    omega (
+      arith,
+      c .word-at .ensures .0,
+      let c4 = c .before .before .before .before in
+          let c6 = c4 .before .before in
+          some-entry
+          (hit _ _ _ _ _ _
+          (opened-ok (opened (c6 .before .before .before .before .args .c .now) 0 (c6 .before .refusal .result) (c6 .before .refusal .ensures) (c6 .if1 .left)))
+          (c4 .find .ensures) (c .before .before .from .given .1))
+          (bytes-of _ (c6 .before .before .before .shared-slice-known .given)),
+    ))
+    (λ c κs.
+    let c3 = c .before .before .before in
+    let c7 = c3 .before .before .before .before in
+    let hit1 = hit _ _ _ _ _ _
+    (opened-ok (opened (c7 .before .before .before .before .args .c .now) 0 (c7 .before .refusal .result) (c7 .before .refusal .ensures) (c7 .if1 .left)))
+    (c3 .before .before .find .ensures) (c3 .from .given .1) in
+    let bytes-of1 = bytes-of _ (c7 .before .before .before .shared-slice-known .given) in
+    (omega (arith, hit1 .start), omega (arith, hit-start hit1 bytes-of1), hit-inside hit1 bytes-of1, omega (arith, c .before .word-at .ensures .1)))
     (λ c. search needs)
-    (λ c. remove-copy (c .before .before .before .before .before .before .before .before .before .before .before .before .args .c .now) (c .before .before .before .before .before .before .before .before .before .before .before .before .args .out .now) (c .before .before .before .before .before .before .before .before .before .before .before .before .args .name) (opened (c .before .before .before .before .before .before .before .before .before .before .before .before .args .c .now) 0 (c .before .before .before .before .before .before .before .before .before .refusal .result) (c .before .before .before .before .before .before .before .before .before .refusal .ensures) (c .before .before .before .before .before .before .before .before .if1 .left)) (bytes-of _ (c .before .before .before .before .before .before .before .before .before .before .before .shared-slice-known .given)) _ (miss-as (c .before .before .before .before .before .before .before .name-number .ensures .0) (miss _ _ _ _ _ (opened-ok (opened (c .before .before .before .before .before .before .before .before .before .before .before .before .args .c .now) 0 (c .before .before .before .before .before .before .before .before .before .refusal .result) (c .before .before .before .before .before .before .before .before .before .refusal .ensures) (c .before .before .before .before .before .before .before .before .if1 .left))) (c .before .before .before .before .before .before .find .ensures) (c .before .before .before .before .enum-told .given .1))) _ _ (c .before .before .give .ensures))
+    (λ c.
+    let c4 = c .before .before .before .before in
+    let c6 = c4 .before .before in
+    let c8 = c6 .before .before in
+    let args = c8 .before .before .before .before .args in
+    let opened1 = opened (args .c .now) 0 (c8 .before .refusal .result) (c8 .before .refusal .ensures) (c8 .if1 .left) in
+    remove-copy (args .c .now) (args .out .now) (args .name) opened1 (bytes-of _ (c8 .before .before .before .shared-slice-known .given)) _
+    (miss-as (c6 .before .name-number .ensures .0) (miss _ _ _ _ _ (opened-ok opened1) (c6 .find .ensures) (c4 .enum-told .given .1))) _ _
+    (c .before .before .give .ensures))
     (λ c. search needs)
-    (λ c. remove-done (c .before .before .before .before .before .before .before .before .before .before .before .before .before .before .args .c .now) (c .before .before .before .before .before .before .before .before .before .before .before .before .before .before .args .out .now) (c .before .before .before .before .before .before .before .before .before .before .before .before .before .before .args .name) (opened (c .before .before .before .before .before .before .before .before .before .before .before .before .before .before .args .c .now) 0 (c .before .before .before .before .before .before .before .before .before .before .before .refusal .result) (c .before .before .before .before .before .before .before .before .before .before .before .refusal .ensures) (c .before .before .before .before .before .before .before .before .before .before .if1 .left)) (bytes-of _ (c .before .before .before .before .before .before .before .before .before .before .before .before .before .shared-slice-known .given)) _ _ (hit-as (c .before .before .before .before .before .before .before .before .before .name-number .ensures .0) (hit _ _ _ _ _ _ (opened-ok (opened (c .before .before .before .before .before .before .before .before .before .before .before .before .before .before .args .c .now) 0 (c .before .before .before .before .before .before .before .before .before .before .before .refusal .result) (c .before .before .before .before .before .before .before .before .before .before .before .refusal .ensures) (c .before .before .before .before .before .before .before .before .before .before .if1 .left))) (c .before .before .before .before .before .before .before .before .find .ensures) (c .before .before .before .before .before .before .from .given .1))) _ (omega (arith, c .before .before .before .before .word-at .ensures .0, some-entry (hit-as (c .before .before .before .before .before .before .before .before .before .name-number .ensures .0) (hit _ _ _ _ _ _ (opened-ok (opened (c .before .before .before .before .before .before .before .before .before .before .before .before .before .before .args .c .now) 0 (c .before .before .before .before .before .before .before .before .before .before .before .refusal .result) (c .before .before .before .before .before .before .before .before .before .before .before .refusal .ensures) (c .before .before .before .before .before .before .before .before .before .before .if1 .left))) (c .before .before .before .before .before .before .before .before .find .ensures) (c .before .before .before .before .before .before .from .given .1))) (bytes-of _ (c .before .before .before .before .before .before .before .before .before .before .before .before .before .shared-slice-known .given)))) _ _ (c .before .before .give-without .ensures)))
+    (λ c.
+    let c4 = c .before .before .before .before in
+    let c6 = c4 .before .before in
+    let c9 = c6 .before .before .before in
+    let c13 = c9 .before .before .before .before in
+    let args = c13 .before .args in
+    let opened1 = opened (args .c .now) 0 (c9 .before .before .refusal .result) (c9 .before .before .refusal .ensures) (c9 .before .if1 .left) in
+    let hit-as1 = hit-as (c9 .name-number .ensures .0) (hit _ _ _ _ _ _ (opened-ok opened1) (c6 .before .before .find .ensures) (c6 .from .given .1)) in
+    remove-done (args .c .now) (args .out .now) (args .name) opened1 (bytes-of _ (c13 .shared-slice-known .given)) _ _ hit-as1 _
+    (omega (arith, c4 .word-at .ensures .0, some-entry hit-as1 (bytes-of _ (c13 .shared-slice-known .given)))) _ _
+    (c .before .before .give-without .ensures)))

@@ -1,13 +1,9 @@
--- `context::set_entry` meets its contract.
+-- `context::set_entry` meets its contract: one name is a path of one.
 -- Assumes nothing.
 use borrow.Author.Needs.{needs}
 use Rattle.context.proofs.set_entry.Statement.{statement}
 use Rattle.context.proofs.set_entry.Tie as tie
-use Rattle.context.proofs.set_entry.Reads as reads
-use Rattle.context.proofs.set_entry.Lts as lts
-use Rattle.context.proofs.create_entries.Reads as create-entries-reads
-use native.Mathlib.Omega.{arith}
-use Rattle.context.proofs.Calling.{set-built}
+use Rattle.context.proofs.CallContracts.{set-built}
 
 pub set-entry-spec : {M : Type 1} → statement M
 set-entry-spec =

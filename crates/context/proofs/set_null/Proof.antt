@@ -1,13 +1,9 @@
--- `context::set_null` meets its contract.
+-- `context::set_null` meets its contract: two zero bytes are the null that is set.
 -- Assumes nothing.
 use borrow.Author.Needs.{needs}
 use Rattle.context.proofs.set_null.Statement.{statement}
 use Rattle.context.proofs.set_null.Tie as tie
-use Rattle.context.proofs.set_null.Reads as reads
-use Rattle.context.proofs.set_null.Lts as lts
-use Rattle.context.proofs.set_entry.Reads as set-entry-reads
-use native.Mathlib.Omega.{arith}
-use Rattle.context.proofs.Calling.{null-built}
+use Rattle.context.proofs.CallContracts.{null-built}
 
 pub set-null-spec : {M : Type 1} → statement M
 set-null-spec =

@@ -1,4 +1,4 @@
--- `feel::feel_bif_feel_type` meets its contract.
+-- `feel::feel_bif_feel_type` meets its contract: the call is `ranges::bif_feel_type`, which writes the output; the length or the refusal becomes its number.
 -- Assumes nothing.
 use borrow.Author.Needs.{needs}
 use Rattle.feel.proofs.feel_bif_feel_type.Statement.{statement}
@@ -16,7 +16,11 @@ same-length : tie.Need-same-length
 same-length c = search needs
 
 returns : tie.Need-returns
-returns c = record { answer = c .written-number .ensures ∙ ap numbered (c .before .before .before .bif-feel-type .ensures .answer); output = c .before .before .before .bif-feel-type .ensures .output }
+returns c =
+    record {
+      answer = c .written-number .ensures ∙ ap numbered (c .before .before .before .bif-feel-type .ensures .answer);
+      output = c .before .before .before .bif-feel-type .ensures .output;
+    }
 
 pub feel-bif-feel-type-spec : {M : Type 1} → statement M
 feel-bif-feel-type-spec =

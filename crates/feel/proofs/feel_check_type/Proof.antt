@@ -1,4 +1,4 @@
--- `feel::feel_check_type` meets its contract.
+-- `feel::feel_check_type` meets its contract: the call is `form::check_type`, and its answer becomes its number: the level, or the refusal.
 -- Assumes nothing.
 use mathlib.Core.Path.{ap, _∙_}
 use borrow.Author.Needs.{needs}

@@ -1,4 +1,4 @@
--- `feel::feel_context_contains_deep` meets its contract.
+-- `feel::feel_context_contains_deep` meets its contract: the call is `paths::contains_deep`, and its verdict becomes its number.
 -- Assumes nothing.
 use mathlib.Core.Path.{ap, _∙_}
 use borrow.Author.Needs.{needs}

@@ -1,4 +1,4 @@
--- `feel::feel_context_len` meets its contract.
+-- `feel::feel_context_len` meets its contract: the call is `paths::len`, and the count or the refusal becomes its number.
 -- Assumes nothing.
 use mathlib.Core.Path.{ap, _∙_}
 use borrow.Author.Needs.{needs}

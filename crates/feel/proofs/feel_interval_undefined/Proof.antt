@@ -1,4 +1,4 @@
--- `feel::feel_interval_undefined` meets its contract.
+-- `feel::feel_interval_undefined` meets its contract: of the four interval types 1 and 3 are the odd ones, and only those four are asked.
 -- Assumes nothing.
 use Prim.Native.Nat.{_%_}
 use mathlib.Core.Path.{sym, ap, _∙_}
@@ -15,4 +15,6 @@ feel-interval-undefined-spec =
     tie.close
     (tie.spec
     (λ c κs. search needs)
-    (λ c. c .interval-number .ensures ∙ ap judged (interval-same (λ x. eqb (c .before .args .i % 2) 1) ranges.undefined (c .before .args .i) (λ h. sym (odd-is (c .before .args .i) h)))))
+    (λ c.
+    let i = c .before .args .i in
+    c .interval-number .ensures ∙ ap judged (interval-same (λ x. eqb (i % 2) 1) ranges.undefined i (λ h. sym (odd-is i h)))))

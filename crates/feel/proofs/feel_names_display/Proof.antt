@@ -1,4 +1,4 @@
--- `feel::feel_names_display` meets its contract.
+-- `feel::feel_names_display` meets its contract: the call is `display::display`, which writes the output; the length or the refusal becomes its number.
 -- Assumes nothing.
 use mathlib.Core.Path.{ap, _∙_}
 use borrow.Author.Needs.{needs}
@@ -13,4 +13,8 @@ feel-names-display-spec =
     (λ c κs. search needs)
     (λ c κs. search needs)
     (λ c. search needs)
-    (λ c. record { answer = c .written-number .ensures ∙ ap numbered (c .before .before .before .display .ensures .answer); output = c .before .before .before .display .ensures .output }))
+    (λ c.
+    record {
+      answer = c .written-number .ensures ∙ ap numbered (c .before .before .before .display .ensures .answer);
+      output = c .before .before .before .display .ensures .output;
+    }))

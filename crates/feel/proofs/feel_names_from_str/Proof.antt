@@ -1,4 +1,4 @@
--- `feel::feel_names_from_str` meets its contract.
+-- `feel::feel_names_from_str` meets its contract: the call is `names::from_str`, and the command, or that there is none, becomes its number.
 -- Assumes nothing.
 use mathlib.Core.Path.{ap, _∙_}
 use borrow.Author.Needs.{needs}

@@ -1,4 +1,4 @@
--- `feel::feel_names_is_built_in_type_name` meets its contract.
+-- `feel::feel_names_is_built_in_type_name` meets its contract: the call is `names::is_built_in_type_name`, and yes or no becomes its number.
 -- Assumes nothing.
 use mathlib.Core.Path.{ap, _∙_}
 use mathlib.Core.Bool.{Bool}

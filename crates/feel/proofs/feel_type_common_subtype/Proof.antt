@@ -1,4 +1,4 @@
--- `feel::feel_type_common_subtype` meets its contract.
+-- `feel::feel_type_common_subtype` meets its contract: the call is `bounds::common_subtype`, which writes the output; the length or the refusal becomes its number.
 -- Assumes nothing.
 use borrow.Author.Needs.{needs}
 use Rattle.feel.proofs.feel_type_common_subtype.Statement.{statement}
@@ -6,25 +6,22 @@ use Rattle.feel.proofs.feel_type_common_subtype.Tie as tie
 use mathlib.Core.Path.{ap, _∙_}
 use Rattle.feel.specs.Numbers.{numbered}
 
--- src/lib.rt:108:20
 common-subtype-requires : tie.Need-common-subtype-requires
 common-subtype-requires c κs = search needs
 
--- src/lib.rt:108:5
 written-number-requires : tie.Need-written-number-requires
 written-number-requires c κs = search needs
 
--- src/lib.rt:104:1
 same-length : tie.Need-same-length
 same-length c = search needs
 
--- src/lib.rt:104:1
 same-length-2 : tie.Need-same-length-2
 same-length-2 c = search needs
 
--- src/lib.rt:104:1
 returns : tie.Need-returns
-returns c = record { answer = c .written-number .ensures ∙ ap numbered (c .before .before .before .before .before .common-subtype .ensures .answer); output = c .before .before .before .before .before .common-subtype .ensures .output }
+returns c =
+    let c5 = c .before .before .before .before .before in
+    record { answer = c .written-number .ensures ∙ ap numbered (c5 .common-subtype .ensures .answer); output = c5 .common-subtype .ensures .output }
 
 pub feel-type-common-subtype-spec : {M : Type 1} → statement M
 feel-type-common-subtype-spec =

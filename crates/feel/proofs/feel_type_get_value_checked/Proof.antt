@@ -1,4 +1,4 @@
--- `feel::feel_type_get_value_checked` meets its contract.
+-- `feel::feel_type_get_value_checked` meets its contract: the call is `retrieval::get_value_checked`, which writes the output; the length or the refusal becomes its number.
 -- Assumes nothing.
 use borrow.Author.Needs.{needs}
 use Rattle.feel.proofs.feel_type_get_value_checked.Statement.{statement}
@@ -16,7 +16,9 @@ same-length : tie.Need-same-length
 same-length c = search needs
 
 returns : tie.Need-returns
-returns c = record { answer = c .written-number .ensures ∙ ap numbered (c .before .before .before .get-value-checked .ensures .answer); output = c .before .before .before .get-value-checked .ensures .output }
+returns c =
+    let x1 = c .before .before .before .get-value-checked .ensures in
+    record { answer = c .written-number .ensures ∙ ap numbered (x1 .answer); output = x1 .output }
 
 pub feel-type-get-value-checked-spec : {M : Type 1} → statement M
 feel-type-get-value-checked-spec =

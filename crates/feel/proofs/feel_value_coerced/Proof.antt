@@ -1,4 +1,4 @@
--- `feel::feel_value_coerced` meets its contract.
+-- `feel::feel_value_coerced` meets its contract: the call is `coercion::coerced`, which writes the output; the length or the refusal becomes its number.
 -- Assumes nothing.
 use borrow.Author.Needs.{needs}
 use Rattle.feel.proofs.feel_value_coerced.Statement.{statement}
@@ -16,7 +16,11 @@ same-length : tie.Need-same-length
 same-length c = search needs
 
 returns : tie.Need-returns
-returns c = record { answer = c .written-number .ensures ∙ ap numbered (c .before .before .before .coerced .ensures .answer); output = c .before .before .before .coerced .ensures .output }
+returns c =
+    record {
+      answer = c .written-number .ensures ∙ ap numbered (c .before .before .before .coerced .ensures .answer);
+      output = c .before .before .before .coerced .ensures .output;
+    }
 
 pub feel-value-coerced-spec : {M : Type 1} → statement M
 feel-value-coerced-spec =

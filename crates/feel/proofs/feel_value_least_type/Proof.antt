@@ -1,4 +1,4 @@
--- `feel::feel_value_least_type` meets its contract.
+-- `feel::feel_value_least_type` meets its contract: the call is `infer::least_type`, which writes the output; the length or the refusal becomes its number.
 -- Assumes nothing.
 use borrow.Author.Needs.{needs}
 use Rattle.feel.proofs.feel_value_least_type.Statement.{statement}
@@ -19,7 +19,9 @@ same-length-2 : tie.Need-same-length-2
 same-length-2 c = search needs
 
 returns : tie.Need-returns
-returns c = record { answer = c .written-number .ensures ∙ ap numbered (c .before .before .before .before .before .least-type .ensures .answer); output = c .before .before .before .before .before .least-type .ensures .output }
+returns c =
+    let c5 = c .before .before .before .before .before in
+    record { answer = c .written-number .ensures ∙ ap numbered (c5 .least-type .ensures .answer); output = c5 .least-type .ensures .output }
 
 pub feel-value-least-type-spec : {M : Type 1} → statement M
 feel-value-least-type-spec =

@@ -1,4 +1,4 @@
--- `feel::feel_value_type_of` meets its contract.
+-- `feel::feel_value_type_of` meets its contract: the call is `infer::type_of`, which writes the output; the length or the refusal becomes its number.
 -- Assumes nothing.
 use borrow.Author.Needs.{needs}
 use Rattle.feel.proofs.feel_value_type_of.Statement.{statement}
@@ -19,7 +19,9 @@ same-length-2 : tie.Need-same-length-2
 same-length-2 c = search needs
 
 returns : tie.Need-returns
-returns c = record { answer = c .written-number .ensures ∙ ap numbered (c .before .before .before .before .before .type-of .ensures .answer); output = c .before .before .before .before .before .type-of .ensures .output }
+returns c =
+    let c5 = c .before .before .before .before .before in
+    record { answer = c .written-number .ensures ∙ ap numbered (c5 .type-of .ensures .answer); output = c5 .type-of .ensures .output }
 
 pub feel-value-type-of-spec : {M : Type 1} → statement M
 feel-value-type-of-spec =

@@ -1,4 +1,4 @@
--- `feel::found_number` meets its contract.
+-- `feel::found_number` meets its contract: by the answer; a place and a length below 65,536 fit one word, so the sum has room.
 -- Assumes nothing.
 use native.Mathlib.Omega.{arith}
 use mathlib.Core.Path.{sym, ap}
@@ -6,7 +6,7 @@ use borrow.Author.Needs.{needs}
 use Rattle.paths.specs.Places.{found}
 use Rattle.paths.specs.declared.Found.{Found}
 use Rattle.feel.specs.Numbers.{parted}
-use Rattle.feel.proofs.Halving.{part-halves}
+use Rattle.feel.proofs.PartPlaces.{part-halves}
 use Rattle.feel.proofs.found_number.Statement.{statement}
 use Rattle.feel.proofs.found_number.Tie as tie
 
@@ -15,8 +15,16 @@ found-number-spec =
     tie.close
     (tie.spec
     (λ c. search needs)
-    (λ c. omega (arith, (part-halves (c .before .before .before .args .f) (c .before .f .given .0 .0) (c .before .f .given .0 .1 .0) (c .before .f .given .1) (c .before .before .before .pre)) .0))
-    (λ c. omega (arith, (part-halves (c .before .before .before .args .f) (c .before .f .given .0 .0) (c .before .f .given .0 .1 .0) (c .before .f .given .1) (c .before .before .before .pre)) .0, (part-halves (c .before .before .before .args .f) (c .before .f .given .0 .0) (c .before .f .given .0 .1 .0) (c .before .f .given .1) (c .before .before .before .pre)) .1))
+    (λ c.
+    omega (
+      arith,
+      let f = c .before .f .given in
+          (part-halves (c .before .before .before .args .f) (f .0 .0) (f .0 .1 .0) (f .1) (c .before .before .before .pre)) .0,
+    ))
+    (λ c.
+    let f = c .before .f .given in
+    let part-halves1 = part-halves (c .before .before .before .args .f) (f .0 .0) (f .0 .1 .0) (f .1) (c .before .before .before .pre) in
+    omega (arith, part-halves1 .0, part-halves1 .1))
     (λ c. search needs)
     (λ c. search needs)
     (λ c. search needs)

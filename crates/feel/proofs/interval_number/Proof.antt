@@ -1,4 +1,4 @@
--- `feel::interval_number` meets its contract.
+-- `feel::interval_number` meets its contract: a byte over 3 is refused; otherwise yes or no becomes its number.
 -- Assumes nothing.
 use mathlib.Core.Path.{refl, ap, _∙_}
 use borrow.Author.Needs.{needs}
@@ -11,6 +11,7 @@ pub interval-number-spec : {M : Type 1} → statement M
 interval-number-spec =
     tie.close
     (tie.spec
+    (λ c. search needs)
     (λ c. search needs)
     (λ c. ap judged (interval-refused (λ x. c .before .args .yes) (c .if1 .taken)))
     (λ c κs. search needs)

@@ -1,4 +1,4 @@
--- `feel::verdict_number` meets its contract.
+-- `feel::verdict_number` meets its contract: by the verdict, 1 or 0 or the refusal behind the high word.
 -- Assumes nothing.
 use mathlib.Core.Path.{sym, ap}
 use borrow.Author.Needs.{needs}

@@ -1,10 +1,8 @@
--- The answer to a whole, by the walk's size against the length.
+-- `form::settle` meets its contract: the answer to a whole, by the walk's size against the length.
 -- Assumes nothing.
 use borrow.Author.Needs.{needs}
 use Rattle.form.proofs.settle.Statement.{statement}
 use Rattle.form.proofs.settle.Tie as tie
-use Rattle.form.proofs.settle.Reads as reads
-use Rattle.form.proofs.settle.Lts as lts
 use native.Mathlib.Omega.{arith}
 use Rattle.form.proofs.Whole.{settled-fault, settled-end, settled-left}
 

@@ -1,18 +1,13 @@
--- `infer::least_type` meets its contract.
+-- `infer::least_type` meets its contract: the reader's refusal, then that of a value that is not data; of a data value the type is built.
 -- Assumes nothing.
 use borrow.Author.Needs.{needs}
 use Rattle.infer.proofs.least_type.Statement.{statement}
 use Rattle.infer.proofs.least_type.Tie as tie
-use Rattle.infer.proofs.least_type.Reads as reads
-use Rattle.infer.proofs.least_type.Lts as lts
-use Rattle.form.proofs.check_value.Reads as check-value-reads
-use Rattle.infer.proofs.build.Reads as build-reads
-use Rattle.infer.proofs.is_data.Reads as is-data-reads
 use mathlib.Core.Path.{sym, ap, _∙_}
 use mathlib.Core.Bool.{true}
 use Rattle.form.specs.Answers.{checked}
-use Rattle.values.proofs.Calling.{value-refused}
-use Rattle.infer.proofs.Calling.{fine, fine-ok, ask, is-data, least-refused, least-other, least-done}
+use Rattle.values.proofs.CallContracts.{value-refused}
+use Rattle.infer.proofs.CallContracts.{fine, fine-ok, ask, is-data, least-refused, least-other, least-done}
 
 pub least-type-spec : {M : Type 1} → statement M
 least-type-spec =

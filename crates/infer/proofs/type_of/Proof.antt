@@ -1,17 +1,13 @@
--- `infer::type_of` meets its contract.
+-- `infer::type_of` meets its contract: the reader's refusal; of an accepted value the inferred type is built.
 -- Assumes nothing.
 use borrow.Author.Needs.{needs}
 use Rattle.infer.proofs.type_of.Statement.{statement}
 use Rattle.infer.proofs.type_of.Tie as tie
-use Rattle.infer.proofs.type_of.Reads as reads
-use Rattle.infer.proofs.type_of.Lts as lts
-use Rattle.form.proofs.check_value.Reads as check-value-reads
-use Rattle.infer.proofs.build.Reads as build-reads
 use mathlib.Core.Path.{sym, ap, _∙_}
 use mathlib.Core.Bool.{false, true≢false}
 use Rattle.form.specs.Answers.{checked}
-use Rattle.values.proofs.Calling.{value-refused}
-use Rattle.infer.proofs.Calling.{fine, ask, type-refused, type-done}
+use Rattle.values.proofs.CallContracts.{value-refused}
+use Rattle.infer.proofs.CallContracts.{fine, ask, type-refused, type-done}
 
 pub type-of-spec : {M : Type 1} → statement M
 type-of-spec =

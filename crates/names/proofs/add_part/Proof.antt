@@ -1,14 +1,9 @@
--- `names::add_part` meets its contract.
+-- `names::add_part` meets its contract: what trim hands back is put, and both facts are carried over to the trimmed part.
 -- Assumes nothing.
 use borrow.Author.Needs.{needs}
 use Rattle.names.proofs.add_part.Statement.{statement}
 use Rattle.names.proofs.add_part.Tie as tie
-use Rattle.names.proofs.add_part.Reads as reads
-use Rattle.names.proofs.add_part.Lts as lts
-use Rattle.names.proofs.is_mark.Reads as is-mark-reads
-use Rattle.names.proofs.put_part.Reads as put-part-reads
-use Rattle.names.proofs.trim.Reads as trim-reads
-use Rattle.names.proofs.Naming.{trimmed-room, part-added}
+use Rattle.names.proofs.NameNew.{trimmed-room, part-added}
 
 pub add-part-spec : {M : Type 1} → statement M
 add-part-spec =

@@ -1,10 +1,10 @@
--- `names::candidate` meets its contract.
+-- `names::candidate` meets its contract: each arm is the one name of its length and first letter.
 -- Assumes nothing.
 use borrow.Author.Needs.{needs}
 use Rattle.names.proofs.candidate.Statement.{statement}
 use Rattle.names.proofs.candidate.Tie as tie
 use mathlib.Core.Path.{refl}
-use Rattle.names.proofs.Knowing.{only-long, only-first, only-null, only-string, only-none}
+use Rattle.names.proofs.BuiltInNames.{only-long, only-first, only-null, only-string, only-none}
 use native.Mathlib.Omega.{arith}
 
 pub candidate-spec : {M : Type 1} → statement M
@@ -23,4 +23,6 @@ candidate-spec =
     (λ c. only-long _ 6 13 (c .match .keys5) refl (omega arith))
     (λ c. only-long _ 7 22 (c .match .keys6) refl (omega arith))
     (λ c. only-long _ 8 25 (c .match .keys7) refl (omega arith))
-    (λ c. only-none _ (c .match .rest .0 .0 .0 .0 .0 .0 .1) (c .match .rest .0 .0 .0 .0 .0 .1) (c .match .rest .0 .0 .0 .0 .1) (c .match .rest .0 .0 .0 .1) (c .match .rest .0 .0 .1) (c .match .rest .0 .1) (c .match .rest .1)))
+    (λ c.
+    let rest = c .match .rest .0 in
+    only-none _ (rest .0 .0 .0 .0 .0 .1) (rest .0 .0 .0 .0 .1) (rest .0 .0 .0 .1) (rest .0 .0 .1) (rest .0 .1) (rest .1) (c .match .rest .1)))

@@ -1,14 +1,10 @@
--- `names::has_name` meets its contract.
+-- `names::has_name` meets its contract: byte strings are equal exactly when the call says so, and each arm has the name of its number.
 -- Assumes nothing.
 use borrow.Author.Needs.{needs}
 use Rattle.names.proofs.has_name.Statement.{statement}
 use Rattle.names.proofs.has_name.Tie as tie
-use Rattle.names.proofs.has_name.Reads as reads
-use Rattle.names.proofs.has_name.Lts as lts
-use Rattle.check.proofs.same.Reads as same-reads
 use mathlib.Core.Path.{refl}
-use Rattle.names.proofs.Knowing.{has-named, last-name}
-use native.Mathlib.Omega.{arith}
+use Rattle.names.proofs.BuiltInNames.{has-named, last-name}
 
 pub has-name-spec : {M : Type 1} → statement M
 has-name-spec =
@@ -43,4 +39,11 @@ has-name-spec =
     (λ c. has-named 6 (c .before .before .before .before .args .k) (c .before .before .match .keys7) _ _ refl _ (c .same7 .ensures))
     (λ c. has-named 7 (c .before .before .before .before .args .k) (c .before .before .match .keys8) _ _ refl _ (c .same8 .ensures))
     (λ c. has-named 8 (c .before .before .before .before .args .k) (c .before .before .match .keys9) _ _ refl _ (c .same9 .ensures))
-    (λ c. has-named 9 (c .before .before .before .before .args .k) (last-name (c .before .before .before .before .args .k) (c .before .before .before .before .pre) (c .before .before .match .rest .0 .0 .0 .0 .0 .0 .0 .0 .1) (c .before .before .match .rest .0 .0 .0 .0 .0 .0 .0 .1) (c .before .before .match .rest .0 .0 .0 .0 .0 .0 .1) (c .before .before .match .rest .0 .0 .0 .0 .0 .1) (c .before .before .match .rest .0 .0 .0 .0 .1) (c .before .before .match .rest .0 .0 .0 .1) (c .before .before .match .rest .0 .0 .1) (c .before .before .match .rest .0 .1) (c .before .before .match .rest .1)) _ _ refl _ (c .same10 .ensures)))
+    (λ c.
+    let rest = c .before .before .match .rest in
+    let c4 = c .before .before .before .before in
+    let x1 = rest .0 .0 .0 .0 in
+    has-named 9 (c4 .args .k)
+    (last-name (c4 .args .k) (c4 .pre) (x1 .0 .0 .0 .0 .1) (x1 .0 .0 .0 .1) (x1 .0 .0 .1) (x1 .0 .1) (x1 .1) (rest .0 .0 .0 .1) (rest .0 .0 .1)
+    (rest .0 .1) (rest .1))
+    _ _ refl _ (c .same10 .ensures)))

@@ -1,14 +1,9 @@
--- `names::put_part` meets its contract.
+-- `names::put_part` meets its contract: two pieces put one behind the other are put as one.
 -- Assumes nothing.
 use borrow.Author.Needs.{needs}
 use Rattle.names.proofs.put_part.Statement.{statement}
 use Rattle.names.proofs.put_part.Tie as tie
-use Rattle.names.proofs.put_part.Reads as reads
-use Rattle.names.proofs.put_part.Lts as lts
-use Rattle.names.proofs.is_parted.Reads as is-parted-reads
-use Rattle.retrieval.proofs.put.Reads as put-reads
-use Rattle.names.proofs.Naming.{part-joined, part-parted}
-use native.Mathlib.Omega.{arith}
+use Rattle.names.proofs.NameNew.{part-joined, part-parted}
 
 pub put-part-spec : {M : Type 1} → statement M
 put-part-spec =
@@ -19,7 +14,16 @@ put-part-spec =
     (λ c κs. search needs)
     (λ c κs. search needs)
     (λ c. search needs)
-    (λ c. part-parted (c .before .before .before .before .before .before .before .before .before .before .before .before .before .args .index) (c .before .before .before .before .before .before .before .before .before .before .before .before .before .args .prev) (c .before .before .before .before .before .before .before .before .before .before .before .before .before .args .part .now) _ (c .before .before .before .before .before .before .before .before .before .before .is-parted .ensures) (c .before .before .before .before .before .before .before .before .before .if1 .taken) (c .before .before .before .before .before .before .before .before .before .before .before .before .before .args .at) _ _ (c .before .before .before .before .before .before .before .before .before .before .before .before .before .args .out .now) _ _ (c .before .before .before .before .before .before .put .ensures .0) (c .before .before .before .before .before .before .put .ensures .1) (c .before .before .put2 .ensures .0) (c .before .before .put2 .ensures .1))
+    (λ c.
+    let c6 = c .before .before .before .before .before .before in
+    let c9 = c6 .before .before .before in
+    let args = c9 .before .before .before .before .args in
+    part-parted (args .index) (args .prev) (args .part .now) _ (c9 .before .is-parted .ensures) (c9 .if1 .taken) (args .at) _ _ (args .out .now) _ _
+    (c6 .put .ensures .0) (c6 .put .ensures .1) (c .before .before .put2 .ensures .0) (c .before .before .put2 .ensures .1))
     (λ c κs. search needs)
     (λ c. search needs)
-    (λ c. part-joined (c .before .before .before .before .before .before .before .before .args .index) (c .before .before .before .before .before .before .before .before .args .prev) (c .before .before .before .before .before .before .before .before .args .part .now) _ (c .before .before .before .before .before .is-parted .ensures) (c .before .before .before .before .if1 .left) (c .before .before .before .before .before .before .before .before .args .at) _ (c .before .before .before .before .before .before .before .before .args .out .now) _ (c .before .before .put3 .ensures .0) (c .before .before .put3 .ensures .1)))
+    (λ c.
+    let c4 = c .before .before .before .before in
+    let args = c4 .before .before .before .before .args in
+    part-joined (args .index) (args .prev) (args .part .now) _ (c4 .before .is-parted .ensures) (c4 .if1 .left) (args .at) _ (args .out .now) _
+    (c .before .before .put3 .ensures .0) (c .before .before .put3 .ensures .1)))

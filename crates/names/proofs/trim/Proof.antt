@@ -1,13 +1,9 @@
--- `names::trim` meets its contract.
+-- `names::trim` meets its contract: what is left between the two ends, and that it lies in the caller's own bytes.
 -- Assumes nothing.
 use borrow.Author.Needs.{needs}
 use Rattle.names.proofs.trim.Statement.{statement}
 use Rattle.names.proofs.trim.Tie as tie
-use Rattle.names.proofs.trim.Reads as reads
-use Rattle.names.proofs.trim.Lts as lts
-use Rattle.names.proofs.trim_end.Reads as trim-end-reads
-use Rattle.names.proofs.trim_start.Reads as trim-start-reads
-use Rattle.names.proofs.Trimming.{trimmed-length, trimmed, trimmed-place, trimmed-part}
+use Rattle.names.proofs.TrimLoops.{trimmed-length, trimmed, trimmed-place, trimmed-part}
 
 pub trim-spec : {M : Type 1} → statement M
 trim-spec =

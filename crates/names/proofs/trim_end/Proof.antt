@@ -1,11 +1,8 @@
--- `names::trim_end` meets its contract.
+-- `names::trim_end` meets its contract: the loop keeps that the first i bytes, trimmed at the end, are all bytes trimmed there.
 -- Assumes nothing.
 use Rattle.names.proofs.trim_end.Statement.{statement}
 use Rattle.names.proofs.trim_end.Tie as tie
-use Rattle.names.proofs.trim_end.Reads as reads
-use Rattle.names.proofs.trim_end.Lts as lts
-use Rattle.names.proofs.is_blank.Reads as is-blank-reads
-use Rattle.names.proofs.Trimming.{Ending, ending, ending-ended, ending-read, ending-next, ending-done}
+use Rattle.names.proofs.TrimLoops.{Ending, ending, ending-ended, ending-read, ending-next, ending-done}
 use borrow.Author.Needs.{needs}
 use native.Mathlib.Omega.{arith}
 

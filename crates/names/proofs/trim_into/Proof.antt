@@ -1,9 +1,9 @@
--- `names::trim_into` meets its contract.
+-- `names::trim_into` meets its contract: above the limit the refusal, otherwise what `trim` gives is handed on.
 -- Assumes nothing.
 use borrow.Author.Needs.{needs}
 use Rattle.names.proofs.trim_into.Statement.{statement}
 use Rattle.names.proofs.trim_into.Tie as tie
-use Rattle.names.proofs.Trimming.{trim-long, trim-given}
+use Rattle.names.proofs.TrimLoops.{trim-long, trim-given}
 
 pub trim-into-spec : {M : Type 1} → statement M
 trim-into-spec =

@@ -1,13 +1,10 @@
--- `names::trim_start` meets its contract.
+-- `names::trim_start` meets its contract: the loop keeps that the bytes from i on, trimmed at the front, are all bytes trimmed there.
 -- Assumes nothing.
 use Rattle.names.proofs.trim_start.Statement.{statement}
 use Rattle.names.proofs.trim_start.Tie as tie
-use Rattle.names.proofs.trim_start.Reads as reads
-use Rattle.names.proofs.trim_start.Lts as lts
-use Rattle.names.proofs.is_blank.Reads as is-blank-reads
 use lib.ListN.{length}
 use Prim.Native.Nat.{_-_}
-use Rattle.names.proofs.Trimming.{Starting, starting, starting-ended, starting-next, starting-done}
+use Rattle.names.proofs.TrimLoops.{Starting, starting, starting-ended, starting-next, starting-done}
 use borrow.Author.Needs.{needs}
 use native.Mathlib.Omega.{arith}
 

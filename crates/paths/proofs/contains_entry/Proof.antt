@@ -1,11 +1,18 @@
--- `paths::contains_entry` meets its contract.
+-- `paths::contains_entry` meets its contract: the name is contained exactly when its place is found.
 -- Assumes nothing.
 use borrow.Author.Needs.{needs}
 use Rattle.paths.proofs.contains_entry.Statement.{statement}
 use Rattle.paths.proofs.contains_entry.Tie as tie
 use mathlib.Core.Path.{ap, _∙_}
 use Rattle.paths.specs.Places.{isFound}
-use Rattle.paths.proofs.Calling.{found-entry}
+use Rattle.paths.proofs.CallContracts.{found-entry}
 
 pub contains-entry-spec : {M : Type 1} → statement M
-contains-entry-spec = tie.close (tie.spec (λ c κs. search needs) (λ c κs. search needs) (λ c. c .is-found .ensures ∙ ap isFound (c .before .entry-place .ensures) ∙ found-entry (c .before .before .before .args .c .now) (c .before .before .before .args .name)))
+contains-entry-spec =
+    tie.close
+    (tie.spec
+    (λ c κs. search needs)
+    (λ c κs. search needs)
+    (λ c.
+    c .is-found .ensures ∙ ap isFound (c .before .entry-place .ensures) ∙ found-entry (c .before .before .before .args .c .now)
+    (c .before .before .before .args .name)))

@@ -1,10 +1,10 @@
--- `paths::get_entry` meets its contract.
+-- `paths::get_entry` meets its contract: the place that was found holds the value's bytes, and that part is lent.
 -- Assumes nothing.
 use borrow.Author.Needs.{needs}
 use Rattle.paths.proofs.get_entry.Statement.{statement}
 use Rattle.paths.proofs.get_entry.Tie as tie
 use Rattle.form.proofs.Whole.{bytes-of}
-use Rattle.paths.proofs.Calling.{stand-entry, lend-within, lent}
+use Rattle.paths.proofs.CallContracts.{stand-entry, lend-within, lent}
 use Rattle.paths.specs.Places.{found}
 use Rattle.paths.specs.Calls.{getEntryCall}
 
@@ -16,11 +16,10 @@ get-entry-spec =
     (λ c κs.
     let args = c .before .before .before .args in
     lend-within (args .c .now) (getEntryCall (args .c .now) (args .name)) (found (c .before .entry-place .result))
-    (stand-entry (args .c .now) (args .name) (bytes-of (args .c .now) (c .before .before .shared-slice-known .given)))
-    (c .before .entry-place .ensures))
+    (stand-entry (args .c .now) (args .name) (bytes-of (args .c .now) (c .before .before .shared-slice-known .given))) (c .before .entry-place .ensures))
     (λ c.
-    let args = c .before .before .before .before .args in
-    lent (args .c) (getEntryCall (args .c .now) (args .name)) (found (c .before .before .entry-place .result)) _ _
-    (stand-entry (args .c .now) (args .name) (bytes-of (args .c .now) (c .before .before .before .shared-slice-known .given)))
-    (c .before .before .entry-place .ensures)
+    let c2 = c .before .before in
+    let args = c2 .before .before .args in
+    lent (args .c) (getEntryCall (args .c .now) (args .name)) (found (c2 .entry-place .result)) _ _
+    (stand-entry (args .c .now) (args .name) (bytes-of (args .c .now) (c2 .before .shared-slice-known .given))) (c2 .entry-place .ensures)
     (c .lend .ensures)))

@@ -1,9 +1,9 @@
--- `paths::is_context` meets its contract.
+-- `paths::is_context` meets its contract: the first byte of the value that was found says whether it is a context.
 -- Assumes nothing.
 use borrow.Author.Needs.{needs}
 use Rattle.paths.proofs.is_context.Statement.{statement}
 use Rattle.paths.proofs.is_context.Tie as tie
-use Rattle.paths.proofs.Calling.{entered, entered-none, entered-refused, entered-inside, context-yes, context-no}
+use Rattle.paths.proofs.CallContracts.{entered, entered-none, entered-refused, entered-inside, context-yes, context-no}
 
 pub is-context-spec : {M : Type 1} → statement M
 is-context-spec =
@@ -11,10 +11,33 @@ is-context-spec =
     (tie.spec
     (λ c κs. search needs)
     (λ c. search needs)
-    (λ c. entered-inside (entered (c .before .before .before .before .before .before .args .c .now) (c .before .before .before .before .before .before .args .name) (c .before .before .before .before .entry-place .result) (c .before .before .before .before .entry-place .ensures) (c .before .before .place .given .0 .0) (c .before .before .place .given .0 .1 .0) (c .before .before .place .given .1)))
+    (λ c.
+    let c4 = c .before .before .before .before in
+    let place = c .before .before .place .given in
+    entered-inside
+    (entered (c4 .before .before .args .c .now) (c4 .before .before .args .name) (c4 .entry-place .result) (c4 .entry-place .ensures) (place .0 .0)
+    (place .0 .1 .0) (place .1)))
     (λ c. search needs)
     (λ c. search needs)
-    (λ c. context-yes (entered (c .before .before .before .before .before .before .before .args .c .now) (c .before .before .before .before .before .before .before .args .name) (c .before .before .before .before .before .entry-place .result) (c .before .before .before .before .before .entry-place .ensures) (c .before .before .before .place .given .0 .0) (c .before .before .before .place .given .0 .1 .0) (c .before .before .before .place .given .1)) (c .if1 .taken))
-    (λ c. context-no (entered (c .before .before .before .before .before .before .before .args .c .now) (c .before .before .before .before .before .before .before .args .name) (c .before .before .before .before .before .entry-place .result) (c .before .before .before .before .before .entry-place .ensures) (c .before .before .before .place .given .0 .0) (c .before .before .before .place .given .0 .1 .0) (c .before .before .before .place .given .1)) (c .if1 .left))
-    (λ c. entered-none (c .before .before .before .before .args .c .now) (c .before .before .before .before .args .name) (c .before .before .entry-place .result) (c .before .before .entry-place .ensures) (c .enum-told .given .1))
-    (λ c. entered-refused (c .before .before .before .before .before .args .c .now) (c .before .before .before .before .before .args .name) (c .before .before .before .entry-place .result) (c .before .before .before .entry-place .ensures) (c .before .n .given .0 .0) (c .before .n .given .1)))
+    (λ c.
+    let c3 = c .before .before .before in
+    let c5 = c3 .before .before in
+    context-yes
+    (entered (c5 .before .before .args .c .now) (c5 .before .before .args .name) (c5 .entry-place .result) (c5 .entry-place .ensures)
+    (c3 .place .given .0 .0) (c3 .place .given .0 .1 .0) (c3 .place .given .1))
+    (c .if1 .taken))
+    (λ c.
+    let c3 = c .before .before .before in
+    let c5 = c3 .before .before in
+    context-no
+    (entered (c5 .before .before .args .c .now) (c5 .before .before .args .name) (c5 .entry-place .result) (c5 .entry-place .ensures)
+    (c3 .place .given .0 .0) (c3 .place .given .0 .1 .0) (c3 .place .given .1))
+    (c .if1 .left))
+    (λ c.
+    let c2 = c .before .before in
+    entered-none (c2 .before .before .args .c .now) (c2 .before .before .args .name) (c2 .entry-place .result) (c2 .entry-place .ensures)
+    (c .enum-told .given .1))
+    (λ c.
+    let c3 = c .before .before .before in
+    entered-refused (c3 .before .before .args .c .now) (c3 .before .before .args .name) (c3 .entry-place .result) (c3 .entry-place .ensures)
+    (c .before .n .given .0 .0) (c .before .n .given .1)))

@@ -1,10 +1,10 @@
--- `paths::search_deep` meets its contract.
+-- `paths::search_deep` meets its contract: the place that was found holds the value's bytes, and that part is lent.
 -- Assumes nothing.
 use borrow.Author.Needs.{needs}
 use Rattle.paths.proofs.search_deep.Statement.{statement}
 use Rattle.paths.proofs.search_deep.Tie as tie
 use Rattle.form.proofs.Whole.{bytes-of}
-use Rattle.paths.proofs.Calling.{stand-deep, lend-within, lent}
+use Rattle.paths.proofs.CallContracts.{stand-deep, lend-within, lent}
 use Rattle.paths.specs.Places.{found}
 use Rattle.paths.specs.Calls.{searchDeepCall}
 
@@ -19,8 +19,8 @@ search-deep-spec =
     (stand-deep (args .c .now) (args .path .now) (bytes-of (args .c .now) (c .before .before .before .shared-slice-known .given)))
     (c .before .search-place .ensures))
     (λ c.
-    let args = c .before .before .before .before .before .args in
-    lent (args .c) (searchDeepCall (args .c .now) (args .path .now)) (found (c .before .before .search-place .result)) _ _
-    (stand-deep (args .c .now) (args .path .now) (bytes-of (args .c .now) (c .before .before .before .before .shared-slice-known .given)))
-    (c .before .before .search-place .ensures)
+    let c2 = c .before .before in
+    let args = c2 .before .before .before .args in
+    lent (args .c) (searchDeepCall (args .c .now) (args .path .now)) (found (c2 .search-place .result)) _ _
+    (stand-deep (args .c .now) (args .path .now) (bytes-of (args .c .now) (c2 .before .before .shared-slice-known .given))) (c2 .search-place .ensures)
     (c .lend .ensures)))

@@ -7,4 +7,9 @@ use Rattle.ranges.proofs.Questions.{interval-refused, interval-done, od
 use Rattle.ranges.specs.Ranges as ranges
 
 pub undefined-spec : {M : Type 1} → statement M
-undefined-spec = tie.close (tie.spec (λ c. interval-refused ranges.undefined (c .if1 .taken)) (λ c κs. search needs) (λ c. interval-done ranges.undefined (c .before .if1 .left) (rw (odd-is (c .before .before .args .i) (c .before .if1 .left)) (c .answer .ensures))))
+undefined-spec =
+    tie.close
+    (tie.spec
+    (λ c. interval-refused ranges.undefined (c .if1 .taken))
+    (λ c κs. search needs)
+    (λ c. interval-done ranges.undefined (c .before .if1 .left) (rw (odd-is (c .before .before .args .i) (c .before .if1 .left)) (c .answer .ensures))))

@@ -1,18 +1,14 @@
--- `retrieval::get_conformant_value` meets its contract.
+-- `retrieval::get_conformant_value` meets its contract: of a value that conforms both calls answer alike; otherwise there is a refusal or null.
 -- Assumes nothing.
 use borrow.Author.Needs.{needs}
 use Rattle.retrieval.proofs.get_conformant_value.Statement.{statement}
 use Rattle.retrieval.proofs.get_conformant_value.Tie as tie
-use Rattle.retrieval.proofs.get_conformant_value.Reads as reads
-use Rattle.retrieval.proofs.get_conformant_value.Lts as lts
-use Rattle.retrieval.proofs.give_nothing.Reads as give-nothing-reads
-use Rattle.retrieval.proofs.write_retrieved.Reads as write-retrieved-reads
-use Rattle.values.proofs.passes.Reads as passes-reads
 use mathlib.Core.Path.{sym, _∙_, subst}
 use lib.ListN.{length}
 use Rattle.form.specs.Answers.{Built}
 use Rattle.form.proofs.Whole.{bytes-of}
-use Rattle.retrieval.proofs.Calling.{passed, is-conformant}
+use Rattle.values.proofs.CallContracts.{passed}
+use Rattle.retrieval.proofs.CallContracts.{is-conformant}
 
 pub get-conformant-value-spec : {M : Type 1} → statement M
 get-conformant-value-spec =

@@ -1,40 +1,31 @@
--- A yes of the one pass is the answer; without it the readers give the refusals, and then the answer is no.
+-- `types::is_conformant` meets its contract: a yes of the one pass is the answer; without it the readers give the refusals, and then the answer is no.
 -- Assumes nothing.
 use borrow.Author.Needs.{needs}
 use Rattle.types.proofs.is_conformant.Statement.{statement}
 use Rattle.types.proofs.is_conformant.Tie as tie
-use Rattle.types.proofs.is_conformant.Reads as reads
-use Rattle.types.proofs.is_conformant.Lts as lts
-use Rattle.form.proofs.check_type.Reads as check-type-reads
-use Rattle.types.proofs.passes.Reads as passes-reads
 use Rattle.order.specs.Order.{fixed}
 use Rattle.order.specs.Types.{le}
 use mathlib.Core.Path.{sym, _∙_}
 use Rattle.form.specs.Read.{readType}
 use Rattle.types.specs.Calls.{isConformant}
-use Rattle.types.proofs.Asking.{first-refused, second-refused, asked-yes, asked-no}
-use Rattle.types.proofs.Calling.{was-refused, was-accepted}
+use Rattle.types.proofs.TwoArguments.{first-refused, second-refused, asked-yes, asked-no}
+use Rattle.types.proofs.CallContracts.{was-refused, was-accepted}
 
--- src/lib.rt:259:8
 passes-requires : tie.Need-passes-requires
 passes-requires c κs = search needs
 
--- src/lib.rt:260:9
 returns : tie.Need-returns
 returns c =
     let args = c .before .before .before .before .args in
     asked-yes (isConformant (args .a .now) (args .b .now))
     (sym (c .if1 .taken) ∙ c .before .passes .ensures)
 
--- src/lib.rt:262:34
 check-type-requires : tie.Need-check-type-requires
 check-type-requires c κs = search needs
 
--- src/lib.rt:262:29
 enum-known-n : tie.Need-enum-known-n
 enum-known-n c = search needs
 
--- src/lib.rt:263:9
 returns-2 : tie.Need-returns-2
 unfolding isConformant
 returns-2 c =
@@ -47,15 +38,12 @@ returns-2 c =
 enum-told : tie.Need-enum-told
 enum-told c = search needs
 
--- src/lib.rt:265:34
 check-type-requires-2 : tie.Need-check-type-requires-2
 check-type-requires-2 c κs = search needs
 
--- src/lib.rt:265:29
 enum-known-n-2 : tie.Need-enum-known-n-2
 enum-known-n-2 c = search needs
 
--- src/lib.rt:266:9
 returns-3 : tie.Need-returns-3
 unfolding isConformant
 returns-3 c =
@@ -71,7 +59,6 @@ returns-3 c =
 enum-told-2 : tie.Need-enum-told-2
 enum-told-2 c = search needs
 
--- src/lib.rt:256:1
 returns-4 : tie.Need-returns-4
 unfolding isConformant
 returns-4 c =

@@ -1,42 +1,32 @@
--- A yes of the one pass is the answer; without it the readers give the refusals, and then the answer is no.
+-- `values::is_conformant` meets its contract: a yes of the one pass is the answer; without it the readers give the refusals, and then the answer is no.
 -- Assumes nothing.
 use borrow.Author.Needs.{needs}
 use Rattle.values.proofs.is_conformant.Statement.{statement}
 use Rattle.values.proofs.is_conformant.Tie as tie
-use Rattle.values.proofs.is_conformant.Reads as reads
-use Rattle.values.proofs.is_conformant.Lts as lts
-use Rattle.form.proofs.check_type.Reads as check-type-reads
-use Rattle.form.proofs.check_value.Reads as check-value-reads
-use Rattle.values.proofs.passes.Reads as passes-reads
 use mathlib.Core.Path.{sym, _∙_}
 use Rattle.form.specs.Read.{readType}
 use Rattle.form.proofs.Whole.{bytes-of}
 use Rattle.order.specs.Inferred.{valueConformsTo}
-use Rattle.types.proofs.Asking.{first-refused, second-refused, asked-yes, asked-no}
-use Rattle.types.proofs.Calling.{was-refused, was-accepted}
+use Rattle.types.proofs.TwoArguments.{first-refused, second-refused, asked-yes, asked-no}
+use Rattle.types.proofs.CallContracts.{was-refused, was-accepted}
 use Rattle.values.specs.Calls.{isConformant}
-use Rattle.values.proofs.Calling.{value-refused, value-accepted}
+use Rattle.values.proofs.CallContracts.{value-refused, value-accepted}
 
--- src/lib.rt:325:8
 passes-requires : tie.Need-passes-requires
 passes-requires c κs = search needs
 
--- src/lib.rt:326:9
 returns : tie.Need-returns
 returns c =
     let args = c .before .before .before .before .args in
     asked-yes (isConformant (args .v .now) (args .t .now))
     (sym (c .if1 .taken) ∙ c .before .passes .ensures)
 
--- src/lib.rt:328:34
 check-value-requires : tie.Need-check-value-requires
 check-value-requires c κs = search needs
 
--- src/lib.rt:328:29
 enum-known-n : tie.Need-enum-known-n
 enum-known-n c = search needs
 
--- src/lib.rt:329:9
 returns-2 : tie.Need-returns-2
 unfolding isConformant
 returns-2 c =
@@ -49,15 +39,12 @@ returns-2 c =
 enum-told : tie.Need-enum-told
 enum-told c = search needs
 
--- src/lib.rt:331:34
 check-type-requires : tie.Need-check-type-requires
 check-type-requires c κs = search needs
 
--- src/lib.rt:331:29
 enum-known-n-2 : tie.Need-enum-known-n-2
 enum-known-n-2 c = search needs
 
--- src/lib.rt:332:9
 returns-3 : tie.Need-returns-3
 unfolding isConformant
 returns-3 c =
@@ -75,7 +62,6 @@ returns-3 c =
 enum-told-2 : tie.Need-enum-told-2
 enum-told-2 c = search needs
 
--- src/lib.rt:322:1
 returns-4 : tie.Need-returns-4
 unfolding isConformant
 returns-4 c =

@@ -1,16 +1,14 @@
--- `verdicts::read_files` is safe and ends: the measure is the number of files left; what is lent keeps its lengths. Assumes nothing.
+-- `verdicts::read_files` is safe and ends: the measure is the number of files left. Assumes nothing.
 use borrow.Author.Needs.{needs}
 use Rattle.verdicts.proofs.read_files.Statement.{statement}
 use Rattle.verdicts.proofs.read_files.Tie as tie
 use Prim.Native.Nat.{_≤_, _-_}
-use lib.ListN.{length}
-use mathlib.Core.Path.{_≡_}
 
 abbrev Inv-loop : tie.InvT-loop
-Inv-loop count path₀ chunk₀ data₀ word₀ scratch₀ built₀ buf₀ r₀ i₀ path chunk «data» word scratch built buf r i = (length path ≡ length path₀) × (length chunk ≡ length chunk₀) × (length «data» ≡ length data₀) × (length word ≡ length word₀) × (length scratch ≡ length scratch₀) × (length built ≡ length built₀) × (length buf ≡ length buf₀)
+Inv-loop data₀ built₀ buf₀ count «end» r₀ i₀ «data» built buf r i = 0 ≤ i
 
 abbrev μ-loop : tie.MeasureT-loop
-μ-loop count path₀ chunk₀ data₀ word₀ scratch₀ built₀ buf₀ r₀ i₀ path chunk «data» word scratch built buf r i = count - i
+μ-loop data₀ built₀ buf₀ count «end» r₀ i₀ «data» built buf r i = «end» - i
 
 pub read-files-spec : {M : Type 1} → statement M
 read-files-spec =
@@ -18,16 +16,12 @@ read-files-spec =
     (tie.spec
     Inv-loop
     μ-loop
-    (λ c. search needs)
-    (λ c. search needs)
+    (λ c κs. search needs)
+    (λ c κs. search needs)
     (λ c κs. search needs)
     (λ c. search needs)
     (λ c. search needs)
-    (λ c. search needs)
-    (λ c. search needs)
-    (λ c. search needs)
-    (λ c. search needs)
-    (λ c. search needs)
+    (λ c κs. search needs)
     (λ c. search needs)
     (λ c. search needs)
     (λ c. search needs))

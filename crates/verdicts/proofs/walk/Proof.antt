@@ -1,16 +1,15 @@
--- `verdicts::walk` is safe and ends: each turn goes on; what is lent keeps its lengths. Assumes nothing.
+-- `verdicts::walk` is safe and ends: each turn goes on. Assumes nothing.
 use borrow.Author.Needs.{needs}
 use Rattle.verdicts.proofs.walk.Statement.{statement}
 use Rattle.verdicts.proofs.walk.Tie as tie
 use Prim.Native.Nat.{_≤_, _-_}
 use lib.ListN.{length}
-use mathlib.Core.Path.{_≡_}
 
 abbrev Inv-loop : tie.InvT-loop
-Inv-loop text name data₀ word₀ scratch₀ built₀ buf₀ r₀ at₀ «data» word scratch built buf r at = (length «data» ≡ length data₀) × (length word ≡ length word₀) × (length scratch ≡ length scratch₀) × (length built ≡ length built₀) × (length buf ≡ length buf₀)
+Inv-loop text name data₀ built₀ buf₀ r₀ at₀ «data» built buf r at = 0 ≤ at
 
 abbrev μ-loop : tie.MeasureT-loop
-μ-loop text name data₀ word₀ scratch₀ built₀ buf₀ r₀ at₀ «data» word scratch built buf r at = length text - at
+μ-loop text name data₀ built₀ buf₀ r₀ at₀ «data» built buf r at = length text - at
 
 pub walk-spec : {M : Type 1} → statement M
 walk-spec =
@@ -20,11 +19,6 @@ walk-spec =
     μ-loop
     (λ c. search needs)
     (λ c κs. search needs)
-    (λ c. search needs)
-    (λ c. search needs)
-    (λ c. search needs)
-    (λ c. search needs)
-    (λ c. search needs)
     (λ c. search needs)
     (λ c. search needs)
     (λ c. search needs))

@@ -10,13 +10,9 @@ ask-line-spec =
     tie.close
     (tie.spec
     (λ c κs. search needs)
-    (λ c p q r. absurd (c .if1 .taken (c .before .before .close .ensures p .0 ∙ q)))
+    (λ c κs. search needs)
+    (λ c p q r. absurd (c .before .if1 .taken (c .before .before .before .close .ensures p .0 ∙ q)))
     (λ c. search needs)
     (λ c κs. search needs)
     (λ c. search needs)
-    (λ c κs. search needs)
-    (λ c. search needs)
-    (λ c. search needs)
-    (λ c. search needs)
-    (λ c p q r. absurd (c .before .before .before .before .before .before .before .before .before .before .before .if2 .left (c .before .before .before .before .before .before .before .before .before .before .before .before .before .before .before .close .ensures p .1 ∙ r)))
     (λ c p q r. absurd (c .before .before .before .before .if2 .left (c .before .before .before .before .before .before .before .before .close .ensures p .1 ∙ r))))

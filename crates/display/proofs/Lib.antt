@@ -1,0 +1,10 @@
+pub mod Tables
+pub mod Texts
+pub mod Marks
+pub mod ShowPieces
+pub mod ShowContract
+pub mod ShowNodes
+pub mod ShowFields
+pub mod ShowSigs
+pub mod DisplayCall
+pub mod Theorems

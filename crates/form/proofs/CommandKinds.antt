@@ -1,0 +1,183 @@
+-- A command byte, told by its kind: which bytes are of a kind, and how many operand bytes a command has.
+-- Idea: one view of every byte (`view`); all else is read off it.
+-- Index: `View`, `ViewV`, `ViewT`, `view` (the view); `kind-simple`, `kind-temporal` (ranges of commands); `width-is`, `there`, `arm` (operands of an arm);
+-- `flag-width`, `key-width`, `sized-leaf`, `sized-none`, `leaf-wide`, `leaf-command` (the size of a leaf of data).
+-- Assumes nothing.
+use Prim.Native.Nat.{ℕ, zero, suc, _+_, _<_, _≤_}
+use mathlib.Core.Path.{_≡_, refl, sym, ap, _∙_}
+use mathlib.Core.Bool.{Bool, true, false}
+use native.Mathlib.Omega.{arith}
+use lib.Dec.{ltb, eqb}
+use borrow.Author.Tests.{ltb-false, ltb-true, eqb-true, eqb-false, lt-ltb, le-ltb}
+use Rattle.form.specs.Outcome.{pick}
+use Rattle.form.specs.Layout.{ValueKind, kNull, kBoolean, kNumber, kString, kTemporal, kRange, kList, kContext, kDefinition, kBuiltIn, kType, kIrrelevant, TypeKind, tSimple, tList, tRange}
+use Rattle.form.specs.Layout.{tContext, tFunction, Kind, ofValue, ofType, noCommand, kindOf, operands, operandsV, slot, widthOf}
+
+pub data ViewV (b : ℕ) : ValueKind → Type 0 where
+  isNull : b ≡ 0x00 → ViewV b kNull
+  isBoolean : b ≡ 0x01 → ViewV b kBoolean
+  isNumber : b ≡ 0x02 → ViewV b kNumber
+  isString : b ≡ 0x03 → ViewV b kString
+  isTemporal : 0x04 ≤ b → b < 0x09 → ViewV b kTemporal
+  isRange : b ≡ 0x09 → ViewV b kRange
+  isList : b ≡ 0x0A → ViewV b kList
+  isContext : b ≡ 0x0B → ViewV b kContext
+  isDefinition : b ≡ 0x0C → ViewV b kDefinition
+  isBuiltIn : b ≡ 0x0D → ViewV b kBuiltIn
+  isFeelType : b ≡ 0x0E → ViewV b kType
+  isIrrelevant : b ≡ 0x0F → ViewV b kIrrelevant
+
+pub data ViewT (b : ℕ) : TypeKind → Type 0 where
+  isSimpleT : 0x20 ≤ b → b < 0x2A → ViewT b tSimple
+  isListT : b ≡ 0x2A → ViewT b tList
+  isRangeT : b ≡ 0x2B → ViewT b tRange
+  isContextT : b ≡ 0x2C → ViewT b tContext
+  isFunctionT : b ≡ 0x2D → ViewT b tFunction
+
+pub data View (b : ℕ) : Kind → Type 0 where
+  isValue : (k : ValueKind) → ViewV b k → View b (ofValue k)
+  isType : (k : TypeKind) → ViewT b k → View b (ofType k)
+  isGap : 0x10 ≤ b → b < 0x20 → View b noCommand
+  isBeyond : 0x2E ≤ b → View b noCommand
+
+pick-view : (b : ℕ) (x : Bool) (j k : Kind) → (x ≡ true → View b j) → (x ≡ false → View b k) → View b (pick x j k)
+pick-view b true j k f g = f refl
+pick-view b false j k f g = g refl
+
+past : (b k : ℕ) → k ≤ b → eqb b k ≡ false → k + 1 ≤ b
+past b k h e = let n = eqb-false b k e in omega arith
+
+pub view : (b : ℕ) → View b (kindOf b)
+unfolding kindOf
+view b =
+    pick-view b (eqb b 0) _ _ (λ e. isValue kNull (isNull (eqb-true b 0 e))) (λ n. let p1 : 1 ≤ b = past b 0 (omega arith) n in
+    pick-view b (eqb b 1) _ _ (λ e. isValue kBoolean (isBoolean (eqb-true b 1 e))) (λ n. let p2 : 2 ≤ b = past b 1 p1 n in
+    pick-view b (eqb b 2) _ _ (λ e. isValue kNumber (isNumber (eqb-true b 2 e))) (λ n. let p3 : 3 ≤ b = past b 2 p2 n in
+    pick-view b (eqb b 3) _ _ (λ e. isValue kString (isString (eqb-true b 3 e))) (λ n. let p4 : 4 ≤ b = past b 3 p3 n in
+    pick-view b (ltb b 9) _ _ (λ e. isValue kTemporal (isTemporal p4 (ltb-true b 9 e))) (λ n. let p9 : 9 ≤ b = ltb-false b 9 n in
+    pick-view b (eqb b 9) _ _ (λ e. isValue kRange (isRange (eqb-true b 9 e))) (λ n. let p10 : 10 ≤ b = past b 9 p9 n in
+    pick-view b (eqb b 10) _ _ (λ e. isValue kList (isList (eqb-true b 10 e))) (λ n. let p11 : 11 ≤ b = past b 10 p10 n in
+    pick-view b (eqb b 11) _ _ (λ e. isValue kContext (isContext (eqb-true b 11 e))) (λ n. let p12 : 12 ≤ b = past b 11 p11 n in
+    pick-view b (eqb b 12) _ _ (λ e. isValue kDefinition (isDefinition (eqb-true b 12 e))) (λ n. let p13 : 13 ≤ b = past b 12 p12 n in
+    pick-view b (eqb b 13) _ _ (λ e. isValue kBuiltIn (isBuiltIn (eqb-true b 13 e))) (λ n. let p14 : 14 ≤ b = past b 13 p13 n in
+    pick-view b (eqb b 14) _ _ (λ e. isValue kType (isFeelType (eqb-true b 14 e))) (λ n. let p15 : 15 ≤ b = past b 14 p14 n in
+    pick-view b (eqb b 15) _ _ (λ e. isValue kIrrelevant (isIrrelevant (eqb-true b 15 e))) (λ n. let p16 : 16 ≤ b = past b 15 p15 n in
+    pick-view b (ltb b 32) _ _ (λ e. isGap p16 (ltb-true b 32 e)) (λ n. let p32 : 32 ≤ b = ltb-false b 32 n in
+    pick-view b (ltb b 42) _ _ (λ e. isType tSimple (isSimpleT p32 (ltb-true b 42 e))) (λ n. let p42 : 42 ≤ b = ltb-false b 42 n in
+    pick-view b (eqb b 42) _ _ (λ e. isType tList (isListT (eqb-true b 42 e))) (λ n. let p43 : 43 ≤ b = past b 42 p42 n in
+    pick-view b (eqb b 43) _ _ (λ e. isType tRange (isRangeT (eqb-true b 43 e))) (λ n. let p44 : 44 ≤ b = past b 43 p43 n in
+    pick-view b (eqb b 44) _ _ (λ e. isType tContext (isContextT (eqb-true b 44 e))) (λ n. let p45 : 45 ≤ b = past b 44 p44 n in
+    pick-view b (eqb b 45) _ _ (λ e. isType tFunction (isFunctionT (eqb-true b 45 e))) (λ n. let p46 : 46 ≤ b = past b 45 p45 n in
+    isBeyond p46))))))))))))))))))
+
+-- the bounds of the two halves
+pub value-below : (b : ℕ) (k : ValueKind) → ViewV b k → b < 0x10
+value-below b k (isNull e) = omega arith
+value-below b k (isBoolean e) = omega arith
+value-below b k (isNumber e) = omega arith
+value-below b k (isString e) = omega arith
+value-below b k (isTemporal p q) = omega arith
+value-below b k (isRange e) = omega arith
+value-below b k (isList e) = omega arith
+value-below b k (isContext e) = omega arith
+value-below b k (isDefinition e) = omega arith
+value-below b k (isBuiltIn e) = omega arith
+value-below b k (isFeelType e) = omega arith
+value-below b k (isIrrelevant e) = omega arith
+
+pub type-within : (b : ℕ) (k : TypeKind) → ViewT b k → (0x20 ≤ b) × (b < 0x2E)
+type-within b k (isSimpleT p q) = (omega arith, omega arith)
+type-within b k (isListT e) = (omega arith, omega arith)
+type-within b k (isRangeT e) = (omega arith, omega arith)
+type-within b k (isContextT e) = (omega arith, omega arith)
+type-within b k (isFunctionT e) = (omega arith, omega arith)
+
+-- by the byte: the ranges of commands
+simple-of : (b : ℕ) (k : TypeKind) → ViewT b k → b < 0x2A → ofType k ≡ ofType tSimple
+simple-of b k (isSimpleT p q) h = refl
+simple-of b k (isListT e) h = absurd (omega arith)
+simple-of b k (isRangeT e) h = absurd (omega arith)
+simple-of b k (isContextT e) h = absurd (omega arith)
+simple-of b k (isFunctionT e) h = absurd (omega arith)
+
+temporal-of : (b : ℕ) (k : ValueKind) → ViewV b k → 0x04 ≤ b → b < 0x09 → ofValue k ≡ ofValue kTemporal
+temporal-of b k (isNull e) h i = absurd (omega arith)
+temporal-of b k (isBoolean e) h i = absurd (omega arith)
+temporal-of b k (isNumber e) h i = absurd (omega arith)
+temporal-of b k (isString e) h i = absurd (omega arith)
+temporal-of b k (isTemporal p q) h i = refl
+temporal-of b k (isRange e) h i = absurd (omega arith)
+temporal-of b k (isList e) h i = absurd (omega arith)
+temporal-of b k (isContext e) h i = absurd (omega arith)
+temporal-of b k (isDefinition e) h i = absurd (omega arith)
+temporal-of b k (isBuiltIn e) h i = absurd (omega arith)
+temporal-of b k (isFeelType e) h i = absurd (omega arith)
+temporal-of b k (isIrrelevant e) h i = absurd (omega arith)
+
+simple-view : (b : ℕ) (j : Kind) → View b j → 0x20 ≤ b → b < 0x2A → j ≡ ofType tSimple
+simple-view b j (isValue k v) h i = absurd (omega (arith, value-below b k v))
+simple-view b j (isType k v) h i = simple-of b k v i
+simple-view b j (isGap p q) h i = absurd (omega arith)
+simple-view b j (isBeyond p) h i = absurd (omega arith)
+
+pub kind-simple : (b : ℕ) → 0x20 ≤ b → b < 0x2A → kindOf b ≡ ofType tSimple
+kind-simple b h i = simple-view b (kindOf b) (view b) h i
+
+temporal-view : (b : ℕ) (j : Kind) → View b j → 0x04 ≤ b → b < 0x09 → j ≡ ofValue kTemporal
+temporal-view b j (isValue k v) h i = temporal-of b k v h i
+temporal-view b j (isType k v) h i = absurd (omega (arith, type-within b k v))
+temporal-view b j (isGap p q) h i = absurd (omega arith)
+temporal-view b j (isBeyond p) h i = absurd (omega arith)
+
+pub kind-temporal : (b : ℕ) → 0x04 ≤ b → b < 0x09 → kindOf b ≡ ofValue kTemporal
+kind-temporal b h i = temporal-view b (kindOf b) (view b) h i
+
+beyond-view : (b : ℕ) (j : Kind) → View b j → 0x2E ≤ b → j ≡ noCommand
+beyond-view b j (isValue k v) h = absurd (omega (arith, value-below b k v))
+beyond-view b j (isType k v) h = absurd (omega (arith, type-within b k v))
+beyond-view b j (isGap p q) h = refl
+beyond-view b j (isBeyond p) h = refl
+
+pub width-beyond : (b : ℕ) → 0x2E ≤ b → widthOf b ≡ 255
+unfolding widthOf operands
+width-beyond b h = rw (beyond-view b (kindOf b) (view b) h)
+
+-- the operands that the table says are there
+pub there : (b n : ℕ) (k : Kind) → kindOf b ≡ k → widthOf b ≤ n → slot (operands k) ≤ n
+unfolding widthOf
+there b n k e h = rw e at h
+
+pub width-is : (b : ℕ) (k : Kind) → kindOf b ≡ k → widthOf b ≡ slot (operands k)
+unfolding widthOf
+width-is b k e = rw e
+
+-- an arm of a match over the command
+pub arm : (b c n : ℕ) (k : Kind) → b ≡ c → kindOf c ≡ k → widthOf b ≤ n → (kindOf b ≡ k) × (slot (operands k) ≤ n)
+arm b c n k e f h = (ap kindOf e ∙ f, there b n k (ap kindOf e ∙ f) h)
+
+-- ---- the size of a leaf of data by its command
+pub flag-width : (c : ℕ) → c < 2 → widthOf c ≡ 1
+unfolding widthOf kindOf operands operandsV
+flag-width zero h = refl
+flag-width (suc zero) h = refl
+flag-width (suc (suc c)) h = absurd (omega arith)
+
+pub key-width : (c : ℕ) → 4 ≤ c → c < 9 → widthOf c ≡ 8
+unfolding operands operandsV
+key-width c h i = width-is c (ofValue kTemporal) (kind-temporal c h i)
+
+pub sized-leaf : (c n : ℕ) → c < 9 → widthOf c + 1 ≡ n → n ≡ pick (ltb c 9) (widthOf c + 1) 0
+sized-leaf c n h e = rw (lt-ltb c 9 h) (sym e)
+
+pub sized-none : (c : ℕ) → 9 ≤ c → 0 ≡ pick (ltb c 9) (widthOf c + 1) 0
+sized-none c h = rw (le-ltb c 9 h)
+
+pub leaf-wide : (c n : ℕ) → n ≡ pick (ltb c 9) (widthOf c + 1) 0 → c < 9 → n ≡ widthOf c + 1
+leaf-wide c n e h = rw (lt-ltb c 9 h) at e
+
+pub leaf-command : (c n : ℕ) → n ≡ pick (ltb c 9) (widthOf c + 1) 0 → 0 < n → (c < 9) × (n ≡ widthOf c + 1)
+leaf-command c n e z = go (ltb c 9) refl
+  where
+    go : (t : Bool) → ltb c 9 ≡ t → (c < 9) × (n ≡ widthOf c + 1)
+    go true q = (ltb-true c 9 q, rw q at e)
+    go false q = absurd (let f = rw q at e in omega arith)

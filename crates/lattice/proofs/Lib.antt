@@ -1,0 +1,4 @@
+pub mod Branches
+pub mod SortedMerge
+pub mod SignatureLoop
+pub mod BoundTrees

@@ -1,0 +1,76 @@
+-- What the builders of a common supertype (`up`) or subtype (`down`) ask and leave: of two types, of the entries of two contexts,
+-- of two functions.
+-- Assumes nothing.
+use mathlib.Core.Path.{_≡_}
+use mathlib.Core.Bool.{Bool, true, false}
+use mathlib.Core.Option.{Option, none, some}
+use mathlib.Core.List.{List, _++_}
+use Prim.Native.Nat.{ℕ, _≤_}
+use Rattle.form.specs.Trees.{Ty, Fields}
+use Rattle.form.specs.Form.{enc, encFields, encTys, countFields}
+use Rattle.form.specs.Answers.{onto}
+use Rattle.order.specs.Order.{Dir, up, down, flip, pick, fixed}
+use Rattle.order.specs.Types.{reduce, reduceFields, reduceTys, bound, bounds, intersectWith, merge}
+use Rattle.order.specs.Size.{size, sizeFields}
+use Rattle.types.specs.At.{Sig, sig, sizeSig}
+
+-- the direction of a call
+abbrev pub toward : Bool → Dir
+toward true = up
+toward false = down
+
+-- ---- the answers
+abbrev pub answer : Dir → Ty → Ty → Ty
+answer d t u = reduce fixed (bound fixed d t u)
+
+abbrev pub answerFields : Dir → Fields → Fields → Fields
+answerFields d fs gs = reduceFields fixed (pick d (intersectWith fixed fs gs) (merge fixed fs gs))
+
+unfoldable pub answerSig : Dir → Sig → Sig → Sig
+answerSig d (sig ps r) (sig qs s) = sig (reduceTys fixed (bounds fixed (flip d) ps qs)) (answer d r s)
+
+unfoldable pub encSig : Sig → List ℕ
+encSig (sig ps r) = encTys ps ++ enc r
+
+-- ---- a way to take two things together: the answer, its size, its bytes
+pub record Joining (X : Type 0) : Type 0 where
+  pub join : X → X → X
+  pub sized : X → ℕ
+  pub text : X → List ℕ
+
+abbrev pub ofTypes : Dir → Joining Ty
+ofTypes d = record { join = answer d; sized = size; text = enc }
+
+abbrev pub ofFields : Dir → Joining Fields
+ofFields d = record { join = answerFields d; sized = sizeFields; text = encFields }
+
+abbrev pub ofSigs : Dir → Joining Sig
+ofSigs d = record { join = answerSig d; sized = sizeSig; text = encSig }
+
+-- what the builders ask of an answer: fewer bytes than 16 bits count, so that its names do too (of two accepted types it has at most 32,768)
+abbrev pub mostAnswer : ℕ
+mostAnswer = 65535
+
+-- both are there, and the answer has room
+unfoldable pub Ready : {X : Type 0} → Joining X → Option X → Option X → ℕ → Type 0
+Ready J (some t) (some u) n = (J .sized (J .join t u) ≤ n) × (J .sized (J .join t u) ≤ mostAnswer)
+Ready J (some t) none n = ⊥
+Ready J none y n = ⊥
+
+-- `first` and `second` bytes were read of the two, and the answer's `wrote` bytes are over the front of the output
+pub record Wrote {X : Type 0} (J : Joining X) (t u : X) (old new : List ℕ) (first second wrote : ℕ) : Type 0 where
+  pub one : first ≡ J .sized t
+  pub two : second ≡ J .sized u
+  pub long : wrote ≡ J .sized (J .join t u)
+  pub out : new ≡ onto (J .text (J .join t u)) old
+
+unfoldable pub Combined : {X : Type 0} → Joining X → Option X → Option X → List ℕ → List ℕ → ℕ → ℕ → ℕ → Type 0
+Combined J (some t) (some u) old new first second wrote = Wrote J t u old new first second wrote
+Combined J (some t) none old new first second wrote = Unit {0}
+Combined J none y old new first second wrote = Unit {0}
+
+-- so many entries
+unfoldable pub Counted : Dir → Option Fields → Option Fields → ℕ → Type 0
+Counted d (some fs) (some gs) n = n ≡ countFields (answerFields d fs gs)
+Counted d (some fs) none n = Unit {0}
+Counted d none y n = Unit {0}

@@ -1,0 +1,4 @@
+pub mod OntoLaws
+pub mod Outcomes
+pub mod FillLaws
+pub mod ContextText

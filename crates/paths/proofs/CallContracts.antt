@@ -1,0 +1,372 @@
+-- The calls: refusals in their order, then the answer.
+-- Index: `Opened`, `opened`, `opened-ok`, `is-refused`, `code-refused`, `read-whole` (the context of a call); `refused-value`, `refused-names`, `refused-other`, `refused-not` (`refusal`);
+-- `searched`, `entry-call`, `first-none`, `first-done`, `part-refused`, `call-refused` (calls that find a part); `AllStand`, `stand-deep`, `stand-entry`, `stand-first`, `lend-within`, `lent`
+-- (a part that is lent); `found-deep`, `found-entry`, `len-done`, `empty-yes`, `empty-no`, `Entered`, `entered`, `context-yes`, `context-no` (questions).
+-- Assumes nothing.
+use Prim.Native.Nat.{ℕ, _+_, _-_, _<_, _≤_, _^_}
+use native.Mathlib.Omega.{arith}
+use mathlib.Core.Path.{_≡_, refl, sym, ap, subst, _∙_}
+use mathlib.Core.Bool.{Bool, true, false, true≢false}
+use mathlib.Core.Option.{Option, none, some}
+use mathlib.Core.List.{List, [], _∷_}
+use lib.ListN.{length, getD, take, drop}
+use lib.Dec.{ltb, leb, eqb}
+use denote.Ref.{RefT, now}
+use borrow.Author.Tests.{le-leb, lt-leb}
+use Rattle.form.specs.Limits.{nameWidth, mostBytes, valueLevels, valueRefusals, mostNames}
+use Rattle.form.specs.Trees.{Val, Entries, no-entries, entry}
+use Rattle.form.specs.Form.{numAt, Bytes, encV, countEntries}
+use Rattle.form.specs.Outcome.{Outcome, done, refused, _>>=_, _>>_, pick, check, orRefuse}
+use Rattle.form.specs.Read.{Got, got, bad, readV, numberOf, all, readWhole, readValue}
+use Rattle.form.specs.Faults.{Shape, Names, Level}
+use Rattle.form.specs.Parts.{LiesAt}
+use Rattle.form.proofs.Accepted.{refused-done, whole-got}
+use Rattle.order.specs.Size.{sizeEntries}
+use Rattle.order.proofs.LeastSize.{length-encV}
+use Rattle.types.specs.At.{Ok}
+use Rattle.types.proofs.Reading.{is-ok}
+use Rattle.values.specs.At.{valueAt, entriesAt, sizeAtV}
+use Rattle.values.proofs.Reading.{some-byte, no-entry}
+use Rattle.values.proofs.CallContracts.{Holds}
+use Rattle.paths.specs.Paths.{valueOf, entriesOf, isSome, isContext, isEmpty, getFirst, bind, search, containsDeep, entryPlace, place}
+use Rattle.paths.specs.Places.{wholeAt, contextAt, frontAt, Fills, Spot, spot, Piece, piece, extent, found, extentOf, spotIn, Searches, Clear, isFound}
+use Rattle.paths.specs.Places.{lentBytes, lentCode, lentPlace, Lent, Within, pieceBytes, piecePlace, Lends}
+use Rattle.paths.specs.Calls.{contextOf, searchDeepCall, getEntryCall, getFirstCall, containsDeepCall, containsEntryCall, isContextCall, isEmptyCall, lenCall}
+use Rattle.paths.specs.declared.Found.{Found}
+use Rattle.paths.specs.declared.Found.the-variants as found-is
+use Rattle.paths.proofs.Whole.{is-whole, of-context, Ctx, ctx-of, size-behind, whole-ok, whole-fills}
+use Rattle.paths.proofs.FindLoops.{value-first, below-none}
+use Rattle.paths.proofs.SplitContext.{count-context}
+use Rattle.paths.proofs.PathSearch.{at-context, whole-context, whole-other, contains-deep, Stands, stands-one, stands-at, searches-is, Sight, sight-inside, sight-context, sight-flat}
+use Rattle.form.specs.Options.{map}
+use Rattle.form.proofs.Runs.{behind}
+use Rattle.values.proofs.EntriesAt.{This, this, size-none}
+
+-- ---- a part that was found
+pub clear-part : (f : Found) (k p n : ℕ) → f ≡ found-is.Part p n → Clear k (found f) → k + p < 2 ^ 64
+clear-part f k p n e h = subst (λ z. Clear k (found z)) e h
+
+pub within-part : (f : Found) (c : List ℕ) (p n : ℕ) → f ≡ found-is.Part p n → Within (found f) c → p + n ≤ length c
+within-part f c p n e h = subst (λ z. Within (found z) c) e h
+
+pub lends-part : (f : Found) (c r : RefT (List ℕ)) (p n : ℕ) → f ≡ found-is.Part p n → LiesAt p c r → now r ≡ take (p + n - p) (drop p (now c)) → Lends (found f) c r 0
+lends-part f c r p n e l b =
+    let z : p + n - p ≡ n = omega arith in
+    record {
+      bytes = b ∙ ap (λ (k : ℕ). take k (drop p (now c))) z ∙ sym (ap (λ g. pieceBytes (found g) (now c)) e);
+      lies = subst (λ g. LiesAt (piecePlace (found g)) c r) (sym e) l;
+      status = sym (ap (λ g. lentCode (found g)) e);
+    }
+
+pub lends-empty : (f g : Found) (c r : RefT (List ℕ)) → f ≡ g → Lends (found g) c r (lentCode (found g)) → Lends (found f) c r (lentCode (found g))
+lends-empty f g c r e h = subst (λ z. Lends (found z) c r (lentCode (found g))) (sym e) h
+
+-- ---- the context of a call
+-- no refusal has the number 0
+pub read-refused : (s : List ℕ) (n : ℕ) → readValue s ≡ refused n → 0 < n
+unfolding readWhole _>>_ all numberOf
+read-refused s n e = go (ltb 0 (length s)) (leb (length s) mostBytes) (readV valueLevels s) e
+  where
+    left-over : (v : Val) (q : Bool) → pick q (done v) (refused 5) ≡ refused n → 0 < n
+    left-over v true h = absurd (refused-done (sym h))
+    left-over v false h = let z : 5 ≡ n = cc in omega arith
+
+    go : (a b : Bool) (r : Got Val) → (do check valueRefusals a; check valueRefusals b; all valueRefusals (length s) r) ≡ refused n → 0 < n
+    go false b r h = let z : 1 ≡ n = cc in omega arith
+    go true false r h = let z : 1 ≡ n = cc in omega arith
+    go true true (got v m) h = left-over v (eqb m (length s)) h
+    go true true (bad Shape) h = let z : 2 ≡ n = cc in omega arith
+    go true true (bad Names) h = let z : 3 ≡ n = cc in omega arith
+    go true true (bad Level) h = let z : 4 ≡ n = cc in omega arith
+
+context-refused : (c : List ℕ) (k n : ℕ) → contextOf c k ≡ refused n → 0 < n
+unfolding contextOf _>>=_ _>>_
+context-refused c k n e = go (readValue c) refl e
+  where
+    named : (b : Bool) (o : Option Entries) → (do check 11 b; orRefuse 12 o) ≡ refused n → 0 < n
+    named false o h = let z : 11 ≡ n = cc in omega arith
+    named true none h = let z : 12 ≡ n = cc in omega arith
+    named true (some es) h = absurd (refused-done (sym h))
+
+    go : (o : Outcome Val) → readValue c ≡ o → (do self ← o; check 11 (leb k mostNames); orRefuse 12 (entriesOf self)) ≡ refused n → 0 < n
+    go (refused m) r h = let z : m ≡ n = cc in read-refused c n (r ∙ ap refused z)
+    go (done v) r h = named (leb k mostNames) (entriesOf v) h
+
+pub read-whole : (c : List ℕ) (v : Val) → readValue c ≡ done v → wholeAt valueLevels c ≡ some v
+read-whole c v e = is-whole valueLevels c v (whole-got valueRefusals (readV valueLevels) c v e)
+
+context-done : (c : List ℕ) (k : ℕ) (es : Entries) → contextOf c k ≡ done es → Ctx valueLevels c es
+unfolding contextOf _>>=_ _>>_
+context-done c k es e = go (readValue c) refl e
+  where
+    named : (v : Val) → readValue c ≡ done v → (b : Bool) (o : Option Entries) → entriesOf v ≡ o → (do check 11 b; orRefuse 12 o) ≡ done es → Ctx valueLevels c es
+    named v r false o q h = absurd (refused-done h)
+    named v r true none q h = absurd (refused-done h)
+    named v r true (some fs) q h =
+        let z : fs ≡ es = cc in
+        ctx-of valueLevels c es (at-context valueLevels c v es (read-whole c v r) (of-context v es (q ∙ ap some z)))
+
+    go : (o : Outcome Val) → readValue c ≡ o → (do self ← o; check 11 (leb k mostNames); orRefuse 12 (entriesOf self)) ≡ done es → Ctx valueLevels c es
+    go (refused m) r h = absurd (refused-done h)
+    go (done v) r h = named v r (leb k mostNames) (entriesOf v) refl h
+
+pub record Opened (c : List ℕ) (k : ℕ) : Type 0 where
+  pub es : Entries
+  pub is : contextOf c k ≡ done es
+  pub ctx : Ctx valueLevels c es
+
+-- what `refusal` says
+pub code-refused : {X : Type 0} (o : Outcome X) (n : ℕ) → n ≡ lentCode o → (n ≡ 0 → ⊥) → o ≡ refused n
+code-refused (done x) n e d = absurd (d e)
+code-refused (refused m) n e d = ap refused (sym e)
+
+pub is-refused : (c : List ℕ) (k n : ℕ) → n ≡ lentCode (contextOf c k) → (n ≡ 0 → ⊥) → contextOf c k ≡ refused n
+is-refused c k n e d = code-refused (contextOf c k) n e d
+
+pub opened : (c : List ℕ) (k n : ℕ) → n ≡ lentCode (contextOf c k) → n ≡ 0 → Opened c k
+opened c k n e z = go (contextOf c k) refl
+  where
+    go : (o : Outcome Entries) → contextOf c k ≡ o → Opened c k
+    go (done es) h = record { es = es; is = h; ctx = context-done c k es h }
+    go (refused m) h = absurd (let y : n ≡ m = e ∙ ap lentCode h in omega (arith, y, context-refused c k m h))
+
+pub opened-ok : {c : List ℕ} {k : ℕ} (O : Opened c k) → Ok (contextAt valueLevels c)
+opened-ok {c} O = is-ok (contextAt valueLevels c) (O .es) (O .ctx .read)
+
+pub opened-whole : {c : List ℕ} {k : ℕ} (O : Opened c k) → Ok (frontAt valueLevels c) × Fills true valueLevels c
+opened-whole {c} O = (whole-ok valueLevels c (opened-ok O), whole-fills valueLevels c true (opened-ok O))
+
+-- ---- `refusal`
+pub refused-value : (c : List ℕ) (k n : ℕ) → readValue c ≡ refused n → n ≡ lentCode (contextOf c k)
+unfolding contextOf _>>=_
+refused-value c k n e = rw e
+
+module _ (c : List ℕ) (k : ℕ) (A : Holds c) where
+  pub refused-names : mostNames < k → 11 ≡ lentCode (contextOf c k)
+  unfolding contextOf _>>=_ _>>_
+  refused-names h = rw (A .whole, lt-leb k mostNames h)
+
+  pub held-byte : 0 < length c
+  held-byte = some-byte 32 c (A .v) (A .stands)
+
+  module _ (h : k ≤ mostNames) where
+    pub refused-other : (getD c 0 0 ≡ 11 → ⊥) → 12 ≡ lentCode (contextOf c k)
+    unfolding contextOf _>>=_ _>>_
+    refused-other d = rw (A .whole, le-leb k mostNames h, whole-other valueLevels c (A .v) (read-whole c (A .v) (A .whole)) d)
+
+    pub refused-not : getD c 0 0 ≡ 11 → 0 ≡ lentCode (contextOf c k)
+    unfolding contextOf _>>=_ _>>_
+    refused-not e = let K = whole-context valueLevels c (A .v) (read-whole c (A .v) (A .whole)) e in rw (A .whole, le-leb k mostNames h, K .is)
+
+-- ---- refused calls
+pub part-refused : (o : Outcome Entries) (n : ℕ) (f : Entries → Outcome (Option Spot)) → o ≡ refused n → refused n ≡ extentOf (do es ← o; f es)
+unfolding extentOf _>>=_
+part-refused o n f e = rw e
+
+pub call-refused : {Y : Type 0} (o : Outcome Entries) (n : ℕ) (f : Entries → Outcome Y) → o ≡ refused n → refused n ≡ (do es ← o; f es)
+unfolding _>>=_
+call-refused o n f e = rw e
+
+-- ---- calls that find a part
+part-done : (o : Outcome Entries) (es : Entries) (f : Entries → Option Spot) → o ≡ done es → done (map extent (f es)) ≡ extentOf (do z ← o; done (f z))
+unfolding extentOf _>>=_
+part-done o es f e = rw e
+
+pub searched : (c p : List ℕ) (O : Opened c (length p)) (r : Found) → Searches (frontAt valueLevels c) p r → found r ≡ extentOf (searchDeepCall c p)
+searched c p O r f = searches-is p r (O .ctx .front) f ∙ part-done (contextOf c (length p)) (O .es) (spotIn p) (O .is)
+
+-- one name is a path
+pub entry-call : (c : List ℕ) (n : ℕ) → searchDeepCall c (n ∷ []) ≡ getEntryCall c n
+unfolding contextOf search place
+entry-call c n = refl
+
+abbrev firstSpot : Entries → Option Spot
+firstSpot es = map (spot (3 + nameWidth)) (getFirst es)
+
+module _ (c : List ℕ) (O : Opened c 0) where
+  pub first-none : numAt 2 1 c ≡ 0 → done none ≡ extentOf (getFirstCall c)
+  first-none e =
+      let z : O .es ≡ no-entries = no-entry 30 0 (drop 3 c) (O .es) (ap (λ (k : ℕ). entriesAt 30 k 0 (drop 3 c)) (sym e) ∙ O .ctx .entries) in
+      sym (ap (λ x. done (map extent (firstSpot x))) z) ∙ part-done (contextOf c 0) (O .es) firstSpot (O .is)
+
+  module _ (d : numAt 2 1 c ≡ 0 → ⊥) where
+    first-entry : This 30 (numAt 2 1 c - (0 + 1)) 3 0 c (O .es)
+    first-entry =
+        let z : numAt 2 1 c - 0 ≡ numAt 2 1 c = omega arith in
+        this 30 0 (numAt 2 1 c) 3 0 c (O .es) (omega (arith, d)) (O .ctx .three) (ap (λ (k : ℕ). entriesAt 30 k 0 (drop 3 c)) z ∙ O .ctx .entries)
+
+    pub first-inside : 5 ≤ length c
+    first-inside = omega (arith, first-entry .two)
+
+    pub first-done : (k : ℕ) → k ≡ sizeAtV (valueAt 30 (behind 5 c)) → done (some (piece 5 k)) ≡ extentOf (getFirstCall c)
+    first-done k e =
+        let A = first-entry in
+        let z : k ≡ length (encV (A .v)) = e ∙ size-behind 30 5 c (A .v) (A .first) ∙ sym (length-encV (A .v)) in
+        ap (λ (j : ℕ). done (some (piece 5 j))) z ∙ sym (ap (λ x. done (map extent (firstSpot x))) (A .is)) ∙ part-done (contextOf c 0) (O .es) firstSpot (O .is)
+
+-- ---- a part that is lent
+abbrev pub Standing : List ℕ → Option Spot → Type 0
+Standing c none = Unit {0}
+Standing c (some (spot q v)) = Stands c q v
+
+abbrev pub AllStand : List ℕ → Outcome (Option Spot) → Type 0
+AllStand c (done o) = Standing c o
+AllStand c (refused n) = Unit {0}
+
+standing : (c : List ℕ) (q : ℕ) (o : Option Val) → ((x : Val) → o ≡ some x → Stands c q x) → Standing c (map (spot q) o)
+standing c q none h = tt
+standing c q (some x) h = h x refl
+
+all-stand : (c : List ℕ) (k : ℕ) (f : Entries → Option Spot) → ((es : Entries) → Ctx valueLevels c es → Standing c (f es)) → AllStand c (do es ← contextOf c k; done (f es))
+unfolding _>>=_
+all-stand c k f h = go (contextOf c k) refl
+  where
+    go : (o : Outcome Entries) → contextOf c k ≡ o → AllStand c (do es ← o; done (f es))
+    go (done es) e = h es (context-done c k es e)
+    go (refused n) e = tt
+
+pub stand-deep : (c p : List ℕ) → Bytes c → AllStand c (searchDeepCall c p)
+stand-deep c p bs = all-stand c (length p) (spotIn p) (λ es C. standing c (place p es) (search p es) (λ x. stands-at p valueLevels c es x bs C))
+
+pub stand-entry : (c : List ℕ) (n : ℕ) → Bytes c → AllStand c (getEntryCall c n)
+stand-entry c n bs = subst (AllStand c) (entry-call c n) (stand-deep c (n ∷ []) bs)
+
+pub stand-first : (c : List ℕ) → Bytes c → AllStand c (getFirstCall c)
+stand-first c bs = all-stand c 0 firstSpot first
+  where
+    first : (es : Entries) → Ctx valueLevels c es → Standing c (firstSpot es)
+    first no-entries C = tt
+    first (entry n v es) C =
+        let z : entryPlace n (entry n v es) ≡ 3 = omega (arith, ap sizeEntries (below-none n n v es (omega arith)), size-none) in
+        subst (λ (q : ℕ). Stands c (q + nameWidth) v) z (stands-one valueLevels n c (entry n v es) v bs C (value-first n v es))
+
+stand-within : (c : List ℕ) (o : Outcome (Option Spot)) → AllStand c o → Within (extentOf o) c
+unfolding extentOf _>>=_
+stand-within c (done none) h = tt
+stand-within c (done (some (spot q v))) h = omega (arith, h .within, length-encV v)
+stand-within c (refused n) h = tt
+
+pub lend-within : (c : List ℕ) (o : Outcome (Option Spot)) (x : Outcome (Option Piece)) → AllStand c o → x ≡ extentOf o → Within x c
+lend-within c o x h e = subst (λ z. Within z c) (sym e) (stand-within c o h)
+
+stand-bytes : (c : List ℕ) (o : Outcome (Option Spot)) → AllStand c o → pieceBytes (extentOf o) c ≡ lentBytes o
+unfolding extentOf _>>=_ lentBytes
+stand-bytes c (done none) h = refl
+stand-bytes c (done (some (spot q v))) h = ap (λ (k : ℕ). take k (drop q c)) (length-encV v) ∙ h .text
+stand-bytes c (refused n) h = refl
+
+stand-code : (o : Outcome (Option Spot)) → lentCode (extentOf o) ≡ lentCode o
+unfolding extentOf _>>=_
+stand-code (done s) = refl
+stand-code (refused n) = refl
+
+stand-place : (o : Outcome (Option Spot)) → piecePlace (extentOf o) ≡ lentPlace o
+unfolding extentOf _>>=_ lentPlace
+stand-place (done none) = refl
+stand-place (done (some (spot q v))) = refl
+stand-place (refused n) = refl
+
+pub lent : (c : RefT (List ℕ)) (o : Outcome (Option Spot)) (x : Outcome (Option Piece)) (part : RefT (List ℕ)) (code : ℕ)
+    → AllStand (now c) o → x ≡ extentOf o → Lends x c part code → Lent o c part code
+lent c o x part code h e L = record {
+  bytes = L .bytes ∙ ap (λ z. pieceBytes z (now c)) e ∙ stand-bytes (now c) o h;
+  lies = subst (λ (q : ℕ). LiesAt q c part) (ap piecePlace e ∙ stand-place o) (L .lies);
+  status = L .status ∙ ap lentCode e ∙ stand-code o;
+}
+
+-- ---- whether a part is found
+found-some : (o : Outcome Entries) (q : Entries → ℕ) (g : Entries → Option Val) (b : Entries → Bool) → ((es : Entries) → b es ≡ isSome (g es))
+    → isFound (extentOf (do es ← o; done (map (spot (q es)) (g es)))) ≡ (do es ← o; done (b es))
+unfolding extentOf _>>=_
+found-some (refused n) q g b h = refl
+found-some (done es) q g b h = go (g es) (h es)
+  where
+    go : (v : Option Val) → b es ≡ isSome v → isFound (done (map extent (map (spot (q es)) v))) ≡ done (b es)
+    go none e = ap done (sym e)
+    go (some x) e = ap done (sym e)
+
+pub found-deep : (c p : List ℕ) → isFound (extentOf (searchDeepCall c p)) ≡ containsDeepCall c p
+found-deep c p = found-some (contextOf c (length p)) (place p) (search p) (containsDeep p) (contains-deep p)
+
+pub found-entry : (c : List ℕ) (n : ℕ) → isFound (extentOf (getEntryCall c n)) ≡ containsEntryCall c n
+found-entry c n = found-some (contextOf c 0) (λ es. entryPlace n es + nameWidth) (valueOf n) (λ es. isSome (valueOf n es)) (λ es. refl)
+
+-- ---- questions
+question : {Y : Type 0} (o : Outcome Entries) (es : Entries) (f : Entries → Y) (y : Y) → o ≡ done es → f es ≡ y → done y ≡ (do z ← o; done (f z))
+unfolding _>>=_
+question o es f y e h = rw (e, h)
+
+module _ (c : List ℕ) (O : Opened c 0) (bs : Bytes c) (n : ℕ) (e : n ≡ numAt 2 1 c) where
+  counted : n ≡ countEntries (O .es)
+  counted = e ∙ count-context valueLevels c (O .es) bs (O .ctx)
+
+  pub len-done : done n ≡ lenCall c
+  len-done = question (contextOf c 0) (O .es) countEntries n (O .is) (sym counted)
+
+  pub empty-yes : n ≡ 0 → done true ≡ isEmptyCall c
+  unfolding countEntries
+  empty-yes z = question (contextOf c 0) (O .es) isEmpty true (O .is) (go (O .es) (sym counted ∙ z))
+    where
+      go : (es : Entries) → countEntries es ≡ 0 → isEmpty es ≡ true
+      go no-entries h = refl
+      go (entry m v es) h = absurd (omega arith)
+
+  pub empty-no : (n ≡ 0 → ⊥) → done false ≡ isEmptyCall c
+  unfolding countEntries
+  empty-no d = question (contextOf c 0) (O .es) isEmpty false (O .is) (go (O .es) (λ h. d (counted ∙ h)))
+    where
+      go : (es : Entries) → (countEntries es ≡ 0 → ⊥) → isEmpty es ≡ false
+      go no-entries h = absurd (h refl)
+      go (entry m v es) h = refl
+
+-- ---- `is_context`
+pub record Entered (c : List ℕ) (n at : ℕ) : Type 0 where
+  pub sight : Sight valueLevels c n at false
+  pub is : contextOf c 0 ≡ done (sight .es)
+
+module _ (c : List ℕ) (n : ℕ) (r : Found) (e : found r ≡ extentOf (getEntryCall c n)) where
+  pub entered : (p k : ℕ) → r ≡ found-is.Part p k → Entered c n p
+  unfolding extentOf _>>=_
+  entered p k h = go (contextOf c 0) refl (sym (ap found h) ∙ e)
+    where
+      there : (es : Entries) → contextOf c 0 ≡ done es → (o : Option Val) → valueOf n es ≡ o → done (some (piece p k)) ≡ done (map extent (map (spot (entryPlace n es + nameWidth)) o))
+          → Entered c n p
+      there es i none v q = absurd (let z : _≡_ {A = ℕ} 0 1 = cc in omega arith)
+      there es i (some x) v q =
+          let z : p ≡ entryPlace n es + nameWidth = cc in
+          record { sight = record { es = es; front = context-done c 0 es i .front; told = record { x = x; value = v; start = z; end = λ e. absurd (true≢false (sym e)) } }; is = i }
+
+      go : (o : Outcome Entries) → contextOf c 0 ≡ o → done (some (piece p k)) ≡ extentOf (do es ← o; done (map (spot (entryPlace n es + nameWidth)) (valueOf n es))) → Entered c n p
+      go (done es) i q = there es i (valueOf n es) refl q
+      go (refused m) i q = absurd (refused-done (sym q))
+
+  pub entered-none : r ≡ found-is.None → done false ≡ isContextCall c n
+  unfolding extentOf _>>=_
+  entered-none h = go (contextOf c 0) refl (sym (ap found h) ∙ e)
+    where
+      there : (es : Entries) → contextOf c 0 ≡ done es → (o : Option Val) → valueOf n es ≡ o → done none ≡ done (map extent (map (spot (entryPlace n es + nameWidth)) o))
+          → done false ≡ isContextCall c n
+      there es i none v q = question (contextOf c 0) es (isContext n) false i (ap (λ o. isSome (bind o entriesOf)) v)
+      there es i (some x) v q = absurd (let z : _≡_ {A = ℕ} 0 1 = cc in omega arith)
+
+      go : (o : Outcome Entries) → contextOf c 0 ≡ o → done none ≡ extentOf (do es ← o; done (map (spot (entryPlace n es + nameWidth)) (valueOf n es))) → done false ≡ isContextCall c n
+      go (done es) i q = there es i (valueOf n es) refl q
+      go (refused m) i q = absurd (refused-done (sym q))
+
+  pub entered-refused : (m : ℕ) → r ≡ found-is.Refused m → refused m ≡ isContextCall c n
+  unfolding extentOf _>>=_
+  entered-refused m h = go (contextOf c 0) refl (sym (ap found h) ∙ e)
+    where
+      go : (o : Outcome Entries) → contextOf c 0 ≡ o → refused m ≡ extentOf (do es ← o; done (map (spot (entryPlace n es + nameWidth)) (valueOf n es))) → refused m ≡ isContextCall c n
+      go (done es) i q = absurd (refused-done q)
+      go (refused j) i q = let z : m ≡ j = cc in call-refused (contextOf c 0) m (λ es. done (isContext n es)) (i ∙ ap refused (sym z))
+
+module _ {c : List ℕ} {n at : ℕ} (E : Entered c n at) where
+  pub entered-inside : at < length c
+  entered-inside = sight-inside (E .sight)
+
+  pub context-yes : getD c at 0 ≡ 11 → done true ≡ isContextCall c n
+  context-yes h = question (contextOf c 0) (E .sight .es) (isContext n) true (E .is) (ap isSome (sight-context (E .sight) h))
+
+  pub context-no : (getD c at 0 ≡ 11 → ⊥) → done false ≡ isContextCall c n
+  context-no h = question (contextOf c 0) (E .sight .es) (isContext n) false (E .is) (ap isSome (sight-flat (E .sight) h))

@@ -1,0 +1,131 @@
+-- Conformance of two types by their command bytes, and of two functions by their counts.
+-- Index: `le-null`, `le-any`, `le-other`, `le-leaves` (by the commands); `simple-leaf`, `simple-small`, `same-simple` (a simple type); `le-funs`, `le-counts`, `sig-count` (functions);
+-- `eq-false`.
+-- Assumes nothing.
+use Prim.Native.Nat.{ℕ, zero, suc, _+_, _≤_}
+use mathlib.Core.Path.{_≡_, refl, sym, ap, _∙_}
+use mathlib.Core.Bool.{Bool, true, false, _&&_, _||_, true≢false}
+use mathlib.Core.List.{List}
+use native.Mathlib.Omega.{arith}
+use lib.ListN.{drop}
+use lib.Dec.{eqb}
+use borrow.Author.Tests.{eq-eqb, ne-eqb}
+use mathlib.Core.Option.{some}
+use Rattle.form.specs.Trees.{Simple, any, null, Ty, leaf, built, list, range, context, function, Tys, no-params, param, code, decode, simple}
+use Rattle.form.specs.Form.{countTys}
+use Rattle.form.proofs.ExactTypes.{decode-code, code-small}
+use Rattle.order.specs.Order.{fixed, flat}
+use Rattle.order.specs.Types.{le, les, cmp, empty}
+use Rattle.order.specs.Size.{size}
+use Rattle.order.specs.Document.{eqTy}
+use Rattle.order.proofs.Equal.{eq-ty-same}
+use Rattle.order.proofs.Simple.{fixed-laws}
+use Rattle.order.proofs.Sentences.{le-functions}
+use Rattle.types.specs.At.{Sig, sig, cons, funOf, sigAt}
+use Rattle.types.specs.Conform.{leSig}
+use Rattle.types.proofs.Reading.{cmd, parameter, result}
+
+-- ---- by the command bytes
+pub same-simple : (s t : Simple) → 32 + code s ≡ 32 + code t → s ≡ t
+same-simple s t e = let f : code s ≡ code t = omega arith in sym (decode-code s) ∙ ap decode f ∙ decode-code t
+
+-- a simple type by its tree and its command
+pub simple-leaf : (t : Ty) → simple t ≡ true → (s : Simple) × (t ≡ leaf s)
+simple-leaf (leaf s) e = (s, refl)
+simple-leaf (built x) e = absurd (true≢false (sym e))
+
+pub simple-small : (t : Ty) → simple t ≡ true → (32 ≤ cmd t) × (cmd t ≤ 41)
+simple-small (leaf s) e = let h = code-small s in (omega arith, omega arith)
+simple-small (built x) e = absurd (true≢false (sym e))
+
+pub eq-false : (t u : Ty) → (t ≡ u → ⊥) → eqTy t u ≡ false
+eq-false t u h = go (eqTy t u) refl
+  where
+    go : (q : Bool) → eqTy t u ≡ q → q ≡ false
+    go true e = absurd (h (eq-ty-same t u e))
+    go false e = refl
+
+pub le-null : (t u : Ty) → cmd t ≡ 41 → (size t ≡ 1) × (le fixed t u ≡ true)
+unfolding cmp size
+le-null (leaf s) (leaf t) e = (refl, ap (λ x. flat x t) (same-simple s null e) ∙ fixed-laws .null-least t)
+le-null (leaf s) (built y) e = (refl, ap (λ x. flat x null) (same-simple s null e))
+le-null (built (list t)) u e = absurd (omega arith)
+le-null (built (range t)) u e = absurd (omega arith)
+le-null (built (context fs)) u e = absurd (omega arith)
+le-null (built (function ps r)) u e = absurd (omega arith)
+
+pub le-any : (t u : Ty) → cmd u ≡ 32 → (size u ≡ 1) × (le fixed t u ≡ true)
+unfolding cmp size
+le-any (leaf s) (leaf t) e = (refl, ap (λ x. flat s x) (same-simple t any e) ∙ fixed-laws .any-greatest s)
+le-any (built x) (leaf t) e = (refl, ap (λ x. flat any x) (same-simple t any e))
+le-any t (built (list u)) e = absurd (omega arith)
+le-any t (built (range u)) e = absurd (omega arith)
+le-any t (built (context fs)) e = absurd (omega arith)
+le-any t (built (function ps r)) e = absurd (omega arith)
+
+pub le-other : (t u : Ty) → (cmd t ≡ cmd u → ⊥) → (cmd t ≡ 41 → ⊥) → (cmd u ≡ 32 → ⊥) → le fixed t u ≡ false
+unfolding cmp
+le-other (leaf s) (leaf t) d n a = simp (ne-eqb (code s) 9 (λ e. n (omega arith)), ne-eqb (code t) 0 (λ e. a (omega arith)), ne-eqb (code s) (code t) (λ e. d (omega arith)))
+le-other (leaf s) (built y) d n a = simp (ne-eqb (code s) 9 (λ e. n (omega arith)))
+le-other (built x) (leaf t) d n a = simp (ne-eqb (code t) 0 (λ e. a (omega arith)), ne-eqb 0 (code t) (λ e. a (omega arith)))
+le-other (built (list a)) (built (list b)) d n x = absurd (d refl)
+le-other (built (list a)) (built (range b)) d n x = refl
+le-other (built (list a)) (built (context b)) d n x = refl
+le-other (built (list a)) (built (function q b)) d n x = refl
+le-other (built (range a)) (built (list b)) d n x = refl
+le-other (built (range a)) (built (range b)) d n x = absurd (d refl)
+le-other (built (range a)) (built (context b)) d n x = refl
+le-other (built (range a)) (built (function q b)) d n x = refl
+le-other (built (context a)) (built (list b)) d n x = refl
+le-other (built (context a)) (built (range b)) d n x = refl
+le-other (built (context a)) (built (context b)) d n x = absurd (d refl)
+le-other (built (context a)) (built (function q b)) d n x = refl
+le-other (built (function p a)) (built (list b)) d n x = refl
+le-other (built (function p a)) (built (range b)) d n x = refl
+le-other (built (function p a)) (built (context b)) d n x = refl
+le-other (built (function p a)) (built (function q b)) d n x = absurd (d refl)
+
+pub le-leaves : (s t : Simple) → s ≡ t → le fixed (leaf s) (leaf t) ≡ true
+unfolding cmp
+le-leaves s t e = ap (λ x. flat x t) e ∙ fixed-laws .reflexive t
+
+-- ---- functions
+les-count : (qs ps : Tys) → les fixed qs ps ≡ true → countTys qs ≡ countTys ps
+unfolding cmp countTys
+les-count no-params no-params e = refl
+les-count no-params (param t ps) e = absurd (true≢false (sym e))
+les-count (param u qs) no-params e = absurd (true≢false (sym e))
+les-count (param u qs) (param t ps) e = ap suc (les-count qs ps (step (le fixed u t) (les fixed qs ps) e))
+  where
+    step : (x y : Bool) → x && y ≡ true → y ≡ true
+    step true y h = h
+    step false y h = absurd (true≢false (sym h))
+
+abbrev pub count-sig : Sig → ℕ
+count-sig (sig ps r) = countTys ps
+
+count-cons : (t : Ty) (f : Sig) → count-sig (cons t f) ≡ suc (count-sig f)
+unfolding countTys
+count-cons t (sig ps r) = refl
+
+pub sig-count : (l n : ℕ) (s : List ℕ) (f : Sig) → sigAt l n s ≡ some f → count-sig f ≡ n
+unfolding countTys
+sig-count l zero s f e = let g = result l s f e in ap count-sig (g .2)
+sig-count l (suc n) s f e =
+    let g = parameter l n s f e in
+    ap count-sig (g .is) ∙ count-cons (g .t) (g .y) ∙ ap suc (sig-count l n (drop (size (g .t)) s) (g .y) (g .second))
+
+empty-count : (ps : Tys) → empty ps ≡ eqb (countTys ps) 0
+unfolding countTys
+empty-count no-params = sym (eq-eqb 0 0 refl)
+empty-count (param t ps) = sym (ne-eqb (suc (countTys ps)) 0 (λ e. omega arith))
+
+pub le-funs : (f g : Sig) (n : ℕ) → count-sig f ≡ n → le fixed (funOf f) (funOf g) ≡ leSig (eqb n 0) f g
+le-funs (sig ps r) (sig qs s) n e = le-functions fixed ps qs r s ∙ ap (λ x. les fixed qs ps && (x || le fixed r s)) (empty-count ps ∙ ap (λ k. eqb k 0) e)
+
+pub le-counts : (f g : Sig) → (count-sig f ≡ count-sig g → ⊥) → le fixed (funOf f) (funOf g) ≡ false
+le-counts (sig ps r) (sig qs s) d = le-functions fixed ps qs r s ∙ go (les fixed qs ps) refl
+  where
+    go : (q : Bool) → les fixed qs ps ≡ q → q && (empty ps || le fixed r s) ≡ false
+    go true e = absurd (d (sym (les-count qs ps e)))
+    go false e = refl
