@@ -1,22 +1,66 @@
 //! The cases as questions to the program `verdicts`, and the Rust's answers in its words. What is
-//! lent is always enough there, so the lengths of a case do not count.
+//! lent is always enough there, so the lengths of a case do not count, and cases that differ in them
+//! alone are one question.
 
 use crate::list::{Answer, Call, Case, Group, hex};
 use feel_form::words;
+use std::collections::BTreeSet;
 
 /// More than any answer has.
 const PLENTY: usize = 1 << 30;
 
-/// A question a line, its arguments with commas between them.
-pub fn questions(groups: &[Group]) -> String {
-    let mut out = String::new();
+/// The line of the input behind which the cases stand.
+const MARK: &str = "# ==== the cases of oracle/vectors, which writes all that follows; the answers are the Rust's\n";
+
+/// What the program reads and what it must write.
+pub struct Stored {
+    pub input: String,
+    pub output: String,
+}
+
+/// The cases behind the questions that stand in front of the mark; the last line counts all.
+pub fn stored(groups: &[Group], old: &Stored) -> Stored {
+    let front = match old.input.split_once(MARK) {
+        Some((front, _)) => front,
+        None => &old.input,
+    };
+    let mut input = front.to_string();
+    if !input.is_empty() && !input.ends_with('\n') {
+        input.push('\n');
+    }
+    input.push_str(MARK);
+    let asked = front.lines().filter(|line| asks(line)).count();
+    let mut answers: Vec<String> = old.output.lines().take(asked).map(str::to_string).collect();
+    assert_eq!(answers.len(), asked, "an answer for each question");
+    let mut seen = BTreeSet::new();
     for group in groups {
-        out.push_str(&format!("# {}\n", group.title));
+        let mut title = format!("# {}\n", group.title);
         for case in &group.cases {
-            out.push_str(&format!("{} {}\n", word(group.call), arguments(&case.args)));
+            let question = format!("{} {}\n", word(group.call), arguments(&case.args));
+            if seen.insert(question.clone()) {
+                input.push_str(&std::mem::take(&mut title));
+                input.push_str(&question);
+                answers.push(answer(group.call, case));
+            }
         }
     }
-    out
+    // The last line has no end: the program answers it all the same.
+    input.pop();
+    let count = |front: &str| answers.iter().filter(|a| a.starts_with(front)).count();
+    let (refused, unread) = (count("refused "), count("line "));
+    let answered = answers.len() - refused - unread;
+    let all = answers.len();
+    answers.push(format!(
+        "{all} questions: {answered} answered, {refused} refused, {unread} not read\n"
+    ));
+    let output = answers.join("\n");
+    Stored { input, output }
+}
+
+/// Whether a line asks anything.
+fn asks(line: &str) -> bool {
+    let line = line.split('#').next().unwrap_or("");
+    !line.trim_matches([' ', '\t', '\r']).is_empty()
 }
 
 /// The arguments in hexadecimal; between commas no bytes are nothing.
@@ -30,28 +74,13 @@ fn arguments(args: &[Vec<u8>]) -> String {
     }
 }
 
-/// An answer a line, and the line that counts.
-pub fn answers(groups: &[Group]) -> String {
-    let mut out = String::new();
-    let (mut asked, mut refused) = (0, 0);
-    for group in groups {
-        for case in &group.cases {
-            let case = Case {
-                args: case.args.clone(),
-                lent: vec![PLENTY; case.lent.len()],
-            };
-            let answer = group.call.answer(&case);
-            asked += 1;
-            refused += usize::from(matches!(answer, Answer::Refused(_)));
-            out.push_str(&said(group.call, &case, &answer));
-            out.push('\n');
-        }
-    }
-    let answered = asked - refused;
-    out.push_str(&format!(
-        "{asked} questions: {answered} answered, {refused} refused, 0 not read\n"
-    ));
-    out
+/// The Rust's answer to a case, in words.
+fn answer(call: Call, case: &Case) -> String {
+    let case = Case {
+        args: case.args.clone(),
+        lent: vec![PLENTY; case.lent.len()],
+    };
+    said(call, &case, &call.answer(&case))
 }
 
 /// An answer in words.

@@ -1,10 +1,9 @@
-//! The list of cases, in groups, and its text.
+//! The cases, in groups, and the Rust's answers.
 
 use feel_form::contexts::{self, Part};
 use feel_form::{calls, names, read_type, read_value};
-use std::fmt::{self, Write};
 
-/// A call, by its number in the list.
+/// A call.
 #[derive(Debug, Clone, Copy, PartialEq, Eq, PartialOrd, Ord)]
 pub enum Call {
     CheckValue = 1,
@@ -265,39 +264,6 @@ impl Group {
         };
         Group::new(call, words, records.into_iter().map(case).collect())
     }
-}
-
-/// The text of the list: `: K TITLE` for a group; for a case the answer, each argument, the length
-/// of each thing lent, and the bytes written, if any.
-pub fn text(groups: &[Group]) -> String {
-    let mut out = String::new();
-    for group in groups {
-        put_group(&mut out, group).expect("a string grows");
-    }
-    out
-}
-
-fn put_group(out: &mut String, group: &Group) -> fmt::Result {
-    writeln!(out, ": {} {}", group.call as u8, group.title)?;
-    for case in &group.cases {
-        let answer = group.call.answer(case);
-        match &answer {
-            Answer::Number(number) => write!(out, "{number}")?,
-            Answer::Bytes(bytes) => write!(out, "{}", bytes.len())?,
-            Answer::Refused(refusal) => write!(out, "!{refusal}")?,
-        }
-        for arg in &case.args {
-            write!(out, " {}", hex(arg))?;
-        }
-        for length in &case.lent {
-            write!(out, " {length}")?;
-        }
-        if let Answer::Bytes(bytes) = &answer {
-            write!(out, " {}", hex(bytes))?;
-        }
-        writeln!(out)?;
-    }
-    Ok(())
 }
 
 /// Upper-case digits without blanks, `.` for no bytes.

@@ -1,5 +1,5 @@
-//! Writes the list of cases with the Rust's answers, which the program `replay` runs; or the same
-//! cases as questions to the program `verdicts`, or the Rust's answers in its words.
+//! Writes cases as questions to the program `verdicts`, and the Rust's answers in its words, behind
+//! the questions and answers that stand in its files `stdin` and `stdout`.
 
 mod asked;
 mod bounds;
@@ -16,9 +16,10 @@ mod shared;
 mod types;
 mod values;
 
+use asked::Stored;
 use list::Group;
-use std::io::{self, Write};
-use std::{env, process};
+use std::path::Path;
+use std::{env, fs, io, process};
 
 fn groups() -> Vec<Group> {
     values::groups()
@@ -36,18 +37,24 @@ fn groups() -> Vec<Group> {
         .collect()
 }
 
+/// What stands in a folder.
+fn read(folder: &Path) -> io::Result<Stored> {
+    Ok(Stored {
+        input: fs::read_to_string(folder.join("stdin"))?,
+        output: fs::read_to_string(folder.join("stdout"))?,
+    })
+}
+
 fn main() -> io::Result<()> {
     let words: Vec<String> = env::args().skip(1).collect();
-    let text = match words.iter().map(String::as_str).collect::<Vec<_>>()[..] {
-        [] => list::text(&groups()),
-        ["questions"] => asked::questions(&groups()),
-        ["answers"] => asked::answers(&groups()),
-        _ => {
-            eprintln!("usage: vectors [questions | answers]");
-            process::exit(2);
-        }
+    let [folder] = &words[..] else {
+        eprintln!("usage: vectors FOLDER");
+        process::exit(2);
     };
-    io::stdout().write_all(text.as_bytes())
+    let folder = Path::new(folder);
+    let new = asked::stored(&groups(), &read(folder)?);
+    fs::write(folder.join("stdin"), new.input)?;
+    fs::write(folder.join("stdout"), new.output)
 }
 
 #[cfg(test)]
@@ -260,44 +267,38 @@ mod tests {
     }
 
     #[test]
-    fn the_text_is_small_and_in_its_form() {
-        let text = list::text(&groups());
-        // The program that runs it has room for 1,048,576 bytes.
-        assert!(text.len() < 1_020_000, "{}", text.len());
-        assert_eq!(text, list::text(&groups()));
-        assert!(text.ends_with('\n'));
+    fn what_is_stored_is_what_the_rust_answers() {
+        let folder = Path::new(env!("CARGO_MANIFEST_DIR")).join("../../crates/verdicts");
+        let old = read(&folder).expect("the files of the program");
+        let new = asked::stored(&groups(), &old);
+        assert!(new.input == old.input, "stdin is not what is written");
+        assert!(new.output == old.output, "stdout is not what is written");
+    }
+
+    #[test]
+    fn the_cases_are_questions_in_their_form() {
+        let empty = Stored {
+            input: String::new(),
+            output: String::new(),
+        };
+        let new = asked::stored(&groups(), &empty);
         let is_hex = |byte: u8| byte.is_ascii_digit() || (b'A'..=b'F').contains(&byte);
         let is_bytes =
             |word: &str| word == "." || (word.len().is_multiple_of(2) && word.bytes().all(is_hex));
-        let is_number = |word: &str| word.parse::<usize>().is_ok();
-        let mut call = 0;
-        for line in text.lines() {
-            if let Some(title) = line.strip_prefix(": ") {
-                let number = title.split(' ').next().expect("a word");
-                call = number.parse().expect("the number of a call");
-                continue;
-            }
-            let mut words = line.split(' ');
-            let answer = words.next().expect("an answer");
-            let accepted = !answer.starts_with('!');
-            assert!(is_number(answer.trim_start_matches('!')), "{line}");
-            let (args, lent) = match call {
-                1 | 2 | 8 | 9 | 16..=27 | 31 | 35 | 36 | 46 | 47 => (1, 0),
-                3 | 4 | 10 | 29 | 30 | 32..=34 => (2, 0),
-                5 | 6 => (2, 2),
-                7 | 28 | 48 | 49 => (1, 1),
-                13..=15 | 39 | 40 | 43..=45 => (2, 1),
-                37 | 38 | 41 | 42 => (3, 1),
-                _ => (1, 2),
-            };
-            assert!(words.by_ref().take(args).all(is_bytes), "{line}");
-            assert!(words.by_ref().take(lent).all(is_number), "{line}");
-            let out: Vec<&str> = words.collect();
-            assert_eq!(out.len(), usize::from(accepted && lent > 0), "{line}");
-            for bytes in out {
-                assert!(is_bytes(bytes), "{line}");
-                assert_eq!(answer, (bytes.len() / 2).to_string(), "{line}");
-            }
+        let mut questions = BTreeSet::new();
+        for line in new.input.lines().filter(|line| !line.starts_with('#')) {
+            let (word, args) = line.split_once(' ').expect("a word and arguments");
+            assert!(
+                !word.is_empty() && args.split(", ").all(|arg| is_bytes(arg.trim())),
+                "{line}"
+            );
+            assert!(questions.insert(line), "{line}");
         }
+        assert_eq!(new.output.lines().count(), questions.len() + 1);
+        assert!(
+            (5_000..=6_500).contains(&questions.len()),
+            "{}",
+            questions.len()
+        );
     }
 }
