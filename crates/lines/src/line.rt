@@ -1,5 +1,6 @@
 // A line of the input: its question and the bytes of its arguments, read as they come.
 ghost use mathlib.Core.Path.{_≡_};
+ghost use mathlib.Core.Bool.{false};
 ghost use Prim.Native.Nat.{_+_, _<_, _≤_, _^_};
 ghost use lib.ListN.{length};
 use crate::fault;
@@ -70,7 +71,9 @@ pub fn fresh() -> Line
 }
 
 // One more, as long as there is one.
-fn more(n: usize) -> usize {
+fn more(n: usize) -> usize
+    ensures { λ r. ⌜ n ≤ r ⌝ }
+{
     if n < usize::MAX { n + 1 } else { n }
 }
 
@@ -367,7 +370,9 @@ pub fn read(l: Line, text: &[u8], from: usize, data: &mut [u8]) -> Step
 }
 
 // How many arguments were found.
-pub fn found(l: Line) -> usize {
+pub fn found(l: Line) -> usize
+    ensures { λ r. ⌜ (l .ends ≤ r) × (l .commas ≡ false → r ≡ l .ends) ⌝ }
+{
     if l.commas { more(l.ends) } else { l.ends }
 }
 

@@ -1,5 +1,6 @@
 // The questions by their words. A question's number is its place in this list, from 1 on; 0 is none.
-ghost use Prim.Native.Nat.{_<_};
+ghost use mathlib.Core.Path.{_≡_};
+ghost use Prim.Native.Nat.{_<_, _≤_};
 
 // Kinds of calls: those that answer yes or no; those that build; those that build with a scratch; those on a path; 0 for all others.
 pub const JUDGE: u8 = 1;
@@ -223,7 +224,9 @@ fn is_word(word: &[u8], k: usize) -> bool
 }
 
 // The question with this word.
-pub fn find(word: &[u8]) -> usize {
+pub(crate) fn find(word: &[u8]) -> usize
+    ensures { λ r. ⌜ r ≤ 49 ⌝ }
+{
     let mut k: usize = 0;
     while k < QUESTIONS {
         if is_word(word, k) {
@@ -234,23 +237,31 @@ pub fn find(word: &[u8]) -> usize {
     0
 }
 
-// How many arguments a question wants.
-pub fn wanted(call: usize) -> u8 {
+// How many arguments a question wants; none where nothing is asked.
+pub fn wanted(call: usize) -> u8
+    ensures { λ r. ⌜ (r < 4) × (call ≡ 0 → r ≡ 0) ⌝ }
+{
     at(&SHAPES, call) % 4
 }
 
-// The kind of its call.
-pub fn kind(call: usize) -> u8 {
+// The kind of its call; 0 where nothing is asked.
+pub fn kind(call: usize) -> u8
+    ensures { λ r. ⌜ (r < 64) × (call ≡ 0 → r ≡ 0) ⌝ }
+{
     at(&SHAPES, call) / 4
 }
 
-// What its arguments have to be.
-pub fn fit(call: usize) -> u8 {
+// What its arguments have to be; 0 where nothing is asked.
+pub fn fit(call: usize) -> u8
+    ensures { λ r. ⌜ (call ≡ 0 → r ≡ 0) ⌝ }
+{
     at(&FITS, call)
 }
 
 // What a list has for a question; 0 for none.
-fn at(list: &[u8; QUESTIONS], call: usize) -> u8 {
+fn at(list: &[u8; QUESTIONS], call: usize) -> u8
+    ensures { λ r. ⌜ (call ≡ 0 → r ≡ 0) ⌝ }
+{
     if call == 0 {
         return 0;
     }
