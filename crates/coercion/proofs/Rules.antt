@@ -14,18 +14,16 @@ use lib.ListN.{length, getD, take, drop, set, length-set, length-drop}
 use lib.Dec.{leb, eqb}
 use borrow.Author.Tests.{le-leb, lt-leb, eq-eqb, ne-eqb}
 use borrow.Rule.Slice.PartMut.{putMid}
-use Rattle.form.specs.Limits.{typeLevels, valueLevels, mostBytes, valueRefusals}
+use Rattle.form.specs.Limits.{typeLevels, valueLevels, mostBytes}
 use Rattle.form.specs.Trees.{any, boolean, number, string, date, time, dateTime, daysAndTime, yearsAndMonths, null, Ty, leaf, built, list, range, context, function, no-params, param, Val, v-list}
 use Rattle.form.specs.Trees.{v-built-in, Vals, no-items, item}
 use Rattle.form.specs.Form.{Bytes, bytes, numAt, encV, encLeaf, countVals, levelV}
-use Rattle.form.specs.Layout.{kindOf}
+use Rattle.form.specs.Layout.{kindOf, ValueKind, kList, kDefinition, kBuiltIn}
 use Rattle.form.specs.Outcome.{done, refused, _>>=_, _>>_, check, fits}
-use Rattle.form.specs.Read.{front, andThen, readRun, readFunction, stepType, stepT, readT, readV, readVals, readType, readValue, checkType, checkValue}
+use Rattle.form.specs.Read.{front, andThen, readRun, readFunction, stepType, stepT, readT, readV, readType, readValue, checkType, checkValue}
 use Rattle.form.specs.Answers.{onto, Built}
 use Rattle.form.specs.declared.Written.the-variants as written-is
-use Rattle.form.proofs.Accepted.{whole-got}
 use Rattle.form.proofs.Exact.{bytes-drop}
-use Rattle.form.proofs.Nodes.{NodeV, nNull, nBoolean, nNumber, nString, nTemporal, nRangeV, nListV, nContextV, nDefinition, nBuiltIn, nType, nIrrelevant, value-read}
 use Rattle.form.proofs.Types.{type-told}
 use Rattle.form.proofs.Values.{value-accepted, value-told, read-upV}
 use Rattle.form.proofs.Runs.{rest, length-rest}
@@ -37,7 +35,8 @@ use Rattle.order.proofs.Size.{size-positive, size-val-positive}
 use Rattle.types.specs.At.{seen, typeAt, Ok}
 use Rattle.types.specs.Conform.{judge, conformBy, conformOf, Met}
 use Rattle.types.specs.Calls.{isYes}
-use Rattle.types.proofs.Reading.{is-ok, ok-got, seen-got, got-seen, cmd, cmd-is, some-byte, is-list}
+use Rattle.types.proofs.Reading as types
+use Rattle.types.proofs.Reading.{is-ok, ok-got, seen-got, got-seen, cmd, cmd-is, some-byte}
 use Rattle.types.proofs.CallContracts.{whole-type}
 use Rattle.values.specs.At.{valueAt, itemsAt}
 use Rattle.values.specs.Held.{held}
@@ -53,6 +52,8 @@ use Rattle.coercion.specs.Coerce.{failed, single, unchanged, soleItemCon
 use Rattle.coercion.specs.Calls.{coercedCall, Ready, wrapped, Says, SaysAt, BifSays}
 use Rattle.coercion.proofs.Theorems.{same-if}
 use Rattle.output.specs.Result.{result}
+use Rattle.values.proofs.Reading.{IsVal, is-null, is-boolean, is-number, is-string, is-temporal, is-range, is-list, is-context, is-definition, is-built-in, is-type, is-irrelevant}
+use Rattle.values.proofs.Reading.{is-val, as-list, as-definition, as-built-in}
 
 single-bytes : (w : Val) → encV (single w) ≡ 0x0A ∷ 1 ∷ 0 ∷ encV w
 unfolding encV countVals bytes
@@ -161,9 +162,6 @@ module _ (t v : List ℕ) (A : Accepted t v) where
   pub first-type : 0 < length t
   first-type = some-byte typeLevels t (A .type) type-there
 
-  node : NodeV (valueLevels - 1) v (A .value) (length v)
-  node = value-read valueLevels v (A .value) (length v) (whole-got valueRefusals (readV valueLevels) v (A .value) (A .read-v)) .node
-
   says : (test : Val → Ty → Bool) (r : Bool) → r ≡ test (A .value) (A .type) → SaysAt test v t r
   says test r h = is-said test (valueAt valueLevels v) (typeAt typeLevels t) (A .value) (A .type) r value-there type-there h
 
@@ -172,55 +170,33 @@ module _ (t v : List ℕ) (A : Accepted t v) where
 
   -- ---- `keeps`
   pub keeps-definition : getD v 0 0 ≡ 0x0C → SaysAt unchanged v t true
-  keeps-definition c = says unchanged true (go (A .value) (length v) node)
+  keeps-definition c = says unchanged true (go (as-definition valueLevels v (A .value) value-there c))
     where
-      go : (x : Val) (n : ℕ) → NodeV (valueLevels - 1) v x n → true ≡ unchanged x (A .type)
-      go x n (nNull e k y) = absurd (omega arith)
-      go x n (nBoolean e k y) = absurd (omega arith)
-      go x n (nNumber e k) = absurd (omega arith)
-      go x n (nString e k) = absurd (omega arith)
-      go x n (nTemporal e f k) = absurd (omega arith)
-      go x n (nRangeV e k i j a m p b j2 q) = absurd (omega arith)
-      go x n (nListV e k vs m p) = absurd (omega arith)
-      go x n (nContextV e k es m p) = absurd (omega arith)
-      go x n (nDefinition e k u m p ps j q) = refl
-      go x n (nBuiltIn e k y) = absurd (omega arith)
-      go x n (nType e u m p) = absurd (omega arith)
-      go x n (nIrrelevant e) = absurd (omega arith)
+      go : {x : Val} → IsVal valueLevels v kDefinition x → true ≡ unchanged x (A .type)
+      go (is-definition r ps b e k p) = refl
 
   pub keeps-other : false ≡ isYes (isConformant v t) → (getD v 0 0 ≡ 0x0C → ⊥) → (getD v 0 0 ≡ 0x0D → ⊥) → SaysAt unchanged v t false
-  keeps-other f c d = says unchanged false (sym (not-held t v A f) ∙ go (A .value) (length v) node)
+  keeps-other f c d = says unchanged false (sym (not-held t v A f) ∙ go (is-val valueLevels v (A .value) value-there .1))
     where
-      go : (x : Val) (n : ℕ) → NodeV (valueLevels - 1) v x n → valueConformsTo x (A .type) ≡ unchanged x (A .type)
-      go x n (nNull e k y) = refl
-      go x n (nBoolean e k y) = refl
-      go x n (nNumber e k) = refl
-      go x n (nString e k) = refl
-      go x n (nTemporal e f k) = refl
-      go x n (nRangeV e k i j a m p b j2 q) = refl
-      go x n (nListV e k vs m p) = refl
-      go x n (nContextV e k es m p) = refl
-      go x n (nDefinition e k u m p ps j q) = absurd (c e)
-      go x n (nBuiltIn e k y) = absurd (d e)
-      go x n (nType e u m p) = refl
-      go x n (nIrrelevant e) = refl
+      go : {j : ValueKind} {x : Val} → IsVal valueLevels v j x → valueConformsTo x (A .type) ≡ unchanged x (A .type)
+      go (is-null x e) = refl
+      go (is-boolean x e) = refl
+      go (is-number x e) = refl
+      go (is-string x e) = refl
+      go (is-temporal x e k) = refl
+      go (is-range i j a b e k p) = refl
+      go (is-list vs e k p) = refl
+      go (is-context es e k p) = refl
+      go (is-definition r ps b e k p) = absurd (c e)
+      go (is-built-in e k) = absurd (d e)
+      go (is-type u e p) = refl
+      go (is-irrelevant e) = refl
 
   built-in : getD v 0 0 ≡ 0x0D → (A .value ≡ v-built-in (getD v 1 0)) × (2 ≤ length v)
-  built-in c = go (A .value) (length v) node
+  built-in c = go (as-built-in valueLevels v (A .value) value-there c)
     where
-      go : (x : Val) (n : ℕ) → NodeV (valueLevels - 1) v x n → (x ≡ v-built-in (getD v 1 0)) × (2 ≤ length v)
-      go x n (nNull e k y) = absurd (omega arith)
-      go x n (nBoolean e k y) = absurd (omega arith)
-      go x n (nNumber e k) = absurd (omega arith)
-      go x n (nString e k) = absurd (omega arith)
-      go x n (nTemporal e f k) = absurd (omega arith)
-      go x n (nRangeV e k i j a m p b j2 q) = absurd (omega arith)
-      go x n (nListV e k vs m p) = absurd (omega arith)
-      go x n (nContextV e k es m p) = absurd (omega arith)
-      go x n (nDefinition e k u m p ps j q) = absurd (omega arith)
-      go x n (nBuiltIn e k y) = (refl, k)
-      go x n (nType e u m p) = absurd (omega arith)
-      go x n (nIrrelevant e) = absurd (omega arith)
+      go : {x : Val} → IsVal valueLevels v kBuiltIn x → (x ≡ v-built-in (getD v 1 0)) × (2 ≤ length v)
+      go (is-built-in e k) = (refl, k)
 
   pub bif-byte : getD v 0 0 ≡ 0x0D → 1 < length v
   bif-byte c = built-in c .1
@@ -246,22 +222,10 @@ module _ (t v : List ℕ) (A : Accepted t v) where
     pub read : itemsAt (valueLevels - 1) (numAt 2 1 v) (drop 3 v) ≡ some vs
 
   pub listed : getD v 0 0 ≡ 0x0A → Listed
-  unfolding itemsAt
-  listed c = go (A .value) (length v) refl node
+  listed c = go refl (as-list valueLevels v (A .value) value-there c)
     where
-      go : (x : Val) (n : ℕ) → A .value ≡ x → NodeV (valueLevels - 1) v x n → Listed
-      go x n z (nNull e k y) = absurd (omega arith)
-      go x n z (nBoolean e k y) = absurd (omega arith)
-      go x n z (nNumber e k) = absurd (omega arith)
-      go x n z (nString e k) = absurd (omega arith)
-      go x n z (nTemporal e f k) = absurd (omega arith)
-      go x n z (nRangeV e k i j a m p b j2 q) = absurd (omega arith)
-      go x n z (nListV e k vs m p) = record { vs = vs; is = z; three = k; read = got-seen (readVals (readV (valueLevels - 1)) (numAt 2 1 v) (drop 3 v)) vs m p }
-      go x n z (nContextV e k es m p) = absurd (omega arith)
-      go x n z (nDefinition e k u m p ps j q) = absurd (omega arith)
-      go x n z (nBuiltIn e k y) = absurd (omega arith)
-      go x n z (nType e u m p) = absurd (omega arith)
-      go x n z (nIrrelevant e) = absurd (omega arith)
+      go : {x : Val} → A .value ≡ x → IsVal valueLevels v kList x → Listed
+      go z (is-list vs e k p) = record { vs = vs; is = z; three = k; read = p }
 
   item-count : (l n : ℕ) (s : List ℕ) (vs : Vals) → itemsAt l n s ≡ some vs → countVals vs ≡ n
   unfolding countVals
@@ -343,7 +307,7 @@ module _ (t v : List ℕ) (A : Accepted t v) where
 
   pub inner-says : getD t 0 0 ≡ 0x2A → (r : Bool) → SaysAt valueConformsTo v (take (length t - 1) (drop 1 t)) r → SaysAt innerConforms v t r
   inner-says c r g =
-      let I = is-list typeLevels t (A .type) type-there c in
+      let I = types.is-list typeLevels t (A .type) type-there c in
       let u : typeAt typeLevels (drop 1 t) ≡ some (I .0) = type-up (typeLevels - 1) typeLevels (drop 1 t) (I .0) (omega arith) (I .1) in
       says innerConforms r
       (said valueConformsTo (valueAt valueLevels v) (typeAt typeLevels (take (length t - 1) (drop 1 t))) (A .value) (I .0) r value-there (ap (typeAt typeLevels) (rest t 1) ∙ u) g
@@ -403,21 +367,21 @@ module _ (t v : List ℕ) (A : Accepted t v) where
 
     -- no list
     other-is : (getD v 0 0 ≡ 0x0A → ⊥) → converted (A .value) (A .type) ≡ toSingle (A .value) (A .type)
-    other-is c = go (A .value) (length v) node
+    other-is c = go (is-val valueLevels v (A .value) value-there .1)
       where
-        go : (x : Val) (n : ℕ) → NodeV (valueLevels - 1) v x n → converted x (A .type) ≡ toSingle x (A .type)
-        go x n (nNull p k y) = refl
-        go x n (nBoolean p k y) = refl
-        go x n (nNumber p k) = refl
-        go x n (nString p k) = refl
-        go x n (nTemporal p f k) = refl
-        go x n (nRangeV p k i j a m p2 b j2 q) = refl
-        go x n (nListV p k vs m q) = absurd (c p)
-        go x n (nContextV p k es m q) = refl
-        go x n (nDefinition p k u m p2 ps j q) = refl
-        go x n (nBuiltIn p k y) = refl
-        go x n (nType p u m q) = refl
-        go x n (nIrrelevant p) = refl
+        go : {j : ValueKind} {x : Val} → IsVal valueLevels v j x → converted x (A .type) ≡ toSingle x (A .type)
+        go (is-null x e) = refl
+        go (is-boolean x e) = refl
+        go (is-number x e) = refl
+        go (is-string x e) = refl
+        go (is-temporal x e k) = refl
+        go (is-range i j a b e k p) = refl
+        go (is-list vs e k p) = absurd (c e)
+        go (is-context es e k p) = refl
+        go (is-definition r ps b e k p) = refl
+        go (is-built-in e k) = refl
+        go (is-type u e p) = refl
+        go (is-irrelevant e) = refl
 
     module _ (c : getD v 0 0 ≡ 0x0A → ⊥) (q : Bool) (g : SaysAt innerConforms v t q) where
       pub give-failed : q ≡ false → (room : ℕ) → fits room (0 ∷ 1 ∷ []) ≡ coercedCall v t room

@@ -3,7 +3,7 @@
 use mathlib.Core.Path.{_≡_}
 use mathlib.Core.Bool.{Bool, false, _&&_}
 use mathlib.Core.List.{List, _∷_}
-use mathlib.Core.Option.{Option, none, some}
+use mathlib.Core.Option.{Option, some}
 use Prim.Native.Nat.{ℕ, _+_}
 use lib.ListN.{length}
 use lib.Dec.{leb}
@@ -12,6 +12,7 @@ use Rattle.form.specs.Outcome.{Outcome, _>>=_, _>>_, check, fits}
 use Rattle.form.specs.Trees.{Ty, Val}
 use Rattle.form.specs.Form.{levelV}
 use Rattle.form.specs.Read.{readType, readValue}
+use Rattle.form.specs.Options.{WhereBoth}
 use Rattle.order.specs.Document.{conformsTo}
 use Rattle.types.specs.At.{typeAt}
 use Rattle.values.specs.At.{valueAt}
@@ -41,9 +42,7 @@ wrapped v lv room = do
 
 -- what a helper answers: yes exactly where both were read and the first passes the test against the second
 unfoldable pub Says : {X Y : Type 0} → (X → Y → Bool) → Option X → Option Y → Bool → Type 0
-Says test (some x) (some y) r = r ≡ test x y
-Says test (some x) none r = r ≡ false
-Says test none y r = r ≡ false
+Says test p q r = WhereBoth (r ≡ false) (λ x y. r ≡ test x y) p q
 
 -- of the value and the type at the fronts
 abbrev pub SaysAt : (Val → Ty → Bool) → List ℕ → List ℕ → Bool → Type 0

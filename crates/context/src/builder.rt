@@ -68,7 +68,8 @@ fn build_in(
     requires { ⌜ ((x : Val) → wholeAt valueLevels (now v) ≡ some x → levelV x ≤ level) ⌝ }
     requires { ⌜ 0 < length (now path) ⌝ }
     requires { ⌜ min (updateBound (length (now c)) (length (now path)) (length (now v))) mostBytes ≤ length (now spare) ⌝ }
-    ensures { λ r. ⌜ ((es : Entries) (x : Val) → contextAt valueLevels (now (c .entry)) ≡ some es → wholeAt valueLevels (now (v .entry)) ≡ some x → Built (answered (length (now (out .entry))) (updated strict (now (path .entry)) x es)) (now (out .entry)) (now (out .exit)) r) ⌝ }
+    ensures { λ r. ⌜ ((es : Entries) (x : Val) → contextAt valueLevels (now (c .entry)) ≡ some es → wholeAt valueLevels (now (v .entry)) ≡ some x
+        → Built (answered (length (now (out .entry))) (updated strict (now (path .entry)) x es)) (now (out .entry)) (now (out .exit)) r) ⌝ }
 {
     match updates::update(c, path, v, spare, strict, VALUE_LEVELS) {
         Made::NotContext => Written::Refused(refusals::NOT_APPLIED),
@@ -94,7 +95,8 @@ pub(crate) fn build(
     requires { ⌜ Ok (wholeAt valueLevels (now v)) ⌝ }
     requires { ⌜ Small (now c) (now path) (now v) ⌝ }
     requires { ⌜ ((x : Val) → wholeAt valueLevels (now v) ≡ some x → levelV x ≤ level) ⌝ }
-    ensures { λ r. ⌜ ((es : Entries) (x : Val) → contextAt valueLevels (now (c .entry)) ≡ some es → wholeAt valueLevels (now (v .entry)) ≡ some x → Built (answered (length (now (out .entry))) (updated strict (now (path .entry)) x es)) (now (out .entry)) (now (out .exit)) r) ⌝ }
+    ensures { λ r. ⌜ ((es : Entries) (x : Val) → contextAt valueLevels (now (c .entry)) ≡ some es → wholeAt valueLevels (now (v .entry)) ≡ some x
+        → Built (answered (length (now (out .entry))) (updated strict (now (path .entry)) x es)) (now (out .entry)) (now (out .exit)) r) ⌝ }
 {
     if path.len() == 0 {
         return output::give(c, out);
@@ -136,7 +138,8 @@ fn join_in(all: bool, c: &[u8], o: &[u8], spare: &mut [u8], out: &mut [u8]) -> W
     requires { ⌜ Ok (contextAt valueLevels (now o)) ⌝ }
     requires { ⌜ (length (now c) ≤ mostBytes) × (length (now o) ≤ mostBytes) ⌝ }
     requires { ⌜ min (length (now c) + length (now o)) mostBytes ≤ length (now spare) ⌝ }
-    ensures { λ r. ⌜ ((es gs : Entries) → contextAt valueLevels (now (c .entry)) ≡ some es → contextAt valueLevels (now (o .entry)) ≡ some gs → Built (result (length (now (out .entry))) (v-context (merged all es gs))) (now (out .entry)) (now (out .exit)) r) ⌝ }
+    ensures { λ r. ⌜ ((es gs : Entries) → contextAt valueLevels (now (c .entry)) ≡ some es → contextAt valueLevels (now (o .entry)) ≡ some gs
+        → Built (result (length (now (out .entry))) (v-context (merged all es gs))) (now (out .entry)) (now (out .exit)) r) ⌝ }
 {
     let n = updates::merge(all, c, o, spare);
     give_within(spare, n, out)
@@ -210,7 +213,8 @@ pub(crate) fn move_in(
     requires { ⌜ Small (now c) (now path) (now c) ⌝ }
     requires { ⌜ ((x : Val) → wholeAt valueLevels (valueIn (now c) at to) ≡ some x → levelV x ≤ level) ⌝ }
     requires { ⌜ length (now c) ≤ length (now spare) ⌝ }
-    ensures { λ r. ⌜ ((es : Entries) (x : Val) → contextAt valueLevels (closed count (now (c .entry)) at to) ≡ some es → wholeAt valueLevels (valueIn (now (c .entry)) at to) ≡ some x → Built (answered (length (now (out .entry))) (updated false (now (path .entry)) x es)) (now (out .entry)) (now (out .exit)) r) ⌝ }
+    ensures { λ r. ⌜ ((es : Entries) (x : Val) → contextAt valueLevels (closed count (now (c .entry)) at to) ≡ some es → wholeAt valueLevels (valueIn (now (c .entry)) at to) ≡ some x
+        → Built (answered (length (now (out .entry))) (updated false (now (path .entry)) x es)) (now (out .entry)) (now (out .exit)) r) ⌝ }
 {
     let k = updates::write_without(c, at, to, count, spare);
     let p = at + NAME_WIDTH;

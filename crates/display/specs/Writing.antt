@@ -18,7 +18,7 @@ use Rattle.display.specs.declared.Shown.{Shown}
 use Rattle.display.specs.declared.Shown.the-variants as shown-is
 use Rattle.display.specs.declared.Span.{Span}
 use Rattle.display.specs.declared.Span.the-variants as span-is
-use Rattle.form.specs.Options.{map}
+use Rattle.form.specs.Options.{map, WhereRead, WhereBoth}
 use Rattle.output.specs.Output.{Filled}
 
 -- what stands in front of entry i: a comma and a space, but not in front of the first
@@ -46,8 +46,7 @@ pub record Located (o : Option (List ℕ)) (s : List ℕ) (r : Span) : Type 0 wh
 
 -- the text with this number
 unfoldable pub Locates : Option (List (List ℕ)) → ℕ → List ℕ → Span → Type 0
-Locates (some ts) n s r = Located (nth ts n) s r
-Locates none n s r = Unit {0}
+Locates table n s r = WhereRead (Unit {0}) (λ ts. Located (nth ts n) s r) table
 
 -- text k of the table stands at `at`: what is read from there on are the texts from k on
 pub record Stands (a : List ℕ) (k at : ℕ) : Type 0 where
@@ -93,9 +92,7 @@ pub record Gave {X : Type 0} (S : Showing X) (ts : List (List ℕ)) (x : X) (old
 
 -- of what stands there, over the table that was read
 unfoldable pub Shows : {X : Type 0} → Showing X → Option X → Option (List (List ℕ)) → List ℕ → List ℕ → Shown → Type 0
-Shows S (some x) (some ts) old new r = Gave S ts x old new r
-Shows S (some x) none old new r = Unit {0}
-Shows S none ts old new r = Unit {0}
+Shows S what table old new r = WhereBoth (Unit {0}) (λ x ts. Gave S ts x old new r) what table
 
 -- both arguments of the call were accepted
 pub record Accepted (t table : List ℕ) : Type 0 where

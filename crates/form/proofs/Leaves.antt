@@ -12,7 +12,7 @@ use lib.Seq.{getD-drop}
 use borrow.Author.Tests.{ne-eqb}
 use Rattle.form.specs.Trees.{Ty, Val, simple, isDataLeaf}
 use Rattle.form.specs.Form.{levelV}
-use Rattle.form.specs.Layout.{tSimple, ofType, kindOf, operands, operandsV, widthOf}
+use Rattle.form.specs.Layout.{ValueKind, tSimple, ofType, kindOf, operands, operandsV, widthOf}
 use Rattle.form.specs.Read.{Got, got, bad, readT, stepType, stepT, readV}
 use Rattle.form.specs.Walks.{walkOf, leafIn, Short, operandEnd}
 use Rattle.form.specs.Walks as walk
@@ -90,7 +90,7 @@ pub key-end : (b x : ℕ) → 2 ≤ b → x ≤ 255 → x ≤ operandEnd b
 unfolding operandEnd
 key-end b x h k = rw (ne-eqb b 0 (λ e. omega arith), ne-eqb b 1 (λ e. omega arith)) k
 
-judged : (left : ℕ) (s : List ℕ) (v : Val) (n : ℕ) → NodeV left s v n → Judged s v n
+judged : {j : ValueKind} (left : ℕ) (s : List ℕ) (v : Val) (n : ℕ) → NodeV left s j v n → Judged s v n
 unfolding widthOf kindOf operands operandsV operandEnd
 judged left s v n (nNull c k x) = a-leaf refl (here _ 0 _ _ _ c (record { command = omega arith; wide = refl; two = omega arith; room = k; operand = λ _. x }))
 judged left s v n (nBoolean c k x) = a-leaf refl (here _ 1 _ _ _ c (record { command = omega arith; wide = refl; two = omega arith; room = k; operand = λ _. x }))

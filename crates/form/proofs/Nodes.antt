@@ -1,9 +1,9 @@
 -- For the walks that come after the reader: what was read, node by node, in the terms of the code (an element, a part from an index).
 -- Idea: the reader's step is taken apart once for each command; a walk then matches on the node.
--- Index: `TypeRead`, `NodeT`, `type-read` (a type); `ValueRead`, `NodeV`, `value-read` (a value); `item-parts`, `named-parts` (the first child of a run).
+-- Index: `TypeRead`, `NodeT`, `type-read` (a type); `ValueRead`, `NodeV`, `value-read`, `node-of` (a value); `item-parts`, `named-parts` (the first child of a run).
 -- Assumes nothing.
 use Prim.Native.Nat.{ℕ, zero, suc, _+_, _-_, _<_, _≤_}
-use mathlib.Core.Path.{_≡_, sym, subst}
+use mathlib.Core.Path.{_≡_, refl, sym, subst, _∙_}
 use mathlib.Core.List.{List, [], _∷_}
 use native.Mathlib.Omega.{arith}
 use lib.ListN.{length, getD, take, drop}
@@ -13,7 +13,7 @@ use Rattle.form.specs.Trees.{Ty, leaf, built, list, range, context, func
 use Rattle.form.specs.Trees.{v-function, v-built-in, v-type, v-irrelevant, Vals, Entries, decode, decodeTemporal}
 use Rattle.form.specs.Limits.{nameWidth}
 use Rattle.form.specs.Form.{num, numAt}
-use Rattle.form.specs.Layout.{ValueKind, TypeKind, Kind, kindOf}
+use Rattle.form.specs.Layout.{ValueKind, kNull, kBoolean, kNumber, kString, kTemporal, kRange, kList, kContext, kDefinition, kBuiltIn, kType, kIrrelevant, TypeKind, Kind, ofValue, kindOf}
 use Rattle.form.specs.Read.{Got, got, front, andThen, orElse, named, readRun, readNamed, readFields, readTys, readVals, readEntries, readParams, readFlag, readKey, counted, readFunction}
 use Rattle.form.specs.Read.{readRange, signature, readDefinition, stepType, stepT, readT, stepValue, stepV, readV}
 use Rattle.form.specs.Faults.{Shape, Names}
@@ -92,42 +92,45 @@ type-read (suc l) (b ∷ s) t n e =
     let z : suc l - 1 ≡ l = omega arith in
     record { some-level = omega arith; some-byte = omega arith; node = subst (λ (k : ℕ). NodeT k (b ∷ s) t n) (sym z) (step-node l b s (kindOf b) (view b) t n e) }
 
--- ---- a value
-pub data NodeV (left : ℕ) (s : List ℕ) : Val → ℕ → Type 0 where
-  nNull : getD s 0 0 ≡ 0 → 2 ≤ length s → getD s 1 0 ≤ 3 → NodeV left s (v-leaf (l-null (getD s 1 0))) 2
-  nBoolean : getD s 0 0 ≡ 1 → 2 ≤ length s → getD s 1 0 ≤ 1 → NodeV left s (v-leaf (l-boolean (eqb (getD s 1 0) 1))) 2
-  nNumber : getD s 0 0 ≡ 2 → 9 ≤ length s → NodeV left s (v-leaf (l-number (numAt 8 1 s))) 9
-  nString : getD s 0 0 ≡ 3 → 1 + nameWidth ≤ length s → NodeV left s (v-leaf (l-string (numAt nameWidth 1 s))) (1 + nameWidth)
-  nTemporal : 4 ≤ getD s 0 0 → getD s 0 0 < 9 → 9 ≤ length s → NodeV left s (v-leaf (l-temporal (decodeTemporal (getD s 0 0 - 4)) (numAt 8 1 s))) 9
+-- ---- a value, by the kind of its command
+pub data NodeV (left : ℕ) (s : List ℕ) : ValueKind → Val → ℕ → Type 0 where
+  nNull : getD s 0 0 ≡ 0 → 2 ≤ length s → getD s 1 0 ≤ 3 → NodeV left s kNull (v-leaf (l-null (getD s 1 0))) 2
+  nBoolean : getD s 0 0 ≡ 1 → 2 ≤ length s → getD s 1 0 ≤ 1 → NodeV left s kBoolean (v-leaf (l-boolean (eqb (getD s 1 0) 1))) 2
+  nNumber : getD s 0 0 ≡ 2 → 9 ≤ length s → NodeV left s kNumber (v-leaf (l-number (numAt 8 1 s))) 9
+  nString : getD s 0 0 ≡ 3 → 1 + nameWidth ≤ length s → NodeV left s kString (v-leaf (l-string (numAt nameWidth 1 s))) (1 + nameWidth)
+  nTemporal : 4 ≤ getD s 0 0 → getD s 0 0 < 9 → 9 ≤ length s → NodeV left s kTemporal (v-leaf (l-temporal (decodeTemporal (getD s 0 0 - 4)) (numAt 8 1 s))) 9
   nRangeV : getD s 0 0 ≡ 9 → 3 ≤ length s → getD s 1 0 ≤ 3 → getD s 2 0 ≤ 3 → (v : Val) (m : ℕ) → readV left (drop 3 s) ≡ got v m → (w : Val) (n : ℕ) → readV left (drop m (drop 3 s)) ≡ got w n
-      → NodeV left s (v-range (getD s 1 0) (getD s 2 0) v w) (3 + m + n)
-  nListV : getD s 0 0 ≡ 10 → 3 ≤ length s → (vs : Vals) (n : ℕ) → readVals (readV left) (numAt 2 1 s) (drop 3 s) ≡ got vs n → NodeV left s (v-list vs) (3 + n)
-  nContextV : getD s 0 0 ≡ 11 → 3 ≤ length s → (es : Entries) (n : ℕ) → readEntries (readV left) (numAt 2 1 s) 0 (drop 3 s) ≡ got es n → NodeV left s (v-context es) (3 + n)
+      → NodeV left s kRange (v-range (getD s 1 0) (getD s 2 0) v w) (3 + m + n)
+  nListV : getD s 0 0 ≡ 10 → 3 ≤ length s → (vs : Vals) (n : ℕ) → readVals (readV left) (numAt 2 1 s) (drop 3 s) ≡ got vs n → NodeV left s kList (v-list vs) (3 + n)
+  nContextV : getD s 0 0 ≡ 11 → 3 ≤ length s → (es : Entries) (n : ℕ) → readEntries (readV left) (numAt 2 1 s) 0 (drop 3 s) ≡ got es n → NodeV left s kContext (v-context es) (3 + n)
   nDefinition : getD s 0 0 ≡ 12 → 4 ≤ length s → (t : Ty) (m : ℕ) → readT left (drop 4 s) ≡ got t m → (ps : Params) (n : ℕ) → readParams (readT left) (getD s 1 0) 0 (drop m (drop 4 s)) ≡ got ps n
-      → NodeV left s (v-function ps (numAt 2 2 s) t) (4 + m + n)
-  nBuiltIn : getD s 0 0 ≡ 13 → 2 ≤ length s → getD s 1 0 ≤ 85 → NodeV left s (v-built-in (getD s 1 0)) 2
-  nType : getD s 0 0 ≡ 14 → (t : Ty) (n : ℕ) → readT left (drop 1 s) ≡ got t n → NodeV left s (v-type t) (1 + n)
-  nIrrelevant : getD s 0 0 ≡ 15 → NodeV left s v-irrelevant 1
+      → NodeV left s kDefinition (v-function ps (numAt 2 2 s) t) (4 + m + n)
+  nBuiltIn : getD s 0 0 ≡ 13 → 2 ≤ length s → getD s 1 0 ≤ 85 → NodeV left s kBuiltIn (v-built-in (getD s 1 0)) 2
+  nType : getD s 0 0 ≡ 14 → (t : Ty) (n : ℕ) → readT left (drop 1 s) ≡ got t n → NodeV left s kType (v-type t) (1 + n)
+  nIrrelevant : getD s 0 0 ≡ 15 → NodeV left s kIrrelevant v-irrelevant 1
 
 pub record ValueRead (l : ℕ) (s : List ℕ) (v : Val) (n : ℕ) : Type 0 where
   pub some-level : 0 < l
   pub some-byte : 0 < length s
-  pub node : NodeV (l - 1) s v n
+  pub kind : ValueKind
+  pub told : kindOf (getD s 0 0) ≡ ofValue kind
+  pub node : NodeV (l - 1) s kind v n
 
-as-nodeV : {left : ℕ} {s : List ℕ} {v w : Val} {n m : ℕ} → v ≡ w → n ≡ m → NodeV left s v n → NodeV left s w m
+as-nodeV : {left : ℕ} {s : List ℕ} {j : ValueKind} {v w : Val} {n m : ℕ} → v ≡ w → n ≡ m → NodeV left s j v n → NodeV left s j w m
 as-nodeV p q f = rw (← p, ← q) f
 
-flag-node : (l b m : ℕ) (mk : ℕ → Val) (s : List ℕ) (v : Val) (n : ℕ) → readFlag m mk s ≡ got v n → (2 ≤ length (b ∷ s) → getD (b ∷ s) 1 0 ≤ m → NodeV l (b ∷ s) (mk (getD (b ∷ s) 1 0)) 2)
-    → NodeV l (b ∷ s) v n
+flag-node : {j : ValueKind} (l b m : ℕ) (mk : ℕ → Val) (s : List ℕ) (v : Val) (n : ℕ) → readFlag m mk s ≡ got v n
+    → (2 ≤ length (b ∷ s) → getD (b ∷ s) 1 0 ≤ m → NodeV l (b ∷ s) j (mk (getD (b ∷ s) 1 0)) 2) → NodeV l (b ∷ s) j v n
 unfolding readFlag
 flag-node l b m mk [] v n e k = absurd (bad-got e)
 flag-node l b m mk (x ∷ s) v n e k = orElse-parts Shape (leb x m) (got (mk x) 2) v n e (λ t e₁. got-parts (mk x) v 2 n e₁ (λ p q. as-nodeV p q (k (omega arith) (leb-true x m t))))
 
-key-node : (l b c : ℕ) (mk : ℕ → Val) (s : List ℕ) (v : Val) (n : ℕ) → readKey c mk s ≡ got v n → (1 + c ≤ length (b ∷ s) → NodeV l (b ∷ s) (mk (num (take c s))) (1 + c)) → NodeV l (b ∷ s) v n
+key-node : {j : ValueKind} (l b c : ℕ) (mk : ℕ → Val) (s : List ℕ) (v : Val) (n : ℕ) → readKey c mk s ≡ got v n → (1 + c ≤ length (b ∷ s) → NodeV l (b ∷ s) j (mk (num (take c s))) (1 + c))
+    → NodeV l (b ∷ s) j v n
 unfolding readKey
 key-node l b c mk s v n e k = operand-parts c (λ x r. got (mk x) (1 + c)) s v n e (λ h e₁. got-parts (mk (num (take c s))) v (1 + c) n e₁ (λ p q. as-nodeV p q (k (omega arith))))
 
-range-node : (l b : ℕ) (s : List ℕ) → b ≡ 9 → (v : Val) (n : ℕ) → readRange (readV l) s ≡ got v n → NodeV l (b ∷ s) v n
+range-node : (l b : ℕ) (s : List ℕ) → b ≡ 9 → (v : Val) (n : ℕ) → readRange (readV l) s ≡ got v n → NodeV l (b ∷ s) kRange v n
 unfolding readRange
 range-node l b [] be v n e = absurd (bad-got e)
 range-node l b (i ∷ []) be v n e = absurd (bad-got e)
@@ -136,19 +139,19 @@ range-node l b (i ∷ j ∷ s) be v n e =
     orElse-parts Shape (leb j 3) (andThen (v-range i j) 3 s (readV l) (readV l s)) v n e₁ (λ tj e₂.
     then-parts (v-range i j) 3 s (readV l) (readV l s) v n e₂ (λ x m px y k py pz pn. as-nodeV pz pn (nRangeV be (omega arith) (leb-true i 3 ti) (leb-true j 3 tj) x m px y k py))))
 
-list-node : (l b : ℕ) (s : List ℕ) → b ≡ 10 → (v : Val) (n : ℕ) → counted v-list (λ c r. readVals (readV l) c r) s ≡ got v n → NodeV l (b ∷ s) v n
+list-node : (l b : ℕ) (s : List ℕ) → b ≡ 10 → (v : Val) (n : ℕ) → counted v-list (λ c r. readVals (readV l) c r) s ≡ got v n → NodeV l (b ∷ s) kList v n
 unfolding counted
 list-node l b s be v n e =
     operand-parts 2 (λ c r. front v-list 3 (readVals (readV l) c r)) s v n e (λ h e₀.
     front-parts v-list 3 (readVals (readV l) (num (take 2 s)) (drop 2 s)) v n e₀ (λ vs m px pz pn. as-nodeV pz pn (nListV be (omega arith) vs m px)))
 
-entries-node : (l b : ℕ) (s : List ℕ) → b ≡ 11 → (v : Val) (n : ℕ) → counted v-context (λ c r. readEntries (readV l) c 0 r) s ≡ got v n → NodeV l (b ∷ s) v n
+entries-node : (l b : ℕ) (s : List ℕ) → b ≡ 11 → (v : Val) (n : ℕ) → counted v-context (λ c r. readEntries (readV l) c 0 r) s ≡ got v n → NodeV l (b ∷ s) kContext v n
 unfolding counted
 entries-node l b s be v n e =
     operand-parts 2 (λ c r. front v-context 3 (readEntries (readV l) c 0 r)) s v n e (λ h e₀.
     front-parts v-context 3 (readEntries (readV l) (num (take 2 s)) 0 (drop 2 s)) v n e₀ (λ es m px pz pn. as-nodeV pz pn (nContextV be (omega arith) es m px)))
 
-definition-node : (l b : ℕ) (s : List ℕ) → b ≡ 12 → (v : Val) (n : ℕ) → readDefinition (readT l) s ≡ got v n → NodeV l (b ∷ s) v n
+definition-node : (l b : ℕ) (s : List ℕ) → b ≡ 12 → (v : Val) (n : ℕ) → readDefinition (readT l) s ≡ got v n → NodeV l (b ∷ s) kDefinition v n
 unfolding readDefinition signature
 definition-node l b [] be v n e = absurd (bad-got e)
 definition-node l b (c ∷ s) be v n e =
@@ -156,7 +159,7 @@ definition-node l b (c ∷ s) be v n e =
     then-parts (λ t ps. v-function ps (num (take 2 s)) t) 4 (drop 2 s) (readParams (readT l) c 0) (readT l (drop 2 s)) v n e₀
     (λ t m px ps k py pz pn. as-nodeV pz pn (nDefinition be (omega arith) t m px ps k py)))
 
-value-node : (l b : ℕ) (s : List ℕ) (k : ValueKind) → ViewV b k → (v : Val) (n : ℕ) → stepValue (readV l) (readT l) k b s ≡ got v n → NodeV l (b ∷ s) v n
+value-node : (l b : ℕ) (s : List ℕ) (k : ValueKind) → ViewV b k → (v : Val) (n : ℕ) → stepValue (readV l) (readT l) k b s ≡ got v n → NodeV l (b ∷ s) k v n
 unfolding stepValue
 value-node l b s k (isNull p) v n e = flag-node l b 3 (λ x. v-leaf (l-null x)) s v n e (nNull p)
 value-node l b s k (isBoolean p) v n e = flag-node l b 1 (λ x. v-leaf (l-boolean (eqb x 1))) s v n e (nBoolean p)
@@ -171,9 +174,9 @@ value-node l b s k (isBuiltIn p) v n e = flag-node l b 85 v-built-in s v n e (nB
 value-node l b s k (isFeelType p) v n e = front-parts v-type 1 (readT l s) v n e (λ u m px pz pn. as-nodeV pz pn (nType p u m px))
 value-node l b s k (isIrrelevant p) v n e = got-parts v-irrelevant v 1 n e (λ x y. as-nodeV x y (nIrrelevant p))
 
-step-nodeV : (l b : ℕ) (s : List ℕ) (k : Kind) → View b k → (v : Val) (n : ℕ) → stepV (readV l) (readT l) k b s ≡ got v n → NodeV l (b ∷ s) v n
+step-nodeV : (l b : ℕ) (s : List ℕ) (k : Kind) → View b k → (v : Val) (n : ℕ) → stepV (readV l) (readT l) k b s ≡ got v n → (j : ValueKind) × (k ≡ ofValue j) × NodeV l (b ∷ s) j v n
 unfolding stepV
-step-nodeV l b s k (isValue j w) v n e = value-node l b s j w v n e
+step-nodeV l b s k (isValue j w) v n e = (j, refl, value-node l b s j w v n e)
 step-nodeV l b s k (isType j w) v n e = absurd (bad-got e)
 step-nodeV l b s k (isGap p q) v n e = absurd (bad-got e)
 step-nodeV l b s k (isBeyond p) v n e = absurd (bad-got e)
@@ -185,4 +188,12 @@ value-read zero (b ∷ s) v n e = absurd (bad-got e)
 value-read (suc l) [] v n e = absurd (bad-got e)
 value-read (suc l) (b ∷ s) v n e =
     let z : suc l - 1 ≡ l = omega arith in
-    record { some-level = omega arith; some-byte = omega arith; node = subst (λ (k : ℕ). NodeV k (b ∷ s) v n) (sym z) (step-nodeV l b s (kindOf b) (view b) v n e) }
+    let N = step-nodeV l b s (kindOf b) (view b) v n e in
+    record { some-level = omega arith; some-byte = omega arith; kind = N .0; told = N .1; node = subst (λ (k : ℕ). NodeV k (b ∷ s) (N .0) v n) (sym z) (N .2) }
+
+same-kind : {j k : ValueKind} → ofValue j ≡ ofValue k → j ≡ k
+same-kind e = cc
+
+-- where the kind of the command is known, there is one case
+pub node-of : (k : ValueKind) (l : ℕ) (s : List ℕ) (v : Val) (n : ℕ) → kindOf (getD s 0 0) ≡ ofValue k → readV l s ≡ got v n → NodeV (l - 1) s k v n
+node-of k l s v n c e = let R = value-read l s v n e in subst (λ j. NodeV (l - 1) s j v n) (same-kind (sym (R .told) ∙ c)) (R .node)

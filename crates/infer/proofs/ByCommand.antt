@@ -12,20 +12,17 @@ use native.Mathlib.Omega.{arith}
 use lib.ListN.{length, getD, take, drop, set, length-append, length-set}
 use lib.Seq.{getD-drop}
 use borrow.Rule.Slice.PartMut.{putMid, same-len-mid, set-mid-at}
-use Rattle.form.specs.Trees.{Ty, code, Leaf, l-null, l-boolean, l-number, l-string, l-temporal, decodeTemporal, Params, Val, v-leaf, v-range, v-list, v-context, v-function, v-type, no-items, item}
+use Rattle.form.specs.Trees.{Ty, code, Leaf, l-null, Params, Val, v-leaf, v-range, v-list, v-context, v-function, v-type, no-items, item}
 use Rattle.form.specs.Trees.{Entries}
 use Rattle.form.specs.Form.{bytes, numAt, Bytes, enc, encV, WfV, WfVals, WfEntries}
-use Rattle.form.specs.Layout.{ofValue, kTemporal, kindOf, operandsV, operands, widthOf}
+use Rattle.form.specs.Layout.{kindOf, operandsV, operands, widthOf, ValueKind, kNull, kRange, kList, kContext, kDefinition, kType}
 use Rattle.form.specs.Answers.{onto}
 use Rattle.form.proofs.Exact.{bytes-drop}
-use Rattle.form.proofs.CommandKinds.{kind-temporal, width-is}
-use Rattle.form.proofs.ExactValues.{code-decode}
 use Rattle.form.proofs.Runs.{rest, length-rest}
 use Rattle.order.specs.Order.{fixed}
 use Rattle.order.specs.Size.{size, sizeVal, sizeVals, sizeEntries}
 use Rattle.order.specs.Values.{leafType, isDataBy, areData, holdData}
 use Rattle.order.specs.Inferred.{isData}
-use Rattle.order.proofs.Simple.{temporal-code}
 use Rattle.order.proofs.Bools.{and-true}
 use Rattle.order.proofs.Size.{length-enc, size-positive}
 use Rattle.order.proofs.LeastSize.{count-types-of}
@@ -34,7 +31,7 @@ use Rattle.types.proofs.Entries.{size-got}
 use Rattle.types.proofs.Instances.{front-bytes}
 use Rattle.values.specs.At.{valueAt, itemsAt, entriesAt, Definition, definition, sizeDefinition, definitionAt}
 use Rattle.values.proofs.Reading.{some-byte, some-level, v-inside, IsVal, is-null, is-boolean, is-number, is-string, is-temporal, is-range, is-list, is-context, is-definition, is-built-in, is-type}
-use Rattle.values.proofs.Reading.{is-irrelevant, is-val, encoded}
+use Rattle.values.proofs.Reading.{is-irrelevant, is-val, as-null, as-leaf, as-range, as-list, as-context, as-definition, as-type, encoded}
 use Rattle.output.proofs.OntoLaws.{onto-first, onto-two, onto-three, length-onto}
 use Rattle.infer.specs.Typing.{typeBy, Fits, FitVal, FitDefinition, Fitting, Plain, Starts, Wrote, Typed, typeText, fieldsText, innerText, signatureText}
 use Rattle.infer.proofs.Trees.{fine, list-is, range-is, context-is, leaf-is, built-in-is, irrelevant-is, function-is, type-is, count-is}
@@ -123,48 +120,25 @@ simple-wrote m l s v read b t n e old h =
 abbrev Simply : Bool → Val → ℕ → ℕ → Type 0
 Simply m v b n = (typeText m v ≡ b ∷ []) × (n + 1 ≡ sizeVal v)
 
-leaf-simply : (m : Bool) (x : Leaf) (b c : ℕ) → c ≡ b → 32 + code (leafType x) ≡ b + 32 → widthOf b + 1 ≡ sizeVal (v-leaf x) → Simply m (v-leaf x) (c + 32) (widthOf c)
+leaf-text : (m : Bool) (x : Leaf) → typeText m (v-leaf x) ≡ (32 + code (leafType x)) ∷ []
 unfolding enc
-leaf-simply m x b c e p q = (ap enc (leaf-is m x) ∙ ap (λ (z : ℕ). z ∷ []) p ∙ ap (λ (z : ℕ). (z + 32) ∷ []) (sym e), ap (λ (z : ℕ). widthOf z + 1) e ∙ q)
+leaf-text m x = ap enc (leaf-is m x)
 
 module _ (m : Bool) (l : ℕ) (s : List ℕ) where
-  null-of : (v : Val) → IsVal l s v → getD s 0 0 ≡ 0 → (typeText m v ≡ 41 ∷ []) × (2 ≡ sizeVal v)
+  null-of : {v : Val} → IsVal l s kNull v → (typeText m v ≡ 41 ∷ []) × (2 ≡ sizeVal v)
   unfolding enc sizeVal
-  null-of v (is-null x c) h = (ap enc (leaf-is m (l-null x)), refl)
-  null-of v (is-boolean x c) h = absurd (omega arith)
-  null-of v (is-number x c) h = absurd (omega arith)
-  null-of v (is-string x c) h = absurd (omega arith)
-  null-of v (is-temporal x c k) h = absurd (omega arith)
-  null-of v (is-range i j a b c k e) h = absurd (omega arith)
-  null-of v (is-list vs c k e) h = absurd (omega arith)
-  null-of v (is-context es c k e) h = absurd (omega arith)
-  null-of v (is-definition r ps b c k e) h = absurd (omega arith)
-  null-of v (is-built-in x c) h = absurd (omega arith)
-  null-of v (is-type t c e) h = absurd (omega arith)
-  null-of v (is-irrelevant c) h = absurd (omega arith)
+  null-of (is-null x c) = (ap enc (leaf-is m (l-null x)), refl)
 
-  leaf-of : (v : Val) → IsVal l s v → (getD s 0 0 ≡ 0 → ⊥) → getD s 0 0 < 9 → Simply m v (getD s 0 0 + 32) (widthOf (getD s 0 0))
-  unfolding sizeVal kindOf operands operandsV widthOf
-  leaf-of v (is-null x c) g h = absurd (g c)
-  leaf-of v (is-boolean x c) g h = leaf-simply m (l-boolean x) 1 (getD s 0 0) c refl refl
-  leaf-of v (is-number x c) g h = leaf-simply m (l-number x) 2 (getD s 0 0) c refl refl
-  leaf-of v (is-string x c) g h = leaf-simply m (l-string x) 3 (getD s 0 0) c refl refl
-  leaf-of v (is-temporal x c k) g h = leaf-simply m (l-temporal (decodeTemporal (getD s 0 0 - 4)) x) (getD s 0 0) (getD s 0 0) refl
-      (omega (arith, temporal-code (decodeTemporal (getD s 0 0 - 4)), code-decode (getD s 0 0 - 4) (omega arith)))
-      (ap (λ (z : ℕ). z + 1) (width-is (getD s 0 0) (ofValue kTemporal) (kind-temporal (getD s 0 0) c k)))
-  leaf-of v (is-range i j a b c k e) g h = absurd (omega arith)
-  leaf-of v (is-list vs c k e) g h = absurd (omega arith)
-  leaf-of v (is-context es c k e) g h = absurd (omega arith)
-  leaf-of v (is-definition r ps b c k e) g h = absurd (omega arith)
-  leaf-of v (is-built-in x c) g h = absurd (omega arith)
-  leaf-of v (is-type t c e) g h = absurd (omega arith)
-  leaf-of v (is-irrelevant c) g h = absurd (omega arith)
+  leaf-of : (v : Val) → valueAt l s ≡ some v → (getD s 0 0 ≡ 0 → ⊥) → getD s 0 0 < 9 → Simply m v (getD s 0 0 + 32) (widthOf (getD s 0 0))
+  leaf-of v e g h =
+      let L = as-leaf l s v e h in
+      subst (λ x. Simply m x (getD s 0 0 + 32) (widthOf (getD s 0 0))) (sym (L .is)) (leaf-text m (L .x) ∙ ap (λ (z : ℕ). z ∷ []) (L .type g), L .size)
 
   -- none of the commands that have an arm of their own
   abbrev Other : Type 0
   Other = (((((Unit {0} × (getD s 0 0 ≡ 0 → ⊥)) × (getD s 0 0 ≡ 9 → ⊥)) × (getD s 0 0 ≡ 10 → ⊥)) × (getD s 0 0 ≡ 11 → ⊥)) × (getD s 0 0 ≡ 12 → ⊥)) × (getD s 0 0 ≡ 14 → ⊥)
 
-  other-of : (v : Val) → IsVal l s v → Other → 9 ≤ getD s 0 0 → Simply m v 32 (widthOf (getD s 0 0))
+  other-of : {j : ValueKind} (v : Val) → IsVal l s j v → Other → 9 ≤ getD s 0 0 → Simply m v 32 (widthOf (getD s 0 0))
   unfolding enc sizeVal kindOf operands operandsV widthOf
   other-of v (is-null x c) g h = absurd (omega arith)
   other-of v (is-boolean x c) g h = absurd (omega arith)
@@ -175,7 +149,7 @@ module _ (m : Bool) (l : ℕ) (s : List ℕ) where
   other-of v (is-list vs c k e) g h = absurd (g .0 .0 .0 .1 c)
   other-of v (is-context es c k e) g h = absurd (g .0 .0 .1 c)
   other-of v (is-definition r ps b c k e) g h = absurd (g .0 .1 c)
-  other-of v (is-built-in x c) g h = (ap enc (built-in-is m x), ap (λ (z : ℕ). widthOf z + 1) c)
+  other-of v (is-built-in c k) g h = (ap enc (built-in-is m (getD s 1 0)), ap (λ (z : ℕ). widthOf z + 1) c)
   other-of v (is-type t c e) g h = absurd (g .1 c)
   other-of v (is-irrelevant c) g h = (ap enc (irrelevant-is m), ap (λ (z : ℕ). widthOf z + 1) c)
 
@@ -193,14 +167,9 @@ module _ (m : Bool) (l : ℕ) (s old : List ℕ) (spare : ℕ) (bs : Bytes s) wh
   abbrev Ranges : Type 0
   Ranges = Part m l s old spare WfVals (areData fixed) (λ vs. sizeVals vs + 1) sizeVals (innerText m true) (itemsAt (l - 1) 2 (behind 3 s)) 3 1 (set old 0 43)
 
-  range-of : (v : Val) → Given v → IsVal l s v → getD s 0 0 ≡ 9 → Ranges
+  range-of : (v : Val) → Given v → IsVal l s kRange v → Ranges
   unfolding enc sizeVal WfV isDataBy
-  range-of v G (is-null x c) h = absurd (omega arith)
-  range-of v G (is-boolean x c) h = absurd (omega arith)
-  range-of v G (is-number x c) h = absurd (omega arith)
-  range-of v G (is-string x c) h = absurd (omega arith)
-  range-of v G (is-temporal x c k) h = absurd (omega arith)
-  range-of v G (is-range i j a b c k e) h =
+  range-of v G (is-range i j a b c k e) =
       record {
         under = record {
           v = v-range i j a b;
@@ -224,25 +193,13 @@ module _ (m : Bool) (l : ℕ) (s old : List ℕ) (spare : ℕ) (bs : Bytes s) wh
           small = omega (arith, G .1 .small);
         };
       }
-  range-of v G (is-list vs c k e) h = absurd (omega arith)
-  range-of v G (is-context es c k e) h = absurd (omega arith)
-  range-of v G (is-definition r ps b c k e) h = absurd (omega arith)
-  range-of v G (is-built-in x c) h = absurd (omega arith)
-  range-of v G (is-type t c e) h = absurd (omega arith)
-  range-of v G (is-irrelevant c) h = absurd (omega arith)
 
   abbrev Lists : ℕ → Type 0
   Lists n = Part m l s old spare WfVals (areData fixed) (λ vs. sizeVals vs + 1) sizeVals (innerText m false) (itemsAt (l - 1) n (behind 3 s)) 3 1 (set old 0 42)
 
-  list-of : (n : ℕ) → n ≡ numAt 2 1 s → (v : Val) → Given v → IsVal l s v → getD s 0 0 ≡ 10 → Lists n
+  list-of : (n : ℕ) → n ≡ numAt 2 1 s → (v : Val) → Given v → IsVal l s kList v → Lists n
   unfolding enc sizeVal WfV isDataBy
-  list-of n w v G (is-null x c) h = absurd (omega arith)
-  list-of n w v G (is-boolean x c) h = absurd (omega arith)
-  list-of n w v G (is-number x c) h = absurd (omega arith)
-  list-of n w v G (is-string x c) h = absurd (omega arith)
-  list-of n w v G (is-temporal x c k) h = absurd (omega arith)
-  list-of n w v G (is-range i j a b c k e) h = absurd (omega arith)
-  list-of n w v G (is-list vs c k e) h =
+  list-of n w v G (is-list vs c k e) =
       record {
         under = record {
           v = v-list vs;
@@ -266,11 +223,6 @@ module _ (m : Bool) (l : ℕ) (s old : List ℕ) (spare : ℕ) (bs : Bytes s) wh
           small = omega (arith, G .1 .small);
         };
       }
-  list-of n w v G (is-context es c k e) h = absurd (omega arith)
-  list-of n w v G (is-definition r ps b c k e) h = absurd (omega arith)
-  list-of n w v G (is-built-in x c) h = absurd (omega arith)
-  list-of n w v G (is-type t c e) h = absurd (omega arith)
-  list-of n w v G (is-irrelevant c) h = absurd (omega arith)
 
   abbrev three : List ℕ
   three = set (set (set old 0 44) 1 (getD s 1 0)) 2 (getD s 2 0)
@@ -287,16 +239,9 @@ module _ (m : Bool) (l : ℕ) (s old : List ℕ) (spare : ℕ) (bs : Bytes s) wh
       ∙ ap (λ (z : ℕ). 44 ∷ z % 256 ∷ z / 256 % 256 ∷ fieldsText m es) (count-is m es)
       ∙ ap₂ (λ (y z : ℕ). 44 ∷ y ∷ z ∷ fieldsText m es) (sym (ap (λ (z : List ℕ). getD z 1 0) (F .bytes))) (sym (ap (λ (z : List ℕ). getD z 2 0) (F .bytes)))
 
-  context-of : (n : ℕ) → n ≡ numAt 2 1 s → (v : Val) → Given v → IsVal l s v → getD s 0 0 ≡ 11 → Contexts n
+  context-of : (n : ℕ) → n ≡ numAt 2 1 s → (v : Val) → Given v → IsVal l s kContext v → Contexts n
   unfolding sizeVal WfV isDataBy
-  context-of n w v G (is-null x c) h = absurd (omega arith)
-  context-of n w v G (is-boolean x c) h = absurd (omega arith)
-  context-of n w v G (is-number x c) h = absurd (omega arith)
-  context-of n w v G (is-string x c) h = absurd (omega arith)
-  context-of n w v G (is-temporal x c k) h = absurd (omega arith)
-  context-of n w v G (is-range i j a b c k e) h = absurd (omega arith)
-  context-of n w v G (is-list vs c k e) h = absurd (omega arith)
-  context-of n w v G (is-context es c k e) h =
+  context-of n w v G (is-context es c k e) =
       record {
         under = record {
           v = v-context es;
@@ -320,10 +265,6 @@ module _ (m : Bool) (l : ℕ) (s old : List ℕ) (spare : ℕ) (bs : Bytes s) wh
           small = omega (arith, G .1 .small);
         };
       }
-  context-of n w v G (is-definition r ps b c k e) h = absurd (omega arith)
-  context-of n w v G (is-built-in x c) h = absurd (omega arith)
-  context-of n w v G (is-type t c e) h = absurd (omega arith)
-  context-of n w v G (is-irrelevant c) h = absurd (omega arith)
 
   abbrev two : List ℕ
   two = set (set old 0 45) 1 (getD s 1 0)
@@ -339,17 +280,9 @@ module _ (m : Bool) (l : ℕ) (s old : List ℕ) (spare : ℕ) (bs : Bytes s) wh
       ap enc (function-is m ps b r d)
       ∙ ap (λ (z : ℕ). 45 ∷ z ∷ signatureText (definition r ps)) (count-types-of ps ∙ sym (ap (λ (z : List ℕ). getD z 1 0) (F .bytes)))
 
-  definition-of : (n : ℕ) → n ≡ getD s 1 0 → (v : Val) → Given v → IsVal l s v → getD s 0 0 ≡ 12 → Defines n
+  definition-of : (n : ℕ) → n ≡ getD s 1 0 → (v : Val) → Given v → IsVal l s kDefinition v → Defines n
   unfolding sizeVal
-  definition-of n w v G (is-null x c) h = absurd (omega arith)
-  definition-of n w v G (is-boolean x c) h = absurd (omega arith)
-  definition-of n w v G (is-number x c) h = absurd (omega arith)
-  definition-of n w v G (is-string x c) h = absurd (omega arith)
-  definition-of n w v G (is-temporal x c k) h = absurd (omega arith)
-  definition-of n w v G (is-range i j a b c k e) h = absurd (omega arith)
-  definition-of n w v G (is-list vs c k e) h = absurd (omega arith)
-  definition-of n w v G (is-context es c k e) h = absurd (omega arith)
-  definition-of n w v G (is-definition r ps b c k e) h =
+  definition-of n w v G (is-definition r ps b c k e) =
       record {
         v = v-function ps b r;
         read = G .0;
@@ -364,9 +297,6 @@ module _ (m : Bool) (l : ℕ) (s old : List ℕ) (spare : ℕ) (bs : Bytes s) wh
         long = refl;
         same = length-set (set old 0 45) 1 (getD s 1 0) ∙ length-set old 0 45;
       }
-  definition-of n w v G (is-built-in x c) h = absurd (omega arith)
-  definition-of n w v G (is-type t c e) h = absurd (omega arith)
-  definition-of n w v G (is-irrelevant c) h = absurd (omega arith)
 
   -- a type as a value
   pub record AType : Type 0 where
@@ -376,20 +306,9 @@ module _ (m : Bool) (l : ℕ) (s old : List ℕ) (spare : ℕ) (bs : Bytes s) wh
     pub is : typeBy m (v-type t) ≡ t
     pub roomy : 1 + size t ≤ length old
 
-  type-of : (v : Val) → Given v → IsVal l s v → getD s 0 0 ≡ 14 → AType
+  type-of : (v : Val) → Given v → IsVal l s kType v → AType
   unfolding sizeVal
-  type-of v G (is-null x c) h = absurd (omega arith)
-  type-of v G (is-boolean x c) h = absurd (omega arith)
-  type-of v G (is-number x c) h = absurd (omega arith)
-  type-of v G (is-string x c) h = absurd (omega arith)
-  type-of v G (is-temporal x c k) h = absurd (omega arith)
-  type-of v G (is-range i j a b c k e) h = absurd (omega arith)
-  type-of v G (is-list vs c k e) h = absurd (omega arith)
-  type-of v G (is-context es c k e) h = absurd (omega arith)
-  type-of v G (is-definition r ps b c k e) h = absurd (omega arith)
-  type-of v G (is-built-in x c) h = absurd (omega arith)
-  type-of v G (is-type t c e) h = record { t = t; read = G .0; at = e; is = type-is m t (G .1 .apt); roomy = G .1 .roomy }
-  type-of v G (is-irrelevant c) h = absurd (omega arith)
+  type-of v G (is-type t c e) = record { t = t; read = G .0; at = e; is = type-is m t (G .1 .apt); roomy = G .1 .roomy }
 
   size-type : (t : Ty) → sizeVal (v-type t) ≡ 1 + size t
   unfolding sizeVal
@@ -428,7 +347,7 @@ module _ (m : Bool) (l : ℕ) (s old spare : List ℕ) (p : FitVal m (valueAt l 
   abbrev given : Given m l s old (length spare) bs (O .x)
   given = (O .read, O .fits)
 
-  abbrev kind : IsVal l s (O .x)
+  abbrev kind : (j : ValueKind) × IsVal l s j (O .x)
   kind = is-val l s (O .x) (O .read)
 
   pub first-byte : 0 < length s
@@ -441,7 +360,7 @@ module _ (m : Bool) (l : ℕ) (s old spare : List ℕ) (p : FitVal m (valueAt l 
   one-free = one m l s old (length spare) bs (O .x) given
 
   pub null-done : getD s 0 0 ≡ 0 → Typed sizeVal (typeText m) (valueAt l s) old (set old 0 41) 2 1
-  null-done c = let N = null-of m l s (O .x) kind c in simple-wrote m l s (O .x) (O .read) 41 (N .0) 2 (N .1) old one-free
+  null-done c = let N = null-of m l s (as-null l s (O .x) (O .read) c) in simple-wrote m l s (O .x) (O .read) 41 (N .0) 2 (N .1) old one-free
 
   simply-ends : (b n : ℕ) → Simply m (O .x) b n → n + 1 ≤ length s
   simply-ends b n N = omega (arith, N .1, v-inside l s (O .x) (O .read))
@@ -452,35 +371,35 @@ module _ (m : Bool) (l : ℕ) (s old spare : List ℕ) (p : FitVal m (valueAt l 
   plain-done : (n : ℕ) → Plain (getD s 0 0) n → Typed sizeVal (typeText m) (valueAt l s) old (set old 0 (getD s 0 0 + 32)) n 1
   plain-done n P =
       subst (λ (z : ℕ). Typed sizeVal (typeText m) (valueAt l s) old (set old 0 (getD s 0 0 + 32)) z 1) (sym (P .size))
-      (simply-done _ _ (leaf-of m l s (O .x) kind (λ e. omega (arith, P .some)) (P .low)) (widthOf (getD s 0 0)) refl)
+      (simply-done _ _ (leaf-of m l s (O .x) (O .read) (λ e. omega (arith, P .some)) (P .low)) (widthOf (getD s 0 0)) refl)
 
   module _ (other : Other m l s) where
     pub leaf-ends : getD s 0 0 < 9 → widthOf (getD s 0 0) + 1 ≤ length s
-    leaf-ends h = simply-ends _ _ (leaf-of m l s (O .x) kind (other .0 .0 .0 .0 .0 .1) h)
+    leaf-ends h = simply-ends _ _ (leaf-of m l s (O .x) (O .read) (other .0 .0 .0 .0 .0 .1) h)
 
     pub leaf-done : getD s 0 0 < 9 → (k : ℕ) → k ≡ widthOf (getD s 0 0) → Typed sizeVal (typeText m) (valueAt l s) old (set old 0 (getD s 0 0 + 32)) (k + 1) 1
-    leaf-done h = simply-done _ _ (leaf-of m l s (O .x) kind (other .0 .0 .0 .0 .0 .1) h)
+    leaf-done h = simply-done _ _ (leaf-of m l s (O .x) (O .read) (other .0 .0 .0 .0 .0 .1) h)
 
     pub other-ends : 9 ≤ getD s 0 0 → widthOf (getD s 0 0) + 1 ≤ length s
-    other-ends h = simply-ends _ _ (other-of m l s (O .x) kind other h)
+    other-ends h = simply-ends _ _ (other-of m l s (O .x) (kind .1) other h)
 
     pub other-done : 9 ≤ getD s 0 0 → (k : ℕ) → k ≡ widthOf (getD s 0 0) → Typed sizeVal (typeText m) (valueAt l s) old (set old 0 32) (k + 1) 1
-    other-done h = simply-done _ _ (other-of m l s (O .x) kind other h)
+    other-done h = simply-done _ _ (other-of m l s (O .x) (kind .1) other h)
 
   pub in-range : getD s 0 0 ≡ 9 → Ranges m l s old (length spare) bs
-  in-range c = range-of m l s old (length spare) bs (O .x) given kind c
+  in-range c = range-of m l s old (length spare) bs (O .x) given (as-range l s (O .x) (O .read) c)
 
   pub in-list : (n : ℕ) → n ≡ numAt 2 1 s → getD s 0 0 ≡ 10 → Lists m l s old (length spare) bs n
-  in-list n e c = list-of m l s old (length spare) bs n e (O .x) given kind c
+  in-list n e c = list-of m l s old (length spare) bs n e (O .x) given (as-list l s (O .x) (O .read) c)
 
   pub in-context : (n : ℕ) → n ≡ numAt 2 1 s → getD s 0 0 ≡ 11 → Contexts m l s old (length spare) bs n
-  in-context n e c = context-of m l s old (length spare) bs n e (O .x) given kind c
+  in-context n e c = context-of m l s old (length spare) bs n e (O .x) given (as-context l s (O .x) (O .read) c)
 
   pub in-definition : (n : ℕ) → n ≡ getD s 1 0 → getD s 0 0 ≡ 12 → Under m l s old sizeDefinition signatureText (definitionAt (l - 1) n (behind 4 s)) 4 2 (set (set old 0 45) 1 (getD s 1 0))
-  in-definition n e c = definition-of m l s old (length spare) bs n e (O .x) given kind c
+  in-definition n e c = definition-of m l s old (length spare) bs n e (O .x) given (as-definition l s (O .x) (O .read) c)
 
   pub in-type : getD s 0 0 ≡ 14 → AType m l s old (length spare) bs
-  in-type c = type-of m l s old (length spare) bs (O .x) given kind c
+  in-type c = type-of m l s old (length spare) bs (O .x) given (as-type l s (O .x) (O .read) c)
 
 pub definition-fits : {m : Bool} {l : ℕ} {s old : List ℕ} {r : Option Definition} {xs : List ℕ} → Under m l s old sizeDefinition signatureText r 4 2 xs → FitDefinition r (length (behind 2 xs))
 unfolding FitDefinition

@@ -14,7 +14,7 @@ use lib.Seq.{drop-drop}
 use Rattle.form.specs.Trees.{Val, Vals, no-items, item, Entries}
 use Rattle.form.specs.Limits.{nameWidth}
 use Rattle.form.specs.Form.{numAt}
-use Rattle.form.specs.Layout.{ValueKind, kNull, kBoolean, kNumber, kString, kTemporal, ofValue, kindOf, operandsV, operands, widthOf}
+use Rattle.form.specs.Layout.{ValueKind, kBoolean, kNumber, kString, kTemporal, kRange, kList, kContext, ofValue, kindOf, operandsV, operands, widthOf}
 use Rattle.form.proofs.CommandKinds.{kind-temporal, width-is}
 use Rattle.form.proofs.Runs.{rest}
 use Rattle.order.specs.Order.{fixed}
@@ -25,7 +25,8 @@ use Rattle.types.specs.At.{Ok}
 use Rattle.types.proofs.Reading.{is-ok, ok-got}
 use Rattle.types.proofs.Entries.{step}
 use Rattle.values.specs.At.{valueAt, itemsAt, entriesAt}
-use Rattle.values.proofs.Reading.{IsVal, is-null, is-boolean, is-number, is-string, is-temporal, is-range, is-list, is-context, is-definition, is-built-in, is-type, is-irrelevant, is-val, some-byte}
+use Rattle.values.proofs.Reading.{IsVal, is-null, is-boolean, is-number, is-string, is-temporal, is-range, is-list, is-context, is-definition, is-built-in, is-type, is-irrelevant}
+use Rattle.values.proofs.Reading.{is-val, as-leaf, as-range, as-list, as-context, some-byte}
 use Rattle.values.proofs.Reading.{some-level, v-inside, items-inside, entries-inside, Item, next-item, no-item, Entry, next-entry, no-entry}
 use Rattle.infer.specs.Typing.{dataBy, addSize, Plain}
 use Rattle.infer.specs.declared.data.Data.{Data}
@@ -233,22 +234,11 @@ unfolding operandsV
 plain-temporal b p q = plain b b 9 kTemporal refl (kind-temporal b p q) refl (omega arith) q
 
 -- leaves are data, and their size is the width of the command and one
-data-leaf : (l : ℕ) (s : List ℕ) (v : Val) → IsVal l s v → getD s 0 0 < 9 → (isData v ≡ true) × (widthOf (getD s 0 0) + 1 ≡ sizeVal v)
-unfolding isDataBy sizeVal operandsV kindOf
-data-leaf l s v (is-null x c) h = (refl, width-of (getD s 0 0) 0 2 kNull c refl refl)
-data-leaf l s v (is-boolean x c) h = (refl, width-of (getD s 0 0) 1 2 kBoolean c refl refl)
-data-leaf l s v (is-number x c) h = (refl, width-of (getD s 0 0) 2 9 kNumber c refl refl)
-data-leaf l s v (is-string x c) h = (refl, width-of (getD s 0 0) 3 (1 + nameWidth) kString c refl refl)
-data-leaf l s v (is-temporal x c d) h = (refl, width-of (getD s 0 0) (getD s 0 0) 9 kTemporal refl (kind-temporal (getD s 0 0) c d) refl)
-data-leaf l s v (is-range i j a b c k p) h = absurd (omega arith)
-data-leaf l s v (is-list vs c k p) h = absurd (omega arith)
-data-leaf l s v (is-context es c k p) h = absurd (omega arith)
-data-leaf l s v (is-definition r ps b c k p) h = absurd (omega arith)
-data-leaf l s v (is-built-in x c) h = absurd (omega arith)
-data-leaf l s v (is-type t c p) h = absurd (omega arith)
-data-leaf l s v (is-irrelevant c) h = absurd (omega arith)
+data-leaf : (l : ℕ) (s : List ℕ) (v : Val) → valueAt l s ≡ some v → getD s 0 0 < 9 → (isData v ≡ true) × (widthOf (getD s 0 0) + 1 ≡ sizeVal v)
+unfolding isDataBy
+data-leaf l s v e h = let L = as-leaf l s v e h in (ap isData (L .is), L .size ∙ ap sizeVal (sym (L .is)))
 
-not-data : (l : ℕ) (s : List ℕ) (v : Val) → IsVal l s v → 12 ≤ getD s 0 0 → isData v ≡ false
+not-data : {j : ValueKind} (l : ℕ) (s : List ℕ) (v : Val) → IsVal l s j v → 12 ≤ getD s 0 0 → isData v ≡ false
 unfolding isDataBy
 not-data l s v (is-null x c) h = absurd (omega arith)
 not-data l s v (is-boolean x c) h = absurd (omega arith)
@@ -259,7 +249,7 @@ not-data l s v (is-range i j a b c k p) h = absurd (omega arith)
 not-data l s v (is-list vs c k p) h = absurd (omega arith)
 not-data l s v (is-context es c k p) h = absurd (omega arith)
 not-data l s v (is-definition r ps b c k p) h = refl
-not-data l s v (is-built-in x c) h = refl
+not-data l s v (is-built-in c k) h = refl
 not-data l s v (is-type t c p) h = refl
 not-data l s v (is-irrelevant c) h = refl
 
@@ -280,14 +270,9 @@ module _ (l : ℕ) (s : List ℕ) where
   abbrev W : Data
   W = dataBy isData sizeVal (valueAt l s)
 
-  run-range : (v : Val) → IsVal l s v → sizeVal v ≤ length s → W ≡ told (isData v) (sizeVal v) → getD s 0 0 ≡ 9 → Run (areData fixed) sizeVals (itemsAt (l - 1) 2) s W
+  run-range : {v : Val} → IsVal l s kRange v → sizeVal v ≤ length s → W ≡ told (isData v) (sizeVal v) → Run (areData fixed) sizeVals (itemsAt (l - 1) 2) s W
   unfolding isDataBy sizeVal
-  run-range v (is-null x c) i w h = absurd (omega arith)
-  run-range v (is-boolean x c) i w h = absurd (omega arith)
-  run-range v (is-number x c) i w h = absurd (omega arith)
-  run-range v (is-string x c) i w h = absurd (omega arith)
-  run-range v (is-temporal x c d) i w h = absurd (omega arith)
-  run-range v (is-range a b p q c k r) i w h =
+  run-range (is-range a b p q c k r) i w =
       record {
         x = item p (item q no-items);
         three = k;
@@ -296,22 +281,10 @@ module _ (l : ℕ) (s : List ℕ) where
         whole = w ∙ ap (λ b. told b (3 + sizeVal p + sizeVal q)) (sym (and-true (isData p) (isData q)))
             ∙ ap (told (isData p && (isData q && true))) (omega arith);
       }
-  run-range v (is-list vs c k p) i w h = absurd (omega arith)
-  run-range v (is-context es c k p) i w h = absurd (omega arith)
-  run-range v (is-definition r ps b c k p) i w h = absurd (omega arith)
-  run-range v (is-built-in x c) i w h = absurd (omega arith)
-  run-range v (is-type t c p) i w h = absurd (omega arith)
-  run-range v (is-irrelevant c) i w h = absurd (omega arith)
 
-  run-list : (v : Val) → IsVal l s v → sizeVal v ≤ length s → W ≡ told (isData v) (sizeVal v) → (n : ℕ) → n ≡ numAt 2 1 s → getD s 0 0 ≡ 10 → Run (areData fixed) sizeVals (itemsAt (l - 1) n) s W
+  run-list : {v : Val} → IsVal l s kList v → sizeVal v ≤ length s → W ≡ told (isData v) (sizeVal v) → (n : ℕ) → n ≡ numAt 2 1 s → Run (areData fixed) sizeVals (itemsAt (l - 1) n) s W
   unfolding isDataBy sizeVal
-  run-list v (is-null x c) i w n e h = absurd (omega arith)
-  run-list v (is-boolean x c) i w n e h = absurd (omega arith)
-  run-list v (is-number x c) i w n e h = absurd (omega arith)
-  run-list v (is-string x c) i w n e h = absurd (omega arith)
-  run-list v (is-temporal x c d) i w n e h = absurd (omega arith)
-  run-list v (is-range a b p q c k r) i w n e h = absurd (omega arith)
-  run-list v (is-list vs c k p) i w n e h = record {
+  run-list (is-list vs c k p) i w n e = record {
     x = vs;
     three = k;
     read = ap (λ m. itemsAt (l - 1) m (drop 3 s)) e ∙ p;
@@ -319,23 +292,11 @@ module _ (l : ℕ) (s : List ℕ) where
     whole = w
         ∙ ap (told (areData fixed vs)) (omega arith);
   }
-  run-list v (is-context es c k p) i w n e h = absurd (omega arith)
-  run-list v (is-definition r ps b c k p) i w n e h = absurd (omega arith)
-  run-list v (is-built-in x c) i w n e h = absurd (omega arith)
-  run-list v (is-type t c p) i w n e h = absurd (omega arith)
-  run-list v (is-irrelevant c) i w n e h = absurd (omega arith)
 
-  run-context : (v : Val) → IsVal l s v → sizeVal v ≤ length s → W ≡ told (isData v) (sizeVal v) → (n : ℕ) → n ≡ numAt 2 1 s → getD s 0 0 ≡ 11
+  run-context : {v : Val} → IsVal l s kContext v → sizeVal v ≤ length s → W ≡ told (isData v) (sizeVal v) → (n : ℕ) → n ≡ numAt 2 1 s
       → Run (holdData fixed) sizeEntries (entriesAt (l - 1) n 0) s W
   unfolding isDataBy sizeVal
-  run-context v (is-null x c) i w n e h = absurd (omega arith)
-  run-context v (is-boolean x c) i w n e h = absurd (omega arith)
-  run-context v (is-number x c) i w n e h = absurd (omega arith)
-  run-context v (is-string x c) i w n e h = absurd (omega arith)
-  run-context v (is-temporal x c d) i w n e h = absurd (omega arith)
-  run-context v (is-range a b p q c k r) i w n e h = absurd (omega arith)
-  run-context v (is-list vs c k p) i w n e h = absurd (omega arith)
-  run-context v (is-context es c k p) i w n e h = record {
+  run-context (is-context es c k p) i w n e = record {
     x = es;
     three = k;
     read = ap (λ m. entriesAt (l - 1) m 0 (drop 3 s)) e ∙ p;
@@ -343,10 +304,6 @@ module _ (l : ℕ) (s : List ℕ) where
     whole = w
         ∙ ap (told (holdData fixed es)) (omega arith);
   }
-  run-context v (is-definition r ps b c k p) i w n e h = absurd (omega arith)
-  run-context v (is-built-in x c) i w n e h = absurd (omega arith)
-  run-context v (is-type t c p) i w n e h = absurd (omega arith)
-  run-context v (is-irrelevant c) i w n e h = absurd (omega arith)
 
 -- ---- the returns of `is_data`
 module _ (l : ℕ) (s : List ℕ) (p : Ok (valueAt l s)) where
@@ -364,26 +321,26 @@ module _ (l : ℕ) (s : List ℕ) (p : Ok (valueAt l s)) where
 
   pub leaf-done : (w : ℕ) → w ≡ widthOf (getD s 0 0) → getD s 0 0 < 9 → Yes (w + 1) ≡ dataBy isData sizeVal (valueAt l s)
   leaf-done w q h = tree (λ v e.
-      let d = data-leaf l s v (is-val l s v e) h in
+      let d = data-leaf l s v e h in
       sym (whole-is v e ∙ ap (λ b. told b (sizeVal v)) (d .0) ∙ ap Yes (omega (arith, d .1))))
 
   leaf-known : (n : ℕ) → Plain (getD s 0 0) n → Yes n ≡ dataBy isData sizeVal (valueAt l s)
   leaf-known n P = ap Yes (P .size) ∙ leaf-done (widthOf (getD s 0 0)) refl (P .low)
 
   pub leaf-fits : (w : ℕ) → w ≡ widthOf (getD s 0 0) → getD s 0 0 < 9 → w + 1 ≤ length s
-  leaf-fits w q h = tree (λ v e. omega (arith, data-leaf l s v (is-val l s v e) h .1, v-inside l s v e))
+  leaf-fits w q h = tree (λ v e. omega (arith, data-leaf l s v e h .1, v-inside l s v e))
 
   pub other-done : 12 ≤ getD s 0 0 → No ≡ dataBy isData sizeVal (valueAt l s)
-  other-done h = tree (λ v e. sym (whole-is v e ∙ ap (λ b. told b (sizeVal v)) (not-data l s v (is-val l s v e) h)))
+  other-done h = tree (λ v e. sym (whole-is v e ∙ ap (λ b. told b (sizeVal v)) (not-data l s v (is-val l s v e .1) h)))
 
   pub ranges : getD s 0 0 ≡ 9 → Run (areData fixed) sizeVals (itemsAt (l - 1) 2) s (dataBy isData sizeVal (valueAt l s))
-  ranges h = tree (λ v e. run-range l s v (is-val l s v e) (v-inside l s v e) (whole-is v e) h)
+  ranges h = tree (λ v e. run-range l s (as-range l s v e h) (v-inside l s v e) (whole-is v e))
 
   pub lists : (n : ℕ) → n ≡ numAt 2 1 s → getD s 0 0 ≡ 10 → Run (areData fixed) sizeVals (itemsAt (l - 1) n) s (dataBy isData sizeVal (valueAt l s))
-  lists n q h = tree (λ v e. run-list l s v (is-val l s v e) (v-inside l s v e) (whole-is v e) n q h)
+  lists n q h = tree (λ v e. run-list l s (as-list l s v e h) (v-inside l s v e) (whole-is v e) n q)
 
   pub contexts : (n : ℕ) → n ≡ numAt 2 1 s → getD s 0 0 ≡ 11 → Run (holdData fixed) sizeEntries (entriesAt (l - 1) n 0) s (dataBy isData sizeVal (valueAt l s))
-  contexts n q h = tree (λ v e. run-context l s v (is-val l s v e) (v-inside l s v e) (whole-is v e) n q h)
+  contexts n q h = tree (λ v e. run-context l s (as-context l s v e h) (v-inside l s v e) (whole-is v e) n q)
 
 -- what a callee on the run asks and answers
 module _ {X : Type 0} {test : X → Bool} {sz : X → ℕ} {at : List ℕ → Option X} {s : List ℕ} {W : Data} (R : Run test sz at s W) where

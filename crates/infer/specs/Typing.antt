@@ -11,6 +11,7 @@ use Rattle.form.specs.Trees.{any, null, Ty, leaf, Fields, Val, Vals, no-items, 
 use Rattle.form.specs.Form.{enc, encFields, encTys, Wf, WfV, WfVals, WfEntries}
 use Rattle.form.specs.Layout.{widthOf}
 use Rattle.form.specs.Answers.{onto}
+use Rattle.form.specs.Options.{WhereRead, WhereBoth}
 use Rattle.order.specs.Order.{fixed}
 use Rattle.order.specs.Types.{reduce}
 use Rattle.order.specs.Size.{size, sizeVal, sizeVals, sizeEntries}
@@ -75,8 +76,7 @@ pub record Fits {X : Type 0} (wf : X → Type 0) (test : X → Bool) (want : X �
   pub small : want x ≤ mostBytes
 
 unfoldable pub Fitting : {X : Type 0} → (X → Type 0) → (X → Bool) → (X → ℕ) → Bool → Option X → ℕ → ℕ → Type 0
-Fitting wf test want least (some x) room spare = Fits wf test want least x room spare
-Fitting wf test want least none room spare = ⊥
+Fitting wf test want least r room spare = WhereRead ⊥ (λ x. Fits wf test want least x room spare) r
 
 -- of a value, of the entries of a context, of items, of a definition
 abbrev pub FitVal : Bool → Option Val → ℕ → ℕ → Type 0
@@ -91,8 +91,7 @@ FitItems least vs room spare = Fitting WfVals (areData fixed) (λ vs. sizeVals v
 
 -- a function type behind its count is never longer than the definition
 unfoldable pub FitDefinition : Option Definition → ℕ → Type 0
-FitDefinition (some d) room = sizeDefinition d ≤ room
-FitDefinition none room = ⊥
+FitDefinition r room = WhereRead ⊥ (λ d. sizeDefinition d ≤ room) r
 
 -- ---- what they leave
 -- `bs` stand at the front
@@ -107,8 +106,7 @@ pub record Wrote {X : Type 0} (sz : X → ℕ) (text : X → List ℕ) (x : X) (
   pub kept : length new ≡ length old
 
 unfoldable pub Typed : {X : Type 0} → (X → ℕ) → (X → List ℕ) → Option X → List ℕ → List ℕ → ℕ → ℕ → Type 0
-Typed sz text (some x) old new read wrote = Wrote sz text x old new read wrote
-Typed sz text none old new read wrote = Unit {0}
+Typed sz text r old new read wrote = WhereRead (Unit {0}) (λ x. Wrote sz text x old new read wrote) r
 
 -- the bytes of a value's type, of a context's entries, of the one type of all items, of a definition's function type behind its count
 abbrev pub typeText : Bool → Val → List ℕ
@@ -134,19 +132,14 @@ pub record Side (t u : Ty) (s : List ℕ) (n m spare : ℕ) : Type 0 where
   pub wf-second : Wf u
 
 unfoldable pub Sides : Option Ty → Option Ty → List ℕ → ℕ → ℕ → ℕ → Type 0
-Sides (some t) (some u) s n m spare = Side t u s n m spare
-Sides (some t) none s n m spare = ⊥
-Sides none y s n m spare = ⊥
+Sides x y s n m spare = WhereBoth ⊥ (λ t u. Side t u s n m spare) x y
 
 -- where the least type is asked, the first is reduced
 unfoldable pub Reduced : Bool → Option Ty → Type 0
-Reduced least (some t) = least ≡ true → reduce fixed t ≡ t
-Reduced least none = ⊥
+Reduced least x = WhereRead ⊥ (λ t. least ≡ true → reduce fixed t ≡ t) x
 
 unfoldable pub Kept : Bool → Option Ty → Option Ty → Bool → Type 0
-Kept equal (some t) (some u) r = r ≡ keepsFirst equal t u
-Kept equal (some t) none r = Unit {0}
-Kept equal none y r = Unit {0}
+Kept equal x y r = WhereBoth (Unit {0}) (λ t u. r ≡ keepsFirst equal t u) x y
 
 pub record Stands (t : Ty) (old new : List ℕ) (n : ℕ) : Type 0 where
   pub long : n ≡ length (enc t)
@@ -154,6 +147,4 @@ pub record Stands (t : Ty) (old new : List ℕ) (n : ℕ) : Type 0 where
   pub kept : length new ≡ length old
 
 unfoldable pub Joined : Bool → Bool → Option Ty → Option Ty → List ℕ → List ℕ → ℕ → Type 0
-Joined least equal (some t) (some u) old new r = Stands (joined least equal t u) old new r
-Joined least equal (some t) none old new r = Unit {0}
-Joined least equal none y old new r = Unit {0}
+Joined least equal x y old new r = WhereBoth (Unit {0}) (λ t u. Stands (joined least equal t u) old new r) x y

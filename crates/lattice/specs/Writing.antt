@@ -3,12 +3,13 @@
 -- Assumes nothing.
 use mathlib.Core.Path.{_≡_}
 use mathlib.Core.Bool.{Bool, true, false}
-use mathlib.Core.Option.{Option, none, some}
+use mathlib.Core.Option.{Option}
 use mathlib.Core.List.{List, _++_}
 use Prim.Native.Nat.{ℕ, _≤_}
 use Rattle.form.specs.Trees.{Ty, Fields}
 use Rattle.form.specs.Form.{enc, encFields, encTys, countFields}
 use Rattle.form.specs.Answers.{onto}
+use Rattle.form.specs.Options.{WhereBoth}
 use Rattle.order.specs.Order.{Dir, up, down, flip, pick, fixed}
 use Rattle.order.specs.Types.{reduce, reduceFields, reduceTys, bound, bounds, intersectWith, merge}
 use Rattle.order.specs.Size.{size, sizeFields}
@@ -53,9 +54,7 @@ mostAnswer = 65535
 
 -- both are there, and the answer has room
 unfoldable pub Ready : {X : Type 0} → Joining X → Option X → Option X → ℕ → Type 0
-Ready J (some t) (some u) n = (J .sized (J .join t u) ≤ n) × (J .sized (J .join t u) ≤ mostAnswer)
-Ready J (some t) none n = ⊥
-Ready J none y n = ⊥
+Ready J x y n = WhereBoth ⊥ (λ t u. (J .sized (J .join t u) ≤ n) × (J .sized (J .join t u) ≤ mostAnswer)) x y
 
 -- `first` and `second` bytes were read of the two, and the answer's `wrote` bytes are over the front of the output
 pub record Wrote {X : Type 0} (J : Joining X) (t u : X) (old new : List ℕ) (first second wrote : ℕ) : Type 0 where
@@ -65,12 +64,8 @@ pub record Wrote {X : Type 0} (J : Joining X) (t u : X) (old new : List ℕ) (fi
   pub out : new ≡ onto (J .text (J .join t u)) old
 
 unfoldable pub Combined : {X : Type 0} → Joining X → Option X → Option X → List ℕ → List ℕ → ℕ → ℕ → ℕ → Type 0
-Combined J (some t) (some u) old new first second wrote = Wrote J t u old new first second wrote
-Combined J (some t) none old new first second wrote = Unit {0}
-Combined J none y old new first second wrote = Unit {0}
+Combined J x y old new first second wrote = WhereBoth (Unit {0}) (λ t u. Wrote J t u old new first second wrote) x y
 
 -- so many entries
 unfoldable pub Counted : Dir → Option Fields → Option Fields → ℕ → Type 0
-Counted d (some fs) (some gs) n = n ≡ countFields (answerFields d fs gs)
-Counted d (some fs) none n = Unit {0}
-Counted d none y n = Unit {0}
+Counted d x y n = WhereBoth (Unit {0}) (λ fs gs. n ≡ countFields (answerFields d fs gs)) x y

@@ -2,13 +2,14 @@
 -- Assumes nothing.
 use Prim.Native.Nat.{ℕ, suc, _-_}
 use mathlib.Core.Path.{_≡_}
-use mathlib.Core.Option.{Option, none, some}
+use mathlib.Core.Option.{Option}
 use mathlib.Core.Bool.{Bool, true, false, cond, not, _&&_, _||_}
 use mathlib.Core.List.{List, [], _∷_, _++_}
 use lib.ListN.{length}
 use lib.Dec.{leb, ltb, eqb}
 use denote.Ref.{RefT, now}
 use Rattle.form.specs.Parts.{LiesAt}
+use Rattle.form.specs.Options.{WhereRead}
 use Rattle.output.specs.Output.{fill}
 
 -- ---- trim
@@ -77,5 +78,4 @@ nameNew parts = pushed 0 false [] parts
 
 -- what a writer of a name leaves: its length, and as much of it as has room
 unfoldable pub Writes : Option (List ℕ) → List ℕ → List ℕ → ℕ → Type 0
-Writes (some bs) old new n = (n ≡ length bs) × (new ≡ fill bs old)
-Writes none old new n = Unit {0}
+Writes r old new n = WhereRead (Unit {0}) (λ bs. (n ≡ length bs) × (new ≡ fill bs old)) r

@@ -28,7 +28,7 @@ use Rattle.order.proofs.LeastSize.{length-encV}
 use Rattle.types.specs.At.{Ok}
 use Rattle.types.proofs.Reading.{is-ok, got-seen}
 use Rattle.values.specs.At.{valueAt, entriesAt, sizeAtV}
-use Rattle.values.proofs.Reading.{is-val, size-got, some-byte, next-entry, no-entry}
+use Rattle.values.proofs.Reading.{size-got, some-byte, next-entry, no-entry, as-context}
 use Rattle.paths.specs.Paths.{valueOf, below, entriesOf, bind, isSome, orEmpty, contextUnder, search, among, containsDeep, entryPlace, place}
 use Rattle.paths.specs.Places.{wholeAt, contextAt, frontAt, Fills, Sights, Sees, placed, Finds, spot, piece, Piece, extent, found, spotIn, Searches, shifted, Clear}
 use Rattle.paths.specs.declared.walk.Place.{Place}
@@ -60,7 +60,7 @@ pub record WholeContext (l : ℕ) (s : List ℕ) (v : Val) : Type 0 where
 
 pub whole-context : (l : ℕ) (s : List ℕ) (v : Val) → wholeAt l s ≡ some v → getD s 0 0 ≡ 11 → WholeContext l s v
 whole-context l s v e h =
-    let K = context-val l s v (is-val l s v (whole-value l s v e)) h in
+    let K = context-val (as-context l s v (whole-value l s v e) h) in
     record { es = K .es; is = K .is; read = at-context l s v (K .es) e (K .is) }
 
 value-other : (l : ℕ) (s : List ℕ) (v : Val) → valueAt l s ≡ some v → (getD s 0 0 ≡ 11 → ⊥) → entriesOf v ≡ none
@@ -341,7 +341,7 @@ module _ {l : ℕ} {s : List ℕ} {n from : ℕ} {last : Bool} (H : Sight l s n 
 
   -- whether it is a context
   pub sight-under : getD s from 0 ≡ 11 → ContextVal (l - 1) (drop from s) x
-  sight-under h = context-val (l - 1) (drop from s) x (is-val (l - 1) (drop from s) x sight-value) (sight-byte ∙ h)
+  sight-under h = context-val (as-context (l - 1) (drop from s) x sight-value (sight-byte ∙ h))
 
   pub sight-context : (h : getD s from 0 ≡ 11) → contextUnder n (H .es) ≡ some (sight-under h .es)
   sight-context h = ap (λ o. bind o entriesOf) (H .told .value ∙ ap some (sight-under h .is))

@@ -26,6 +26,7 @@ use Rattle.paths.specs.Paths.{entriesOf, bind}
 use Rattle.paths.specs.Places.{taken, wholeAt, contextAt, frontAt, Fills}
 use Rattle.values.proofs.EntriesAt.{size-context}
 use Rattle.form.proofs.Options.{none-some, some-same}
+use Rattle.form.specs.Layout.{ValueKind}
 
 -- ---- all bytes were taken
 pub taken-is : (n : ℕ) (r : Got Val) (v : Val) → taken n r ≡ some v → r ≡ got v n
@@ -87,7 +88,7 @@ record Node (l : ℕ) (s : List ℕ) (es : Entries) : Type 0 where
   command : getD s 0 0 ≡ 11
   entries : entriesAt (l - 1) (numAt 2 1 s) 0 (drop 3 s) ≡ some es
 
-node : (l : ℕ) (s : List ℕ) (v : Val) (es : Entries) → IsVal l s v → entriesOf v ≡ some es → Node l s es
+node : {j : ValueKind} (l : ℕ) (s : List ℕ) (v : Val) (es : Entries) → IsVal l s j v → entriesOf v ≡ some es → Node l s es
 node l s v es (is-null x c) h = absurd (none-some h)
 node l s v es (is-boolean x c) h = absurd (none-some h)
 node l s v es (is-number x c) h = absurd (none-some h)
@@ -97,7 +98,7 @@ node l s v es (is-range i j a b c k p) h = absurd (none-some h)
 node l s v es (is-list vs c k p) h = absurd (none-some h)
 node l s v es (is-context fs c k p) h = record { three = k; command = c; entries = p ∙ h }
 node l s v es (is-definition r ps b c k p) h = absurd (none-some h)
-node l s v es (is-built-in x c) h = absurd (none-some h)
+node l s v es (is-built-in c k) h = absurd (none-some h)
 node l s v es (is-type t c p) h = absurd (none-some h)
 node l s v es (is-irrelevant c) h = absurd (none-some h)
 
@@ -113,7 +114,7 @@ pub record Front (l : ℕ) (s : List ℕ) (es : Entries) : Type 0 where
 pub front-of : (l : ℕ) (s : List ℕ) (v : Val) (es : Entries) → valueAt l s ≡ some v → entriesOf v ≡ some es → Front l s es
 front-of l s v es e h =
     let w = of-context v es h in
-    let N = node l s v es (is-val l s v e) h in
+    let N = node l s v es (is-val l s v e .1) h in
     record {
       value = e ∙ ap some w;
       inside = omega (arith, v-inside l s v e, ap sizeVal w, size-context es);

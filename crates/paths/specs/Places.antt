@@ -23,7 +23,7 @@ use Rattle.paths.specs.declared.walk.Seen.{Seen}
 use Rattle.paths.specs.declared.walk.Seen.the-variants as seen-is
 use Rattle.paths.specs.declared.Found.{Found}
 use Rattle.paths.specs.declared.Found.the-variants as found-is
-use Rattle.form.specs.Options.{map}
+use Rattle.form.specs.Options.{map, WhereRead}
 
 -- ---- the value of which all n bytes were taken
 unfoldable pub taken : ℕ → Got Val → Option Val
@@ -51,8 +51,7 @@ placed p (some v) = place-is.At p (p + nameWidth + sizeVal v)
 placed p none = place-is.None p
 
 unfoldable pub Finds : Option Entries → ℕ → Place → Type 0
-Finds (some es) n r = r ≡ placed (entryPlace n es) (valueOf n es)
-Finds none n r = Unit {0}
+Finds c n r = WhereRead (Unit {0}) (λ es. r ≡ placed (entryPlace n es) (valueOf n es)) c
 
 -- its value starts at p; where it is said to be the last one, the context ends with it
 pub record Sights (es : Entries) (n p : ℕ) (last : Bool) : Type 0 where
@@ -95,8 +94,7 @@ abbrev pub spotIn : List ℕ → Entries → Option Spot
 spotIn p es = map (spot (place p es)) (search p es)
 
 unfoldable pub Searches : Option Entries → List ℕ → Found → Type 0
-Searches (some es) p r = found r ≡ done (map extent (spotIn p es))
-Searches none p r = Unit {0}
+Searches c p r = WhereRead (Unit {0}) (λ es. found r ≡ done (map extent (spotIn p es))) c
 
 -- a part that stands k bytes further on
 abbrev pub shifted : ℕ → Outcome (Option Piece) → Outcome (Option Piece)

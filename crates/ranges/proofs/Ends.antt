@@ -16,11 +16,11 @@ use borrow.Author.Tests.{eq-eqb, ne-eqb}
 use Rattle.form.specs.Trees.{Val, v-range, codeTemporal}
 use Rattle.form.specs.Limits.{nameWidth, valueLevels}
 use Rattle.form.specs.Form.{num, numAt}
-use Rattle.form.specs.Layout.{ValueKind, kNumber, kString, kTemporal, ofValue, kindOf, operandsV, operands, widthOf}
+use Rattle.form.specs.Layout.{ValueKind, kNumber, kString, kTemporal, ofValue, kindOf, operandsV, operands, widthOf, kRange}
 use Rattle.form.specs.Read.{got, readV}
 use Rattle.form.proofs.CommandKinds.{kind-temporal, width-is}
 use Rattle.form.proofs.ExactValues.{code-small-temporal}
-use Rattle.form.proofs.Nodes.{NodeV, nNull, nBoolean, nNumber, nString, nTemporal, nRangeV, nListV, nContextV, nDefinition, nBuiltIn, nType, nIrrelevant, value-read}
+use Rattle.form.proofs.Nodes.{NodeV, nRangeV, value-read, node-of}
 use Rattle.types.proofs.Reading.{seen-got}
 use Rattle.values.specs.At.{valueAt}
 use Rattle.ranges.specs.Ranges.{Point, nowhere, text, key, elsewhere, point, inOrder, signedLe}
@@ -66,19 +66,8 @@ record Parts (l : ℕ) (s : List ℕ) (v : Val) : Type 0 where
   second : readV l (drop m (drop 3 s)) ≡ got b n
   is : v ≡ v-range (getD s 1 0) (getD s 2 0) a b
 
-parts : (l : ℕ) (s : List ℕ) (v : Val) (n : ℕ) → NodeV l s v n → getD s 0 0 ≡ 9 → Parts l s v
-parts l s v n (nNull c k x) h = absurd (omega arith)
-parts l s v n (nBoolean c k x) h = absurd (omega arith)
-parts l s v n (nNumber c k) h = absurd (omega arith)
-parts l s v n (nString c k) h = absurd (omega arith)
-parts l s v n (nTemporal c d k) h = absurd (omega arith)
-parts l s v n (nRangeV c k x y a m p b j q) h = record { a = a; b = b; m = m; n = j; first = p; second = q; is = refl }
-parts l s v n (nListV c k vs m p) h = absurd (omega arith)
-parts l s v n (nContextV c k es m p) h = absurd (omega arith)
-parts l s v n (nDefinition c k t m p ps j q) h = absurd (omega arith)
-parts l s v n (nBuiltIn c k x) h = absurd (omega arith)
-parts l s v n (nType c t m p) h = absurd (omega arith)
-parts l s v n (nIrrelevant c) h = absurd (omega arith)
+parts : {l : ℕ} {s : List ℕ} {v : Val} {n : ℕ} → NodeV l s kRange v n → Parts l s v
+parts (nRangeV c k x y a m p b j q) = record { a = a; b = b; m = m; n = j; first = p; second = q; is = refl }
 
 pub record Edges (s : List ℕ) : Type 0 where
   pub p : Point
@@ -93,10 +82,10 @@ edge-read : (l : ℕ) (s : List ℕ) (at : ℕ) (v : Val) (n : ℕ) → readV l 
 edge-read l s at v n e = edge-of s at (length-drop at s) (getD-drop at s 0 0 ∙ ap (λ k. getD s k 0) (add-zero at)) (value-read l (drop at s) v n e .some-byte) v n (front-read l (drop at s) v n e)
 
 pub edges : (s : List ℕ) → Ranged s → Edges s
-unfolding valueAt RangeOf
+unfolding valueAt RangeOf kindOf
 edges s R =
     seen-got (readV valueLevels s) (R .value) (R .read) (λ k e.
-    let P = parts (valueLevels - 1) s (R .value) k (value-read valueLevels s (R .value) k e .node) (R .is) in
+    let P = parts (node-of kRange valueLevels s (R .value) k (ap kindOf (R .is)) e) in
     record {
       p = point (P .a);
       q = point (P .b);

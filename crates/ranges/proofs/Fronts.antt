@@ -15,6 +15,7 @@ use Rattle.form.specs.Read.{got, readV}
 use Rattle.form.proofs.ExactValues.{code-decode}
 use Rattle.form.proofs.Nodes.{NodeV, nNull, nBoolean, nNumber, nString, nTemporal, nRangeV, nListV, nContextV, nDefinition, nBuiltIn, nType, nIrrelevant, value-read}
 use Rattle.ranges.specs.Ranges.{elsewhere, point, command, ofLeaf}
+use Rattle.form.specs.Layout.{ValueKind}
 
 -- no leaf: its command, no point, and no test of leaves is met
 pub record Other (s : List ℕ) (v : Val) : Type 0 where
@@ -35,7 +36,7 @@ pub data Front (s : List ℕ) : Val → ℕ → Type 0 where
 other : {s : List ℕ} (v : Val) (n : ℕ) {b : ℕ} → getD s 0 0 ≡ b → 9 ≤ b → command v ≡ b → point v ≡ elsewhere → ((f : Leaf → Bool) → ofLeaf f v ≡ false) → Front s v n
 other v n c h t p f = f-other v n (record { high = omega arith; told = t ∙ sym c; off = p; no = f })
 
-front-of : (l : ℕ) (s : List ℕ) (v : Val) (n : ℕ) → NodeV l s v n → Front s v n
+front-of : {j : ValueKind} (l : ℕ) (s : List ℕ) (v : Val) (n : ℕ) → NodeV l s j v n → Front s v n
 front-of l s v n (nNull c k x) = f-null c k
 front-of l s v n (nBoolean c k x) = f-boolean c k x
 front-of l s v n (nNumber c k) = f-number c k

@@ -2,7 +2,7 @@
 -- Assumes nothing.
 use mathlib.Core.Path.{_≡_}
 use mathlib.Core.Bool.{Bool, true, false}
-use mathlib.Core.Option.{Option, none, some}
+use mathlib.Core.Option.{Option, some}
 use mathlib.Core.List.{List}
 use Prim.Native.Nat.{ℕ}
 use lib.ListN.{getD}
@@ -13,6 +13,7 @@ use Rattle.form.specs.Outcome.{Outcome, done, _>>=_, _>>_, check, fits}
 use Rattle.form.specs.Trees.{Val}
 use Rattle.form.specs.Form.{enc}
 use Rattle.form.specs.Read.{readValue}
+use Rattle.form.specs.Options.{WhereRead}
 use Rattle.ranges.specs.Ranges.{opened, closed, undefined, isValidRange, command, nullWith, theBoolean, ofLeaf, bifType}
 
 -- a question that every value answers; 1 to 5
@@ -85,8 +86,7 @@ pub record Ranged (v : List ℕ) : Type 0 where
 
 -- the answer of the walk
 unfoldable pub RangeOf : Option Val → Bool → Type 0
-RangeOf (some w) r = r ≡ isValidRange w
-RangeOf none r = Unit {0}
+RangeOf v r = WhereRead (Unit {0}) (λ w. r ≡ isValidRange w) v
 
 abbrev pub RangeIs : List ℕ → Bool → Type 0
 RangeIs v r = RangeOf (valueAt valueLevels v) r

@@ -2,7 +2,8 @@
 ghost use mathlib.Core.Path.{_≡_};
 ghost use lib.ListN.{length};
 ghost use Rattle.form.specs.Answers.{verdict, Built};
-ghost use Rattle.ranges.specs.Calls.{isNullCall, isNumberCall, isStringCall, isListCall, isRangeCall, isTrueCall, isFalseCall, isInvalidCoercionCall, isValidRangeCall, openedCall, closedCall, undefinedCall, bifTypeCall};
+ghost use Rattle.ranges.specs.Calls.{isNullCall, isNumberCall, isStringCall, isListCall, isRangeCall};
+ghost use Rattle.ranges.specs.Calls.{isTrueCall, isFalseCall, isInvalidCoercionCall, isValidRangeCall, openedCall, closedCall, undefinedCall, bifTypeCall};
 
 mod compare;
 mod kinds;

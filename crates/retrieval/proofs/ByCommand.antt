@@ -26,7 +26,8 @@ use Rattle.types.proofs.Reading.{ok-got, cmd, cmd-is}
 use Rattle.types.proofs.Entries.{size-got}
 use Rattle.values.specs.At.{valueAt, sizeAtV}
 use Rattle.values.proofs.Reading as values
-use Rattle.values.proofs.Reading.{v-inside, IsVal, is-null, is-boolean, is-number, is-string, is-temporal, is-range, is-list, is-context, is-definition, is-built-in, is-type, is-irrelevant, is-val}
+use Rattle.values.proofs.Reading.{v-inside, IsVal, is-null, is-boolean, is-number, is-string, is-temporal, is-range, is-list, is-context, is-definition, is-built-in, is-type}
+use Rattle.values.proofs.Reading.{is-irrelevant, is-val, as-null}
 use Rattle.retrieval.specs.declared.builder.Retrieved.the-variants.{Yes, No}
 use Rattle.retrieval.specs.Retrieve.{copied, retrieveLeaf, byRange, byFunction, byAny, byList, byContext, retrieve}
 use Rattle.retrieval.specs.Filling.{outerKind, Retrieves}
@@ -34,6 +35,7 @@ use Rattle.retrieval.proofs.BuilderContract.{retrieves, gave-some, gave
 use Rattle.form.specs.Options.{map}
 use Rattle.output.specs.Output.{fill}
 use Rattle.values.proofs.Reading.{front-text}
+use Rattle.form.specs.Layout.{ValueKind, kNull}
 
 -- ---- the test, by the type's command
 or-none : (b : Bool) → b || false ≡ b
@@ -146,7 +148,7 @@ context-by (built (function ps r)) v f n = refl
 at-command : (v : Val) (d i c : ℕ) → c ≡ i → copied (outerKind i d) v ≡ copied (outerKind c d) v
 at-command v d i c e = ap (λ (z : ℕ). copied (outerKind z d) v) (sym e)
 
-by-kind : (l : ℕ) (s : List ℕ) (v : Val) (t : Ty) → IsVal l s v → (getD s 0 0 ≡ 0 → ⊥) → Neither t → retrieve v t ≡ copied (outerKind (getD s 0 0) (cmd t)) v
+by-kind : {j : ValueKind} (l : ℕ) (s : List ℕ) (v : Val) (t : Ty) → IsVal l s j v → (getD s 0 0 ≡ 0 → ⊥) → Neither t → retrieve v t ≡ copied (outerKind (getD s 0 0) (cmd t)) v
 unfolding retrieve
 by-kind l s v t (is-null x c) z n = absurd (z c)
 by-kind l s v t (is-boolean x c) z n = leaf-by (l-boolean x) t 1 (omega arith) (omega arith) refl n ∙ at-command (v-leaf (l-boolean x)) (cmd t) 1 (getD s 0 0) c
@@ -159,12 +161,12 @@ by-kind l s v t (is-range i j a b c k p) z n = ap (λ q. copied q (v-range i j a
 by-kind l s v t (is-list vs c k p) z n = list-by t (v-list vs) _ n ∙ at-command (v-list vs) (cmd t) 10 (getD s 0 0) c
 by-kind l s v t (is-context es c k p) z n = context-by t (v-context es) _ n ∙ at-command (v-context es) (cmd t) 11 (getD s 0 0) c
 by-kind l s v t (is-definition r ps b c k p) z n = ap (λ q. copied q (v-function ps b r)) (function-by t n) ∙ at-command (v-function ps b r) (cmd t) 12 (getD s 0 0) c
-by-kind l s v t (is-built-in x c) z n = ap (λ q. copied q (v-built-in x)) (any-by t 13 (omega arith) n) ∙ at-command (v-built-in x) (cmd t) 13 (getD s 0 0) c
+by-kind l s v t (is-built-in c k) z n = ap (λ q. copied q (v-built-in (getD s 1 0))) (any-by t 13 (omega arith) n) ∙ at-command (v-built-in (getD s 1 0)) (cmd t) 13 (getD s 0 0) c
 by-kind l s v t (is-type a c p) z n = ap (λ q. copied q (v-type a)) (any-by t 14 (omega arith) n) ∙ at-command (v-type a) (cmd t) 14 (getD s 0 0) c
 by-kind l s v t (is-irrelevant c) z n = ap (λ q. copied q v-irrelevant) (any-by t 15 (omega arith) n) ∙ at-command v-irrelevant (cmd t) 15 (getD s 0 0) c
 
 -- another value by a list type, and by a context type
-not-list : (l : ℕ) (s : List ℕ) (v : Val) (u : Ty) → IsVal l s v → (getD s 0 0 ≡ 0 → ⊥) → (getD s 0 0 ≡ 10 → ⊥) → retrieve v (built (list u)) ≡ none
+not-list : {j : ValueKind} (l : ℕ) (s : List ℕ) (v : Val) (u : Ty) → IsVal l s j v → (getD s 0 0 ≡ 0 → ⊥) → (getD s 0 0 ≡ 10 → ⊥) → retrieve v (built (list u)) ≡ none
 unfolding retrieve
 not-list l s v u (is-null x c) z n = absurd (z c)
 not-list l s v u (is-boolean x c) z n = refl
@@ -175,11 +177,11 @@ not-list l s v u (is-range i j a b c k p) z n = refl
 not-list l s v u (is-list vs c k p) z n = absurd (n c)
 not-list l s v u (is-context es c k p) z n = refl
 not-list l s v u (is-definition r ps b c k p) z n = refl
-not-list l s v u (is-built-in x c) z n = refl
+not-list l s v u (is-built-in c k) z n = refl
 not-list l s v u (is-type a c p) z n = refl
 not-list l s v u (is-irrelevant c) z n = refl
 
-not-context : (l : ℕ) (s : List ℕ) (v : Val) (fs : Fields) → IsVal l s v → (getD s 0 0 ≡ 0 → ⊥) → (getD s 0 0 ≡ 11 → ⊥) → retrieve v (built (context fs)) ≡ none
+not-context : {j : ValueKind} (l : ℕ) (s : List ℕ) (v : Val) (fs : Fields) → IsVal l s j v → (getD s 0 0 ≡ 0 → ⊥) → (getD s 0 0 ≡ 11 → ⊥) → retrieve v (built (context fs)) ≡ none
 unfolding retrieve
 not-context l s v fs (is-null x c) z n = absurd (z c)
 not-context l s v fs (is-boolean x c) z n = refl
@@ -190,25 +192,14 @@ not-context l s v fs (is-range i j a b c k p) z n = refl
 not-context l s v fs (is-list vs c k p) z n = refl
 not-context l s v fs (is-context es c k p) z n = absurd (n c)
 not-context l s v fs (is-definition r ps b c k p) z n = refl
-not-context l s v fs (is-built-in x c) z n = refl
+not-context l s v fs (is-built-in c k) z n = refl
 not-context l s v fs (is-type a c p) z n = refl
 not-context l s v fs (is-irrelevant c) z n = refl
 
 -- Null
-null-text : (l : ℕ) (s : List ℕ) (v : Val) (t : Ty) → IsVal l s v → getD s 0 0 ≡ 0 → (map encV (retrieve v t) ≡ some (0 ∷ 0 ∷ [])) × (2 ≡ sizeVal v)
+null-text : {l : ℕ} {s : List ℕ} {v : Val} (t : Ty) → IsVal l s kNull v → (map encV (retrieve v t) ≡ some (0 ∷ 0 ∷ [])) × (2 ≡ sizeVal v)
 unfolding retrieve encV encLeaf sizeVal
-null-text l s v t (is-null x c) z = (refl, refl)
-null-text l s v t (is-boolean x c) z = absurd (omega arith)
-null-text l s v t (is-number x c) z = absurd (omega arith)
-null-text l s v t (is-string x c) z = absurd (omega arith)
-null-text l s v t (is-temporal x c d) z = absurd (omega arith)
-null-text l s v t (is-range i j a b c k p) z = absurd (omega arith)
-null-text l s v t (is-list vs c k p) z = absurd (omega arith)
-null-text l s v t (is-context es c k p) z = absurd (omega arith)
-null-text l s v t (is-definition r ps b c k p) z = absurd (omega arith)
-null-text l s v t (is-built-in x c) z = absurd (omega arith)
-null-text l s v t (is-type a c p) z = absurd (omega arith)
-null-text l s v t (is-irrelevant c) z = absurd (omega arith)
+null-text t (is-null x c) = (refl, refl)
 
 -- ---- the branches of the code
 module _ (l : ℕ) (t v : List ℕ) (p : Ok (typeAt l t)) (q : Ok (valueAt l v)) where
@@ -218,7 +209,7 @@ module _ (l : ℕ) (t v : List ℕ) (p : Ok (typeAt l t)) (q : Ok (valueAt l v))
   abbrev Y : (y : Val) × (valueAt l v ≡ some y)
   Y = ok-got (valueAt l v) q
 
-  kind : IsVal l v (Y .0)
+  kind : (j : ValueKind) × IsVal l v j (Y .0)
   kind = is-val l v (Y .0) (Y .1)
 
   pub first-v : 0 < length v
@@ -232,25 +223,25 @@ module _ (l : ℕ) (t v : List ℕ) (p : Ok (typeAt l t)) (q : Ok (valueAt l v))
 
   pub null-done : getD v 0 0 ≡ 0 → (k : ℕ) → k ≡ sizeAt (typeAt l t) → (old new : List ℕ) → new ≡ fill (0 ∷ 0 ∷ []) old → Retrieves (typeAt l t) (valueAt l v) old new (Yes k 2 2)
   null-done c k ek old new e =
-      let N = null-text l v (Y .0) (X .0) kind c in
+      let N = null-text (X .0) (as-null l v (Y .0) (Y .1) c) in
       retrieves (typeAt l t) (valueAt l v) (X .0) (Y .0) old new (Yes k 2 2) (X .1) (Y .1)
       (gave-some (X .0) (Y .0) old new (0 ∷ 0 ∷ []) k 2 2 (N .0) (ek ∙ size-got (typeAt l t) (X .0) (X .1)) (N .1) refl e)
 
   pub list-refused : getD t 0 0 ≡ 0x2A → (getD v 0 0 ≡ 0 → ⊥) → (getD v 0 0 ≡ 0x0A → ⊥) → (old : List ℕ) → Retrieves (typeAt l t) (valueAt l v) old old No
   list-refused c z n old =
       let I = types.is-list l t (X .0) (X .1) c in
-      refused old (ap (retrieve (Y .0)) (I .2) ∙ not-list l v (Y .0) (I .0) kind z n)
+      refused old (ap (retrieve (Y .0)) (I .2) ∙ not-list l v (Y .0) (I .0) (kind .1) z n)
 
   pub context-refused : getD t 0 0 ≡ 0x2C → (getD v 0 0 ≡ 0 → ⊥) → (getD v 0 0 ≡ 0x0B → ⊥) → (old : List ℕ) → Retrieves (typeAt l t) (valueAt l v) old old No
   context-refused c z n old =
       let I = types.is-ctx l t (X .0) (X .1) c in
-      refused old (ap (retrieve (Y .0)) (I .is) ∙ not-context l v (Y .0) (I .fs) kind z n)
+      refused old (ap (retrieve (Y .0)) (I .is) ∙ not-context l v (Y .0) (I .fs) (kind .1) z n)
 
   module _ (z : getD v 0 0 ≡ 0 → ⊥) (nl : getD t 0 0 ≡ 0x2A → ⊥) (nc : getD t 0 0 ≡ 0x2C → ⊥) (b : Bool) (eb : b ≡ outerKind (getD v 0 0) (getD t 0 0)) where
     copies : retrieve (Y .0) (X .0) ≡ copied b (Y .0)
     copies =
         let c = cmd-is l t (X .0) (X .1) in
-        by-kind l v (Y .0) (X .0) kind z (λ e. nl (sym c ∙ e), λ e. nc (sym c ∙ e))
+        by-kind l v (Y .0) (X .0) (kind .1) z (λ e. nl (sym c ∙ e), λ e. nc (sym c ∙ e))
         ∙ ap (λ (d : ℕ). copied (outerKind (getD v 0 0) d) (Y .0)) c
         ∙ ap (λ d. copied d (Y .0)) (sym eb)
 

@@ -26,7 +26,7 @@ use Rattle.types.proofs.Reading.{is-ok, ok-got}
 use Rattle.types.proofs.Entries.{size-got, Here, here, gone, ahead, next-is, size-entry, entry-ok, at-end}
 use Rattle.values.specs.At.{valueAt, entriesAt, sizeAtV}
 use Rattle.values.proofs.Reading as values
-use Rattle.values.proofs.Reading.{is-val}
+use Rattle.values.proofs.Reading.{as-context}
 use Rattle.values.proofs.Reading.{some-level}
 use Rattle.output.proofs.OntoLaws.{name-bytes, back-length}
 use Rattle.retrieval.specs.declared.builder.Retrieved.{Retrieved}
@@ -59,7 +59,7 @@ contexts l t v p q c d = go (ok-got (typeAt l t) p) (ok-got (valueAt l v) q)
     go : (x : Ty) × (typeAt l t ≡ some x) → (y : Val) × (valueAt l v ≡ some y) → Contexts l t v
     go X Y =
         let A = types.is-ctx l t (X .0) (X .1) c in
-        let B = context-val l v (Y .0) (is-val l v (Y .0) (Y .1)) d in
+        let B = context-val (as-context l v (Y .0) (Y .1) d) in
         record {
           fs = A .fs;
           es = B .es;

@@ -19,7 +19,7 @@ use Rattle.types.proofs.Reading as types
 use Rattle.types.proofs.Reading.{is-ok, ok-got}
 use Rattle.types.proofs.Entries.{step, size-got}
 use Rattle.values.specs.At.{valueAt, itemsAt}
-use Rattle.values.proofs.Reading.{v-inside, IsVal, is-null, is-boolean, is-number, is-string, is-temporal, is-range, is-list, is-context, is-definition, is-built-in, is-type, is-irrelevant, is-val}
+use Rattle.values.proofs.Reading.{v-inside, IsVal, is-list, as-list}
 use Rattle.values.proofs.Reading.{some-level, Item, next-item, no-item, encoded, size-item}
 use Rattle.retrieval.specs.declared.builder.Retrieved.{Retrieved}
 use Rattle.retrieval.specs.declared.builder.Retrieved.the-variants.{Yes, No}
@@ -31,6 +31,7 @@ use Rattle.retrieval.proofs.BuilderContract.{retrieves, retrieves-is, g
 use Rattle.form.specs.Options.{map}
 use Rattle.output.specs.Output.{fill}
 use Rattle.output.proofs.OntoLaws.{back-length}
+use Rattle.form.specs.Layout.{kList}
 
 -- ---- a list and a list type
 pub record Lists (l : ℕ) (t v : List ℕ) : Type 0 where
@@ -50,19 +51,8 @@ record ListVal (l : ℕ) (s : List ℕ) (v : Val) : Type 0 where
   items : itemsAt (l - 1) (numAt 2 1 s) (drop 3 s) ≡ some vs
   is : v ≡ v-list vs
 
-list-val : (l : ℕ) (s : List ℕ) (v : Val) → IsVal l s v → getD s 0 0 ≡ 10 → ListVal l s v
-list-val l s v (is-null x c) h = absurd (omega arith)
-list-val l s v (is-boolean x c) h = absurd (omega arith)
-list-val l s v (is-number x c) h = absurd (omega arith)
-list-val l s v (is-string x c) h = absurd (omega arith)
-list-val l s v (is-temporal x c d) h = absurd (omega arith)
-list-val l s v (is-range i j a b c k p) h = absurd (omega arith)
-list-val l s v (is-list vs c k p) h = record { vs = vs; three = k; items = p; is = refl }
-list-val l s v (is-context es c k p) h = absurd (omega arith)
-list-val l s v (is-definition r ps b c k p) h = absurd (omega arith)
-list-val l s v (is-built-in x c) h = absurd (omega arith)
-list-val l s v (is-type t c p) h = absurd (omega arith)
-list-val l s v (is-irrelevant c) h = absurd (omega arith)
+list-val : {l : ℕ} {s : List ℕ} {v : Val} → IsVal l s kList v → ListVal l s v
+list-val (is-list vs c k p) = record { vs = vs; three = k; items = p; is = refl }
 
 pub lists : (l : ℕ) (t v : List ℕ) → Ok (typeAt l t) → Ok (valueAt l v) → getD t 0 0 ≡ 42 → getD v 0 0 ≡ 10 → Lists l t v
 lists l t v p q c d = go (ok-got (typeAt l t) p) (ok-got (valueAt l v) q)
@@ -70,7 +60,7 @@ lists l t v p q c d = go (ok-got (typeAt l t) p) (ok-got (valueAt l v) q)
     go : (x : Ty) × (typeAt l t ≡ some x) → (y : Val) × (valueAt l v ≡ some y) → Lists l t v
     go X Y =
         let A = types.is-list l t (X .0) (X .1) c in
-        let B = list-val l v (Y .0) (is-val l v (Y .0) (Y .1)) d in
+        let B = list-val (as-list l v (Y .0) (Y .1) d) in
         record {
           u = A .0;
           vs = B .vs;

@@ -14,7 +14,7 @@ use Rattle.retrieval.specs.Retrieve.{retrieve}
 use Rattle.retrieval.specs.declared.builder.Retrieved.{Retrieved}
 use Rattle.retrieval.specs.declared.builder.Retrieved.the-variants.{Yes, No}
 use Rattle.output.specs.Output.{Filled}
-use Rattle.form.specs.Options.{map}
+use Rattle.form.specs.Options.{map, WhereBoth}
 
 -- whether a type with command d copies a value with command c: Any, and the outer kind of leaves, ranges and functions
 abbrev pub outerKind : ℕ → ℕ → Bool
@@ -30,6 +30,4 @@ pub record Gave (t : Ty) (v : Val) (old new : List ℕ) (r : Retrieved) : Type 0
   pub out : Filled (map encV (retrieve v t)) old new
 
 unfoldable pub Retrieves : Option Ty → Option Val → List ℕ → List ℕ → Retrieved → Type 0
-Retrieves (some t) (some v) old new r = Gave t v old new r
-Retrieves (some t) none old new r = Unit {0}
-Retrieves none y old new r = Unit {0}
+Retrieves x y old new r = WhereBoth (Unit {0}) (λ t v. Gave t v old new r) x y

@@ -13,7 +13,7 @@ use Rattle.paths.specs.Paths.{entriesOf, bind, orEmpty}
 use Rattle.updates.specs.Update.{create, apply, zip, overwrite}
 use Rattle.updates.specs.declared.Made.{Made}
 use Rattle.updates.specs.declared.Made.the-variants as made-is
-use Rattle.form.specs.Options.{map}
+use Rattle.form.specs.Options.{map, WhereBoth}
 use Rattle.output.specs.Output.{fill, Filled}
 
 -- ---- create_entries and apply_entries, told apart by whether a value on the way that is no context is Err
@@ -67,20 +67,14 @@ unfoldable pub closed : ℕ → List ℕ → ℕ → ℕ → List ℕ
 closed count c at to = begun count c at ++ drop to c
 
 unfoldable pub Updates : Bool → Option Entries → List ℕ → Option Val → List ℕ → List ℕ → ℕ → Made → Type 0
-Updates strict (some es) p (some x) old new most r = Wrote (map encV (map v-context (updated strict p x es))) old new most r
-Updates strict (some es) p none old new most r = Unit {0}
-Updates strict none p x old new most r = Unit {0}
+Updates strict c p v old new most r = WhereBoth (Unit {0}) (λ es x. Wrote (map encV (map v-context (updated strict p x es))) old new most r) c v
 
 unfoldable pub Replaces : Bool → Option Val → List ℕ → Option Val → List ℕ → List ℕ → ℕ → Made → Type 0
-Replaces strict (some w) p (some x) old new most r = Wrote (map encV (replaced strict p x w)) old new most r
-Replaces strict (some w) p none old new most r = Unit {0}
-Replaces strict none p x old new most r = Unit {0}
+Replaces strict c p v old new most r = WhereBoth (Unit {0}) (λ w x. Wrote (map encV (replaced strict p x w)) old new most r) c v
 
 unfoldable pub Enters : Bool → ℕ → List ℕ → ℕ → ℕ → Option Val → List ℕ → Option Val → List ℕ → List ℕ → ℕ → Made → Type 0
-Enters strict count c at to (some w) (n ∷ p) (some x) old new most r = Wrote (map (framed count c at to n) (replaced strict p x w)) old new most r
-Enters strict count c at to (some w) [] (some x) old new most r = Unit {0}
-Enters strict count c at to (some w) p none old new most r = Unit {0}
-Enters strict count c at to none p x old new most r = Unit {0}
+Enters strict count c at to e [] v old new most r = Unit {0}
+Enters strict count c at to e (n ∷ p) v old new most r = WhereBoth (Unit {0}) (λ w x. Wrote (map (framed count c at to n) (replaced strict p x w)) old new most r) e v
 
 -- ---- zip, and overwrite
 abbrev pub merged : Bool → Entries → Entries → Entries
@@ -88,6 +82,4 @@ merged true es gs = zip es gs
 merged false es gs = overwrite es gs
 
 unfoldable pub Merges : Bool → Option Entries → Option Entries → List ℕ → List ℕ → ℕ → Type 0
-Merges all (some es) (some gs) old new n = (n ≡ length (encV (v-context (merged all es gs)))) × (new ≡ fill (encV (v-context (merged all es gs))) old)
-Merges all (some es) none old new n = Unit {0}
-Merges all none y old new n = Unit {0}
+Merges all c o old new n = WhereBoth (Unit {0}) (λ es gs. (n ≡ length (encV (v-context (merged all es gs)))) × (new ≡ fill (encV (v-context (merged all es gs))) old)) c o

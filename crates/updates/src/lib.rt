@@ -50,7 +50,8 @@ pub fn update(c: &[u8], path: &[u16], v: &[u8], out: &mut [u8], strict: bool, le
     requires { ⌜ Ok (wholeAt valueLevels (now v)) ⌝ }
     requires { ⌜ Small (now c) (now path) (now v) ⌝ }
     requires { ⌜ 0 < length (now path) ⌝ }
-    ensures { λ r. ⌜ Updates strict (contextAt left (now (c .entry))) (now (path .entry)) (wholeAt valueLevels (now (v .entry))) (now (out .entry)) (now (out .exit)) (updateBound (length (now (c .entry))) (length (now (path .entry))) (length (now (v .entry)))) r ⌝ }
+    ensures { λ r. ⌜ Updates strict (contextAt left (now (c .entry))) (now (path .entry)) (wholeAt valueLevels (now (v .entry))) (now (out .entry)) (now (out .exit))
+        (updateBound (length (now (c .entry))) (length (now (path .entry))) (length (now (v .entry)))) r ⌝ }
 {
     let n = form::bytes::word_at(c, 1);
     match paths::walk::find(c, paths::walk::name_number(path[0]), left) {
@@ -83,7 +84,8 @@ fn change_entry(
     requires { ⌜ Small (now c) (now path) (now v) ⌝ }
     requires { ⌜ 0 < length (now path) ⌝ }
     requires { ⌜ (3 ≤ at) × (at ≤ to) × (to ≤ length (now c)) × (count < 65536) × (length (now old) ≤ mostBytes) ⌝ }
-    ensures { λ r. ⌜ Enters strict count (now (c .entry)) at to (wholeAt left (now (old .entry))) (now (path .entry)) (wholeAt valueLevels (now (v .entry))) (now (out .entry)) (now (out .exit)) (length (now (c .entry)) + at + length (now (old .entry)) + updateBound 0 (length (now (path .entry))) (length (now (v .entry))) - (to + 3)) r ⌝ }
+    ensures { λ r. ⌜ Enters strict count (now (c .entry)) at to (wholeAt left (now (old .entry))) (now (path .entry)) (wholeAt valueLevels (now (v .entry))) (now (out .entry)) (now (out .exit))
+        (length (now (c .entry)) + at + length (now (old .entry)) + updateBound 0 (length (now (path .entry))) (length (now (v .entry))) - (to + 3)) r ⌝ }
 {
     let p = write_to_name(c, at, count, paths::walk::name_number(path[0]), out);
     let q = output::min(p, out.len());
@@ -99,7 +101,8 @@ fn replace(old: &[u8], path: &[u16], v: &[u8], out: &mut [u8], strict: bool, lef
     requires { ⌜ Ok (wholeAt left (now old)) ⌝ }
     requires { ⌜ Ok (wholeAt valueLevels (now v)) ⌝ }
     requires { ⌜ Small (now old) (now path) (now v) ⌝ }
-    ensures { λ r. ⌜ Replaces strict (wholeAt left (now (old .entry))) (now (path .entry)) (wholeAt valueLevels (now (v .entry))) (now (out .entry)) (now (out .exit)) (updateBound (3 + length (now (old .entry))) (length (now (path .entry))) (length (now (v .entry)))) r ⌝ }
+    ensures { λ r. ⌜ Replaces strict (wholeAt left (now (old .entry))) (now (path .entry)) (wholeAt valueLevels (now (v .entry))) (now (out .entry)) (now (out .exit))
+        (updateBound (3 + length (now (old .entry))) (length (now (path .entry))) (length (now (v .entry)))) r ⌝ }
 {
     if path.len() == 0 {
         output::fill(v, out);

@@ -29,8 +29,10 @@ use Rattle.types.proofs.Reading.{cmd}
 use Rattle.types.proofs.ByCommand.{le-null, le-other, le-leaves, same-simple, count-sig}
 use Rattle.values.specs.At.{valueAt, Definition, definition, definitionAt}
 use Rattle.values.specs.Held.{definitionConforms}
-use Rattle.values.proofs.Reading.{IsVal, is-null, is-boolean, is-number, is-string, is-temporal, is-range, is-list, is-context, is-definition, is-built-in, is-type, is-irrelevant, is-val}
+use Rattle.values.proofs.Reading.{IsVal, is-null, is-boolean, is-number, is-string, is-temporal, is-range, is-list, is-context, is-definition, is-built-in, is-type}
+use Rattle.values.proofs.Reading.{is-irrelevant, is-val, as-definition}
 use Rattle.values.proofs.Reading.{paramsAt, next-parameter, no-parameter, definition-parts}
+use Rattle.form.specs.Layout.{ValueKind, kDefinition}
 
 -- the command of the types of a value's kind; Any's for a value that has none
 abbrev pub kind : Val → ℕ
@@ -64,7 +66,7 @@ kind-other c h = rw (
       (λ e. omega arith),
 )
 
-kind-of : (l : ℕ) (s : List ℕ) (x : Val) → IsVal l s x → kind x ≡ kindAt (getD s 0 0)
+kind-of : {j : ValueKind} (l : ℕ) (s : List ℕ) (x : Val) → IsVal l s j x → kind x ≡ kindAt (getD s 0 0)
 unfolding kindAt
 kind-of l s x (is-null y c) = ap kindAt (sym c)
 kind-of l s x (is-boolean y c) = ap kindAt (sym c)
@@ -75,12 +77,13 @@ kind-of l s x (is-range i j a b c k p) = ap kindAt (sym c)
 kind-of l s x (is-list vs c k p) = ap kindAt (sym c)
 kind-of l s x (is-context es c k p) = ap kindAt (sym c)
 kind-of l s x (is-definition r ps b c k p) = ap kindAt (sym c)
-kind-of l s x (is-built-in y c) = ap kindAt (sym c)
+kind-of l s x (is-built-in c k) = ap kindAt (sym c)
 kind-of l s x (is-type t c p) = ap kindAt (sym c)
 kind-of l s x (is-irrelevant c) = ap kindAt (sym c)
 
 -- a command up to 8 is a leaf's and no other, and behind 9 to 11 stand two bytes more
-shaped : (l : ℕ) (s : List ℕ) (x : Val) → IsVal l s x → (getD s 0 0 ≤ 8 → isDataLeaf x ≡ true) × (9 ≤ getD s 0 0 → getD s 0 0 ≤ 11 → 3 ≤ length s) × (isDataLeaf x ≡ true → getD s 0 0 ≤ 8)
+shaped : {j : ValueKind} (l : ℕ) (s : List ℕ) (x : Val) → IsVal l s j x
+    → (getD s 0 0 ≤ 8 → isDataLeaf x ≡ true) × (9 ≤ getD s 0 0 → getD s 0 0 ≤ 11 → 3 ≤ length s) × (isDataLeaf x ≡ true → getD s 0 0 ≤ 8)
 shaped l s x (is-null y c) = (λ h. refl, λ h k. omega arith, λ h. omega arith)
 shaped l s x (is-boolean y c) = (λ h. refl, λ h k. omega arith, λ h. omega arith)
 shaped l s x (is-number y c) = (λ h. refl, λ h k. omega arith, λ h. omega arith)
@@ -90,7 +93,7 @@ shaped l s x (is-range i j a b c k p) = (λ h. absurd (omega arith), λ h i. k, 
 shaped l s x (is-list vs c k p) = (λ h. absurd (omega arith), λ h i. k, λ h. absurd (true≢false (sym h)))
 shaped l s x (is-context es c k p) = (λ h. absurd (omega arith), λ h i. k, λ h. absurd (true≢false (sym h)))
 shaped l s x (is-definition r ps b c k p) = (λ h. absurd (omega arith), λ h k. omega arith, λ h. absurd (true≢false (sym h)))
-shaped l s x (is-built-in y c) = (λ h. absurd (omega arith), λ h k. omega arith, λ h. absurd (true≢false (sym h)))
+shaped l s x (is-built-in c p) = (λ h. absurd (omega arith), λ h k. omega arith, λ h. absurd (true≢false (sym h)))
 shaped l s x (is-type t c p) = (λ h. absurd (omega arith), λ h k. omega arith, λ h. absurd (true≢false (sym h)))
 shaped l s x (is-irrelevant c) = (λ h. absurd (omega arith), λ h k. omega arith, λ h. absurd (true≢false (sym h)))
 
@@ -103,35 +106,24 @@ pub record IsDefinition (l : ℕ) (s : List ℕ) (x : Val) : Type 0 where
   pub read : definitionAt (l - 1) (getD s 1 0) (drop 4 s) ≡ some (definition r ps)
   pub is : x ≡ v-function ps b r
 
-definition-of : (l : ℕ) (s : List ℕ) (x : Val) → IsVal l s x → getD s 0 0 ≡ 12 → IsDefinition l s x
-definition-of l s x (is-null y c) d = absurd (omega arith)
-definition-of l s x (is-boolean y c) d = absurd (omega arith)
-definition-of l s x (is-number y c) d = absurd (omega arith)
-definition-of l s x (is-string y c) d = absurd (omega arith)
-definition-of l s x (is-temporal y h i) d = absurd (omega arith)
-definition-of l s x (is-range i j a b c k p) d = absurd (omega arith)
-definition-of l s x (is-list vs c k p) d = absurd (omega arith)
-definition-of l s x (is-context es c k p) d = absurd (omega arith)
-definition-of l s x (is-definition r ps b c k p) d = record { r = r; ps = ps; b = b; four = k; read = p; is = refl }
-definition-of l s x (is-built-in y c) d = absurd (omega arith)
-definition-of l s x (is-type t c p) d = absurd (omega arith)
-definition-of l s x (is-irrelevant c) d = absurd (omega arith)
+definition-of : {l : ℕ} {s : List ℕ} {x : Val} → IsVal l s kDefinition x → IsDefinition l s x
+definition-of (is-definition r ps b c k p) = record { r = r; ps = ps; b = b; four = k; read = p; is = refl }
 
 module _ (l : ℕ) (s : List ℕ) (x : Val) (e : valueAt l s ≡ some x) where
   pub kind-is : kind x ≡ kindAt (getD s 0 0)
-  kind-is = kind-of l s x (is-val l s x e)
+  kind-is = kind-of l s x (is-val l s x e .1)
 
   pub leaf-is : getD s 0 0 ≤ 8 → isDataLeaf x ≡ true
-  leaf-is = shaped l s x (is-val l s x e) .0
+  leaf-is = shaped l s x (is-val l s x e .1) .0
 
   pub long-is : 9 ≤ getD s 0 0 → getD s 0 0 ≤ 11 → 3 ≤ length s
-  long-is = shaped l s x (is-val l s x e) .1
+  long-is = shaped l s x (is-val l s x e .1) .1
 
   pub small-is : isDataLeaf x ≡ true → getD s 0 0 ≤ 8
-  small-is = shaped l s x (is-val l s x e) .2
+  small-is = shaped l s x (is-val l s x e .1) .2
 
   pub definition-is : getD s 0 0 ≡ 12 → IsDefinition l s x
-  definition-is d = definition-of l s x (is-val l s x e) d
+  definition-is d = definition-of (as-definition l s x e d)
 
 -- ---- conformance by kinds
 -- only Any

@@ -9,7 +9,7 @@ use mathlib.Core.Path.{_≡_, refl, sym, ap, subst, _∙_}
 use mathlib.Core.Bool.{Bool, true, false, cond}
 use mathlib.Core.Option.{some}
 use mathlib.Core.List.{List}
-use lib.ListN.{length, getD, drop, length-drop}
+use lib.ListN.{length, drop, length-drop}
 use lib.Seq.{drop-drop}
 use lib.Dec.{ltb}
 use borrow.Author.Tests.{ltb-true, ltb-false}
@@ -18,8 +18,9 @@ use Rattle.form.specs.Form.{numAt, WfV, WfEntries}
 use Rattle.order.specs.Size.{sizeVal, sizeEntries}
 use Rattle.types.proofs.Entries.{step}
 use Rattle.values.specs.At.{valueAt, entriesAt}
-use Rattle.values.proofs.Reading.{v-inside, IsVal, is-null, is-boolean, is-number, is-string, is-temporal, is-range, is-list, is-context, is-definition, is-built-in, is-type, is-irrelevant}
+use Rattle.values.proofs.Reading.{v-inside, IsVal, is-context}
 use Rattle.values.proofs.Reading.{Entry, next-entry, no-entry}
+use Rattle.form.specs.Layout.{kContext}
 
 -- ---- names of entries, at least k
 unfoldable pub From : ℕ → Entries → Type 0
@@ -45,19 +46,8 @@ pub record ContextVal (l : ℕ) (s : List ℕ) (v : Val) : Type 0 where
   pub entries : entriesAt (l - 1) (numAt 2 1 s) 0 (drop 3 s) ≡ some es
   pub is : v ≡ v-context es
 
-pub context-val : (l : ℕ) (s : List ℕ) (v : Val) → IsVal l s v → getD s 0 0 ≡ 11 → ContextVal l s v
-context-val l s v (is-null x c) h = absurd (omega arith)
-context-val l s v (is-boolean x c) h = absurd (omega arith)
-context-val l s v (is-number x c) h = absurd (omega arith)
-context-val l s v (is-string x c) h = absurd (omega arith)
-context-val l s v (is-temporal x c d) h = absurd (omega arith)
-context-val l s v (is-range i j a b c k p) h = absurd (omega arith)
-context-val l s v (is-list vs c k p) h = absurd (omega arith)
-context-val l s v (is-context es c k p) h = record { es = es; three = k; entries = p; is = refl }
-context-val l s v (is-definition r ps b c k p) h = absurd (omega arith)
-context-val l s v (is-built-in x c) h = absurd (omega arith)
-context-val l s v (is-type t c p) h = absurd (omega arith)
-context-val l s v (is-irrelevant c) h = absurd (omega arith)
+pub context-val : {l : ℕ} {s : List ℕ} {v : Val} → IsVal l s kContext v → ContextVal l s v
+context-val (is-context es c k p) = record { es = es; three = k; entries = p; is = refl }
 
 pub size-context : (es : Entries) → sizeVal (v-context es) ≡ 3 + sizeEntries es
 unfolding sizeVal

@@ -1,7 +1,8 @@
 -- What stands at the front of the bytes of a value says of its parts, that the names of a context ascend, and that it ends within the bytes.
 -- Idea: one induction on the reader (`value-told`); the parts by the command (`IsVal`).
--- Index: `value-told`, `v-inside`, `items-inside`, `entries-inside`, `definition-inside` (size and end); `is-val` (by the command); `next-item`, `no-item`, `next-entry`, `no-entry`,
--- `definition-parts`, `next-parameter`, `no-parameter` (runs); `skip-is`, `skip-end`, `skip-short`, `size-got` (what `skip` answers); `encoded`, `front-text` (the bytes).
+-- Index: `value-told`, `v-inside`, `items-inside`, `entries-inside`, `definition-inside` (size and end); `IsVal`, `is-val`, `as-leaf`, `as-null`, `as-range`, `as-list`,
+-- `as-context`, `as-definition`, `as-built-in`, `as-type` (by the command); `next-item`, `no-item`, `next-entry`, `no-entry`, `definition-parts`, `next-parameter`,
+-- `no-parameter` (runs); `skip-is`, `skip-end`, `skip-short`, `size-got` (what `skip` answers); `encoded`, `front-text` (the bytes).
 -- Assumes nothing.
 use Prim.Native.Nat.{ℕ, zero, suc, _+_, _-_, _<_, _≤_}
 use mathlib.Core.Path.{_≡_, refl, sym, ap, subst, _∙_}
@@ -13,23 +14,28 @@ use native.Mathlib.Numerals.{add-one}
 use lib.ListN.{length, getD, take, drop, length-drop}
 use lib.Dec.{eqb}
 use Rattle.form.specs.Trees.{Ty, Params, no-parameters, parameter, l-null, l-boolean, l-number, l-string, l-temporal, Val, v-leaf, v-range, v-list, v-context, v-function, v-built-in, v-type}
-use Rattle.form.specs.Trees.{v-irrelevant, Vals, no-items, item, Entries, no-entries, entry, isDataLeaf, decodeTemporal, Val}
+use Rattle.form.specs.Trees.{v-irrelevant, Vals, no-items, item, Entries, no-entries, entry, isDataLeaf, decodeTemporal, Leaf, code}
 use Rattle.form.specs.Limits.{nameWidth}
 use Rattle.form.specs.Form.{num, numAt, levelV, Bytes, encV, WfV}
+use Rattle.form.specs.Layout.{ValueKind, kNull, kBoolean, kNumber, kString, kTemporal, kRange, kList, kContext, kDefinition, kBuiltIn, kType, kIrrelevant, ofValue, kindOf, operands}
+use Rattle.form.specs.Layout.{operandsV, widthOf}
 use Rattle.form.specs.Walks.{walkOf, sizeIn, Short}
 use Rattle.form.specs.Walks as walk
 use Rattle.form.specs.Read.{Got, got, bad, andThen, readRun, readNamed, readT, readV, readVals, readEntries, readParams, ascending, anyOrder}
 use Rattle.form.proofs.WalkAnswers.{short-end}
+use Rattle.form.proofs.CommandKinds.{kind-temporal, width-is}
 use Rattle.form.proofs.ValueLaws.{leaf-level}
 use Rattle.form.proofs.Exact.{got-parts, then-parts, Found}
-use Rattle.form.proofs.Nodes.{item-parts, named-parts, NodeV, nNull, nBoolean, nNumber, nString, nTemporal, nRangeV, nListV, nContextV, nDefinition, nBuiltIn, nType, nIrrelevant, value-read}
+use Rattle.form.proofs.Nodes.{item-parts, named-parts, NodeV, nNull, nBoolean, nNumber, nString, nTemporal, nRangeV, nListV, nContextV, nDefinition, nBuiltIn, nType, nIrrelevant, value-read, node-of}
 use Rattle.order.specs.Size.{size, sizeParams, sizeVal, sizeVals, sizeEntries}
+use Rattle.order.specs.Values.{leafType}
+use Rattle.order.proofs.Simple.{temporal-code}
 use Rattle.types.specs.At.{seen, typeAt}
 use Rattle.types.proofs.Reading as types
 use Rattle.types.proofs.Reading.{seen-got, got-seen, then-got}
 use Rattle.values.specs.At.{valueAt, itemsAt, entriesAt, Definition, definition, sizeDefinition, definitionAt, sizeAtV}
 use lib.Seq.{take-at}
-use Rattle.form.proofs.ExactValues.{enc-readV}
+use Rattle.form.proofs.ExactValues.{enc-readV, code-decode}
 use Rattle.order.proofs.LeastSize.{length-encV}
 
 -- ---- the sizes that the reader gives are those of the trees, and all ends within the bytes
@@ -74,7 +80,7 @@ module _ (child : List ℕ → Got Val) (ih : Tells sizeVal child) where
       let G = entries-told c (num (take nameWidth s) + 1) (drop m (drop nameWidth s)) y j py in
       told-as pz refl (record { sized = omega (arith, F .sized, G .sized); inside = omega (arith, simp length-drop at (F .inside), simp (length-drop, length-drop) at (G .inside)) }))
 
-value-step : (left : ℕ) (s : List ℕ) → Tells sizeVal (readV left) → 0 < length s → (v : Val) (n : ℕ) → NodeV left s v n → Told sizeVal s v n
+value-step : {j : ValueKind} (left : ℕ) (s : List ℕ) → Tells sizeVal (readV left) → 0 < length s → (v : Val) (n : ℕ) → NodeV left s j v n → Told sizeVal s v n
 unfolding sizeVal
 value-step left s ih h v n (nNull c k x) = record { sized = refl; inside = k }
 value-step left s ih h v n (nBoolean c k x) = record { sized = refl; inside = k }
@@ -102,22 +108,22 @@ value-told zero s v n e = absurd (let h = value-read zero s v n e .some-level in
 value-told (suc l) s v n e =
     let R = value-read (suc l) s v n e in
     let z : suc l - 1 ≡ l = omega arith in
-    value-step l s (value-told l) (R .some-byte) v n (subst (λ (k : ℕ). NodeV k s v n) z (R .node))
+    value-step l s (value-told l) (R .some-byte) v n (subst (λ (k : ℕ). NodeV k s (R .kind) v n) z (R .node))
 
--- ---- a value that was read, by its command: what its parts are
-pub data IsVal (l : ℕ) (s : List ℕ) : Val → Type 0 where
-  is-null : (x : ℕ) → getD s 0 0 ≡ 0 → IsVal l s (v-leaf (l-null x))
-  is-boolean : (x : Bool) → getD s 0 0 ≡ 1 → IsVal l s (v-leaf (l-boolean x))
-  is-number : (x : ℕ) → getD s 0 0 ≡ 2 → IsVal l s (v-leaf (l-number x))
-  is-string : (x : ℕ) → getD s 0 0 ≡ 3 → IsVal l s (v-leaf (l-string x))
-  is-temporal : (x : ℕ) → 4 ≤ getD s 0 0 → getD s 0 0 < 9 → IsVal l s (v-leaf (l-temporal (decodeTemporal (getD s 0 0 - 4)) x))
-  is-range : (i j : ℕ) (a b : Val) → getD s 0 0 ≡ 9 → 3 ≤ length s → itemsAt (l - 1) 2 (drop 3 s) ≡ some (item a (item b no-items)) → IsVal l s (v-range i j a b)
-  is-list : (vs : Vals) → getD s 0 0 ≡ 10 → 3 ≤ length s → itemsAt (l - 1) (numAt 2 1 s) (drop 3 s) ≡ some vs → IsVal l s (v-list vs)
-  is-context : (es : Entries) → getD s 0 0 ≡ 11 → 3 ≤ length s → entriesAt (l - 1) (numAt 2 1 s) 0 (drop 3 s) ≡ some es → IsVal l s (v-context es)
-  is-definition : (r : Ty) (ps : Params) (b : ℕ) → getD s 0 0 ≡ 12 → 4 ≤ length s → definitionAt (l - 1) (getD s 1 0) (drop 4 s) ≡ some (definition r ps) → IsVal l s (v-function ps b r)
-  is-built-in : (x : ℕ) → getD s 0 0 ≡ 13 → IsVal l s (v-built-in x)
-  is-type : (t : Ty) → getD s 0 0 ≡ 14 → typeAt (l - 1) (drop 1 s) ≡ some t → IsVal l s (v-type t)
-  is-irrelevant : getD s 0 0 ≡ 15 → IsVal l s v-irrelevant
+-- ---- a value that was read, by the kind of its command: what its parts are. Where the kind is known, there is one case
+pub data IsVal (l : ℕ) (s : List ℕ) : ValueKind → Val → Type 0 where
+  is-null : (x : ℕ) → getD s 0 0 ≡ 0 → IsVal l s kNull (v-leaf (l-null x))
+  is-boolean : (x : Bool) → getD s 0 0 ≡ 1 → IsVal l s kBoolean (v-leaf (l-boolean x))
+  is-number : (x : ℕ) → getD s 0 0 ≡ 2 → IsVal l s kNumber (v-leaf (l-number x))
+  is-string : (x : ℕ) → getD s 0 0 ≡ 3 → IsVal l s kString (v-leaf (l-string x))
+  is-temporal : (x : ℕ) → 4 ≤ getD s 0 0 → getD s 0 0 < 9 → IsVal l s kTemporal (v-leaf (l-temporal (decodeTemporal (getD s 0 0 - 4)) x))
+  is-range : (i j : ℕ) (a b : Val) → getD s 0 0 ≡ 9 → 3 ≤ length s → itemsAt (l - 1) 2 (drop 3 s) ≡ some (item a (item b no-items)) → IsVal l s kRange (v-range i j a b)
+  is-list : (vs : Vals) → getD s 0 0 ≡ 10 → 3 ≤ length s → itemsAt (l - 1) (numAt 2 1 s) (drop 3 s) ≡ some vs → IsVal l s kList (v-list vs)
+  is-context : (es : Entries) → getD s 0 0 ≡ 11 → 3 ≤ length s → entriesAt (l - 1) (numAt 2 1 s) 0 (drop 3 s) ≡ some es → IsVal l s kContext (v-context es)
+  is-definition : (r : Ty) (ps : Params) (b : ℕ) → getD s 0 0 ≡ 12 → 4 ≤ length s → definitionAt (l - 1) (getD s 1 0) (drop 4 s) ≡ some (definition r ps) → IsVal l s kDefinition (v-function ps b r)
+  is-built-in : getD s 0 0 ≡ 13 → 2 ≤ length s → IsVal l s kBuiltIn (v-built-in (getD s 1 0))
+  is-type : (t : Ty) → getD s 0 0 ≡ 14 → typeAt (l - 1) (drop 1 s) ≡ some t → IsVal l s kType (v-type t)
+  is-irrelevant : getD s 0 0 ≡ 15 → IsVal l s kIrrelevant v-irrelevant
 
 -- two values, one behind the other, are a run of two
 two-items : (l : ℕ) (s : List ℕ) (a b : Val) (m n : ℕ) → readV l s ≡ got a m → readV l (drop m s) ≡ got b n → itemsAt l 2 s ≡ some (item a (item b no-items))
@@ -127,7 +133,7 @@ two-items l s a b m n p q =
     (then-got item s (readVals (readV l) 1) (readV l s) a m (item b no-items) (0 + n + 0) p
     (then-got item (drop m s) (readVals (readV l) 0) (readV l (drop m s)) b n no-items 0 q refl))
 
-node-val : (l : ℕ) (s : List ℕ) (v : Val) (n : ℕ) → NodeV (l - 1) s v n → IsVal l s v
+node-val : {j : ValueKind} (l : ℕ) (s : List ℕ) (v : Val) (n : ℕ) → NodeV (l - 1) s j v n → IsVal l s j v
 unfolding itemsAt entriesAt definitionAt typeAt
 node-val l s v n (nNull c k x) = is-null (getD s 1 0) c
 node-val l s v n (nBoolean c k x) = is-boolean (eqb (getD s 1 0) 1) c
@@ -141,9 +147,37 @@ node-val l s v n (nDefinition c k t m p ps j q) =
     is-definition t ps (numAt 2 2 s) c k
     (got-seen (andThen definition 0 (drop 4 s) (readParams (readT (l - 1)) (getD s 1 0) 0) (readT (l - 1) (drop 4 s))) (definition t ps) (0 + m + j)
     (then-got definition (drop 4 s) (readParams (readT (l - 1)) (getD s 1 0) 0) (readT (l - 1) (drop 4 s)) t m ps j p q))
-node-val l s v n (nBuiltIn c k x) = is-built-in (getD s 1 0) c
+node-val l s v n (nBuiltIn c k x) = is-built-in c k
 node-val l s v n (nType c t m p) = is-type t c (got-seen (readT (l - 1) (drop 1 s)) t m p)
 node-val l s v n (nIrrelevant c) = is-irrelevant c
+
+-- a leaf: its size is that of its command's operands and one more, and its type is the command's
+pub record LeafVal (s : List ℕ) (v : Val) : Type 0 where
+  pub x : Leaf
+  pub is : v ≡ v-leaf x
+  pub size : widthOf (getD s 0 0) + 1 ≡ sizeVal (v-leaf x)
+  pub type : (getD s 0 0 ≡ 0 → ⊥) → 32 + code (leafType x) ≡ getD s 0 0 + 32
+
+leaf-val : {j : ValueKind} {l : ℕ} {s : List ℕ} {v : Val} → IsVal l s j v → getD s 0 0 < 9 → LeafVal s v
+unfolding sizeVal kindOf operands operandsV widthOf
+leaf-val (is-null x c) h = record { x = l-null x; is = refl; size = ap (λ (z : ℕ). widthOf z + 1) c; type = λ z. absurd (z c) }
+leaf-val (is-boolean x c) h = record { x = l-boolean x; is = refl; size = ap (λ (z : ℕ). widthOf z + 1) c; type = λ z. ap (λ (k : ℕ). k + 32) (sym c) }
+leaf-val (is-number x c) h = record { x = l-number x; is = refl; size = ap (λ (z : ℕ). widthOf z + 1) c; type = λ z. ap (λ (k : ℕ). k + 32) (sym c) }
+leaf-val (is-string x c) h = record { x = l-string x; is = refl; size = ap (λ (z : ℕ). widthOf z + 1) c; type = λ z. ap (λ (k : ℕ). k + 32) (sym c) }
+leaf-val {s = s} (is-temporal x c d) h =
+    record {
+      x = l-temporal (decodeTemporal (getD s 0 0 - 4)) x;
+      is = refl;
+      size = ap (λ (z : ℕ). z + 1) (width-is (getD s 0 0) (ofValue kTemporal) (kind-temporal (getD s 0 0) c d));
+      type = λ z. omega (arith, temporal-code (decodeTemporal (getD s 0 0 - 4)), code-decode (getD s 0 0 - 4) (omega arith));
+    }
+leaf-val (is-range i j a b c k e) h = absurd (omega arith)
+leaf-val (is-list vs c k e) h = absurd (omega arith)
+leaf-val (is-context es c k e) h = absurd (omega arith)
+leaf-val (is-definition r ps b c k e) h = absurd (omega arith)
+leaf-val (is-built-in c k) h = absurd (omega arith)
+leaf-val (is-type t c e) h = absurd (omega arith)
+leaf-val (is-irrelevant c) h = absurd (omega arith)
 
 module _ (l : ℕ) (s : List ℕ) (v : Val) (q : valueAt l s ≡ some v) where
   opened : {P : Type 0} → ((n : ℕ) → readV l s ≡ got v n → P) → P
@@ -159,8 +193,42 @@ module _ (l : ℕ) (s : List ℕ) (v : Val) (q : valueAt l s ≡ some v) where
   pub v-inside : sizeVal v ≤ length s
   v-inside = opened (λ n e. let F = value-told l s v n e in omega (arith, F .sized, F .inside))
 
-  pub is-val : IsVal l s v
-  is-val = opened (λ n e. node-val l s v n (value-read l s v n e .node))
+  pub is-val : (k : ValueKind) × IsVal l s k v
+  is-val = opened (λ n e. let R = value-read l s v n e in (R .kind, node-val l s v n (R .node)))
+
+  of-kind : (k : ValueKind) → kindOf (getD s 0 0) ≡ ofValue k → IsVal l s k v
+  of-kind k c = opened (λ n e. node-val l s v n (node-of k l s v n c e))
+
+  pub as-leaf : getD s 0 0 < 9 → LeafVal s v
+  as-leaf h = leaf-val (is-val .1) h
+
+  pub as-null : getD s 0 0 ≡ 0 → IsVal l s kNull v
+  unfolding kindOf
+  as-null c = of-kind kNull (ap kindOf c)
+
+  pub as-range : getD s 0 0 ≡ 9 → IsVal l s kRange v
+  unfolding kindOf
+  as-range c = of-kind kRange (ap kindOf c)
+
+  pub as-list : getD s 0 0 ≡ 10 → IsVal l s kList v
+  unfolding kindOf
+  as-list c = of-kind kList (ap kindOf c)
+
+  pub as-context : getD s 0 0 ≡ 11 → IsVal l s kContext v
+  unfolding kindOf
+  as-context c = of-kind kContext (ap kindOf c)
+
+  pub as-definition : getD s 0 0 ≡ 12 → IsVal l s kDefinition v
+  unfolding kindOf
+  as-definition c = of-kind kDefinition (ap kindOf c)
+
+  pub as-built-in : getD s 0 0 ≡ 13 → IsVal l s kBuiltIn v
+  unfolding kindOf
+  as-built-in c = of-kind kBuiltIn (ap kindOf c)
+
+  pub as-type : getD s 0 0 ≡ 14 → IsVal l s kType v
+  unfolding kindOf
+  as-type c = of-kind kType (ap kindOf c)
 
 -- ---- items
 pub record Item (l n : ℕ) (s : List ℕ) (vs : Vals) : Type 0 where
