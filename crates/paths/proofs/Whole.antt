@@ -20,7 +20,7 @@ use Rattle.order.specs.Size.{sizeVal, sizeEntries}
 use Rattle.types.specs.At.{Ok}
 use Rattle.types.proofs.Reading.{is-ok, ok-got, got-seen}
 use Rattle.values.specs.At.{valueAt, entriesAt, sizeAtV}
-use Rattle.values.proofs.Reading.{value-told, IsVal, is-null, is-boolean, is-number, is-string, is-temporal, is-range, is-list, is-context, is-definition, is-built-in, is-type, is-irrelevant, is-val}
+use Rattle.values.proofs.Reading.{value-told, IsVal, is-context, is-val}
 use Rattle.values.proofs.Reading.{some-level, v-inside, size-got}
 use Rattle.paths.specs.Paths.{entriesOf, bind}
 use Rattle.paths.specs.Places.{taken, wholeAt, contextAt, frontAt, Fills}
@@ -88,19 +88,8 @@ record Node (l : ℕ) (s : List ℕ) (es : Entries) : Type 0 where
   command : getD s 0 0 ≡ 11
   entries : entriesAt (l - 1) (numAt 2 1 s) 0 (drop 3 s) ≡ some es
 
-node : {j : ValueKind} (l : ℕ) (s : List ℕ) (v : Val) (es : Entries) → IsVal l s j v → entriesOf v ≡ some es → Node l s es
-node l s v es (is-null x c) h = absurd (none-some h)
-node l s v es (is-boolean x c) h = absurd (none-some h)
-node l s v es (is-number x c) h = absurd (none-some h)
-node l s v es (is-string x c) h = absurd (none-some h)
-node l s v es (is-temporal x c d) h = absurd (none-some h)
-node l s v es (is-range i j a b c k p) h = absurd (none-some h)
-node l s v es (is-list vs c k p) h = absurd (none-some h)
-node l s v es (is-context fs c k p) h = record { three = k; command = c; entries = p ∙ h }
-node l s v es (is-definition r ps b c k p) h = absurd (none-some h)
-node l s v es (is-built-in c k) h = absurd (none-some h)
-node l s v es (is-type t c p) h = absurd (none-some h)
-node l s v es (is-irrelevant c) h = absurd (none-some h)
+node : {j : ValueKind} {l : ℕ} {s : List ℕ} {es : Entries} → IsVal l s j (v-context es) → Node l s es
+node (is-context es c k p) = record { three = k; command = c; entries = p }
 
 -- ---- the context at the front
 pub record Front (l : ℕ) (s : List ℕ) (es : Entries) : Type 0 where
@@ -114,7 +103,7 @@ pub record Front (l : ℕ) (s : List ℕ) (es : Entries) : Type 0 where
 pub front-of : (l : ℕ) (s : List ℕ) (v : Val) (es : Entries) → valueAt l s ≡ some v → entriesOf v ≡ some es → Front l s es
 front-of l s v es e h =
     let w = of-context v es h in
-    let N = node l s v es (is-val l s v e .1) h in
+    let N = node (is-val l s (v-context es) (e ∙ ap some w) .1) in
     record {
       value = e ∙ ap some w;
       inside = omega (arith, v-inside l s v e, ap sizeVal w, size-context es);
