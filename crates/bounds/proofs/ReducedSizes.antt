@@ -22,7 +22,7 @@ use Rattle.order.specs.Size.{size, sizeFields}
 use Rattle.order.proofs.Size.{size-reduce}
 use Rattle.types.specs.At.{typeAt, fieldsAt, Sig, sig, cons, funOf, sizeSig, sigAt, Ok, sizeAt}
 use Rattle.types.proofs.Reading.{is-ok, ok-got, cmd-is, some-byte, some-level, is-list, is-range, is-ctx, is-fun, t-good, size-fun, size-cons, last-cmd, size-list, size-range, size-ctx}
-use Rattle.types.proofs.Entries.{Here, here, gone, size-entry, size-got, size-field, size-none}
+use Rattle.types.proofs.Entries.{Here, here, gone, size-got, size-field, size-none}
 use Rattle.lattice.proofs.BoundTrees.{countSig, sig-count}
 use Rattle.lattice.proofs.Branches.{leaf-of}
 use Rattle.types.proofs.Signatures.{Next, next, Last, last}
@@ -222,29 +222,29 @@ entries-start l a n p = go (ok-got (fieldsAt l n 0 a) p)
 module _ {l : ℕ} {a : List ℕ} {n at to i : ℕ} (v : EntriesInv l a n at to i) where
   module _ (h : i < n) where
     abbrev A : Here l (n - (i + 1)) at (v .least) a (v .fs)
-    A = here l i n at (v .least) a (v .fs) h (v .within) (v .read)
+    A = here l i n at (v .least) a (v .fs) h (v .read)
 
     pub entry-name : at + nameWidth ≤ length a
     entry-name = A .two
 
-    entry-part : typeAt l (behind (at + nameWidth) a) ≡ some (A .t)
+    entry-part : typeAt l (behind (at + nameWidth) a) ≡ some (A .x)
     entry-part = ap (typeAt l) (rest a (at + nameWidth)) ∙ A .first
 
     pub entry-there : Ok (typeAt l (behind (at + nameWidth) a))
-    entry-there = is-ok (typeAt l (behind (at + nameWidth) a)) (A .t) entry-part
+    entry-there = is-ok (typeAt l (behind (at + nameWidth) a)) (A .x) entry-part
 
     module _ (r s : ℕ) (m : Measured (reduce fixed) size (typeAt l (behind (at + nameWidth) a)) r s) where
-      entry-is : (r ≡ size (A .t)) × (s ≡ size (reduce fixed (A .t)))
-      entry-is = measured-is (reduce fixed) size (typeAt l (behind (at + nameWidth) a)) (A .t) r s entry-part m
+      entry-is : (r ≡ size (A .x)) × (s ≡ size (reduce fixed (A .x)))
+      entry-is = measured-is (reduce fixed) size (typeAt l (behind (at + nameWidth) a)) (A .x) r s entry-part m
 
       pub entry-ends : (at + nameWidth + r ≤ length a) × (to + nameWidth + s ≤ length a)
-      entry-ends = let g = entry-is in (omega (arith, g .0, A .fits), omega (arith, g .1, A .fits, v .low, size-reduce fixed (A .t)))
+      entry-ends = let g = entry-is in (omega (arith, g .0, A .fits), omega (arith, g .1, A .fits, v .low, size-reduce fixed (A .x)))
 
       pub entry-next : EntriesInv l a n (at + nameWidth + r) (to + nameWidth + s) (i + 1)
       entry-next =
           let g = entry-is in
-          let shorter = ap (λ (z : Fields). sizeFields (reduceFields fixed z)) (A .is) ∙ ap sizeFields (reduce-field (A .name) (A .t) (A .more))
-          ∙ size-field (A .name) (reduce fixed (A .t)) (reduceFields fixed (A .more)) in
+          let shorter = ap (λ (z : Fields). sizeFields (reduceFields fixed z)) (A .is) ∙ ap sizeFields (reduce-field (A .name) (A .x) (A .more))
+          ∙ size-field (A .name) (reduce fixed (A .x)) (reduceFields fixed (A .more)) in
           record {
             all = v .all;
             fs = A .more;
@@ -252,9 +252,9 @@ module _ {l : ℕ} {a : List ℕ} {n at to i : ℕ} (v : EntriesInv l a n at to 
             whole = v .whole;
             below = omega arith;
             within = omega (arith, g .0, A .fits);
-            low = omega (arith, g .0, g .1, v .low, size-reduce fixed (A .t));
+            low = omega (arith, g .0, g .1, v .low, size-reduce fixed (A .x));
             read = ap (λ (z : ℕ). fieldsAt l (n - (i + 1)) (suc (A .name)) (drop (at + nameWidth + z) a)) (g .0) ∙ A .second;
-            sizes = omega (arith, v .sizes, size-entry A, g .0);
+            sizes = omega (arith, v .sizes, A .sized, g .0);
             short = omega (arith, v .short, shorter, g .1);
           }
 

@@ -44,7 +44,7 @@ use Rattle.values.specs.Calls.{isConformant, Accepted}
 use Rattle.values.proofs.CallContracts.{whole-value, not-held}
 use Rattle.values.proofs.Definitions.{type-up}
 use Rattle.values.proofs.Reading as reading
-use Rattle.values.proofs.Reading.{next-item, no-item}
+use Rattle.values.proofs.Reading.{first-item, nth, no-nth, no-item}
 use Rattle.output.proofs.OntoLaws.{onto-three, back, length-onto}
 use Rattle.output.proofs.Outcomes.{built-refused, built-short, built-wrote}
 use Rattle.ranges.specs.Ranges.{bifType}
@@ -230,7 +230,7 @@ module _ (t v : List ℕ) (A : Accepted t v) where
   item-count : (l n : ℕ) (s : List ℕ) (vs : Vals) → itemsAt l n s ≡ some vs → countVals vs ≡ n
   unfolding countVals
   item-count l zero s vs e = ap countVals (no-item l s vs e)
-  item-count l (suc n) s vs e = let I = next-item l n s vs e in ap countVals (I .is) ∙ ap suc (item-count l n (drop (sizeVal (I .v)) s) (I .more) (I .second))
+  item-count l (suc n) s vs e = let I = first-item l n 0 s vs (omega arith) e in ap countVals (I .is) ∙ ap suc (item-count l n (drop (0 + sizeVal (I .x)) s) (I .more) (I .second))
 
   not-one : (vs : Vals) (u : Ty) → (countVals vs ≡ 1 → ⊥) → soleItemConforms vs u ≡ false
   unfolding countVals
@@ -270,18 +270,18 @@ module _ (t v : List ℕ) (A : Accepted t v) where
   unfolding valueAt
   one-item c n =
       let L = listed c in
-      let I = next-item (valueLevels - 1) 0 (drop 3 v) (L .vs) (ap (λ k. itemsAt (valueLevels - 1) k (drop 3 v)) (sym n) ∙ L .read) in
-      let none-more = no-item (valueLevels - 1) (drop (sizeVal (I .v)) (drop 3 v)) (I .more) (I .second) in
-      let is-one : A .value ≡ v-list (item (I .v) no-items) = L .is ∙ ap v-list (I .is ∙ ap (item (I .v)) none-more) in
+      let I = nth (valueLevels - 1) 0 1 3 v (L .vs) (omega arith) (L .three) (ap (λ k. itemsAt (valueLevels - 1) k (drop 3 v)) (sym n) ∙ L .read) in
+      let none-more = no-nth (valueLevels - 1) 1 1 (3 + sizeVal (I .x)) v (I .more) (omega arith) (I .second) in
+      let is-one : A .value ≡ v-list (item (I .x) no-items) = L .is ∙ ap v-list (I .is ∙ ap (item (I .x)) none-more) in
       let C = value-accepted v (A .bytes-v) (A .value) (A .read-v) in
-      let whole : v ≡ encV (v-list (item (I .v) no-items)) = C .bytes ∙ ap encV is-one in
+      let whole : v ≡ encV (v-list (item (I .x) no-items)) = C .bytes ∙ ap encV is-one in
       record {
-        x = I .v;
+        x = I .x;
         is = is-one;
         there =
-            seen-got (readV (valueLevels - 1) (drop 3 v)) (I .v) (I .first) (λ k r.
-            got-seen (readV valueLevels (drop 3 v)) (I .v) k (read-upV (valueLevels - 1) valueLevels (drop 3 v) (bytes-drop 3 v (A .bytes-v)) (I .v) k (omega arith) r));
-        bytes = ap (drop 3) whole ∙ front-three (I .v);
+            seen-got (readV (valueLevels - 1) (drop 3 v)) (I .x) (I .first) (λ k r.
+            got-seen (readV valueLevels (drop 3 v)) (I .x) k (read-upV (valueLevels - 1) valueLevels (drop 3 v) (bytes-drop 3 v (A .bytes-v)) (I .x) k (omega arith) r));
+        bytes = ap (drop 3) whole ∙ front-three (I .x);
       }
 
   pub item-says : getD v 0 0 ≡ 0x0A → (n : ℕ) → n ≡ numAt 2 1 v → n ≡ 1 → (r : Bool) → SaysAt valueConformsTo (take (length v - 3) (drop 3 v)) t r → SaysAt itemConforms v t r

@@ -17,7 +17,8 @@ use Rattle.form.proofs.Runs.{rest, behind}
 use Rattle.order.specs.Size.{size, sizeFields}
 use Rattle.types.specs.At.{typeAt, fieldsAt, Ok}
 use Rattle.types.proofs.Reading.{ok-got}
-use Rattle.types.proofs.Entries.{Here, here, gone, size-entry, entry-ok, size-none}
+use Rattle.types.proofs.ChildAt.{entry-ok}
+use Rattle.types.proofs.Entries.{Here, here, gone, size-none}
 use Rattle.output.proofs.FillLaws.{length-fill, fill-then, put-then}
 use Rattle.names.proofs.Pieces.{fill-none}
 use Rattle.display.specs.declared.Shown.{Shown}
@@ -94,7 +95,7 @@ module _ {l : ℕ} {s : List ℕ} {count : ℕ} {tab old out : List ℕ} {at to 
 
   module _ (h : i < count) where
     abbrev A : Here l (count - (i + 1)) at (Q .least) s (Q .fs)
-    A = here l i count at (Q .least) s (Q .fs) h (Q .in-s) (Q .read)
+    A = here l i count at (Q .least) s (Q .fs) h (Q .read)
 
     pub name-there : at + nameWidth ≤ length s
     name-there = A .two
@@ -110,7 +111,7 @@ module _ {l : ℕ} {s : List ℕ} {count : ℕ} {tab old out : List ℕ} {at to 
       pub name-missing : r ≡ span-is.None → Shows ofFields (fieldsAt l count 0 s) (readTable tab) old out No
       name-missing e =
           let m : nth (Q .ts) (A .name) ≡ none = sym (found .text) ∙ ap (cut tab) e in
-          failed out (ap (fieldsFrom i (Q .ts)) (A .is) ∙ no-name i (Q .ts) (A .name) (A .t) (A .more) m) fields-kept
+          failed out (ap (fieldsFrom i (Q .ts)) (A .is) ∙ no-name i (Q .ts) (A .name) (A .x) (A .more) m) fields-kept
 
       module _ (b e : ℕ) (er : r ≡ span-is.At b e) where
         pub name-inside : (b ≤ e) × (e ≤ length tab)
@@ -140,24 +141,24 @@ module _ {l : ℕ} {s : List ℕ} {count : ℕ} {tab old out : List ℕ} {at to 
           one-is = put-then (Q .done) (label i name) old out one to (Q .state) (Q .long) eo
 
           module _ (p : ℕ) (ys : List ℕ) (x : Shown) (T : Shows ofTypes (typeAt l (behind (at + nameWidth) s)) (readTable tab) (behind p one) ys x) where
-            gave : Gave ofTypes (Q .ts) (A .t) (behind p one) ys x
-            gave = shows-is ofTypes (typeAt l (behind (at + nameWidth) s)) (readTable tab) (A .t) (Q .ts) (behind p one) ys x (ap (typeAt l) (rest s (at + nameWidth)) ∙ A .first) (Q .tabled) T
+            gave : Gave ofTypes (Q .ts) (A .x) (behind p one) ys x
+            gave = shows-is ofTypes (typeAt l (behind (at + nameWidth) s)) (readTable tab) (A .x) (Q .ts) (behind p one) ys x (ap (typeAt l) (rest s (at + nameWidth)) ∙ A .first) (Q .tabled) T
 
             pub type-kept : length (putMid p (length one - p) one ys) ≡ length old
-            type-kept = back-length p one ys (gave-length ofTypes (Q .ts) (A .t) (behind p one) ys x gave) ∙ ap length one-is ∙ length-fill (Q .done ++ label i name) old
+            type-kept = back-length p one ys (gave-length ofTypes (Q .ts) (A .x) (behind p one) ys x gave) ∙ ap length one-is ∙ length-fill (Q .done ++ label i name) old
 
             pub type-missing : x ≡ No → Shows ofFields (fieldsAt l count 0 s) (readTable tab) old (putMid p (length one - p) one ys) No
             type-missing ex =
                 failed (putMid p (length one - p) one ys)
-                (ap (fieldsFrom i (Q .ts)) (A .is) ∙ no-type i (Q .ts) (A .name) (A .t) (A .more) (gave-no ofTypes (Q .ts) (A .t) (behind p one) ys x gave ex))
+                (ap (fieldsFrom i (Q .ts)) (A .is) ∙ no-type i (Q .ts) (A .name) (A .x) (A .more) (gave-no ofTypes (Q .ts) (A .x) (behind p one) ys x gave ex))
                 type-kept
 
             module _ (a c : ℕ) (ex : x ≡ Yes a c) where
-              G : Got ofTypes (Q .ts) (A .t) (behind p one) ys a c
-              G = gave-yes ofTypes (Q .ts) (A .t) (behind p one) ys x gave a c ex
+              G : Got ofTypes (Q .ts) (A .x) (behind p one) ys a c
+              G = gave-yes ofTypes (Q .ts) (A .x) (behind p one) ys x gave a c ex
 
               most : c + 2 ≤ mostBytes * a
-              most = omega (arith, G .size, G .long, text-most (Q .ts) (table-named tab (Q .ts) (Q .tabled)) (A .t) (G .bs) (G .is))
+              most = omega (arith, G .size, G .long, text-most (Q .ts) (table-named tab (Q .ts) (Q .tabled)) (A .x) (G .bs) (G .is))
 
               pub field-ends : (at + nameWidth + a ≤ length s) × (k + c ≤ mostBytes * (at + nameWidth + a))
               field-ends = (omega (arith, G .size, A .fits), omega (arith, most, labelled))
@@ -178,9 +179,9 @@ module _ {l : ℕ} {s : List ℕ} {count : ℕ} {tab old out : List ℕ} {at to 
                     in-s = field-ends .0;
                     low = field-ends .1;
                     read = ap (λ (z : ℕ). fieldsAt l (count - (i + 1)) (suc (A .name)) (drop (at + nameWidth + z) s)) (G .size) ∙ A .second;
-                    sizes = omega (arith, Q .sizes, size-entry A, G .size);
+                    sizes = omega (arith, Q .sizes, A .sized, G .size);
                     goes =
-                        sym (ap (λ (z : Fields). after (Q .done) (fieldsFrom i (Q .ts) z)) (A .is) ∙ one-field i (Q .done) (Q .ts) (A .name) (A .t) (A .more) name (G .bs) name-is (G .is))
+                        sym (ap (λ (z : Fields). after (Q .done) (fieldsFrom i (Q .ts) z)) (A .is) ∙ one-field i (Q .done) (Q .ts) (A .name) (A .x) (A .more) name (G .bs) name-is (G .is))
                         ∙ Q .goes;
                     long = omega (arith, length-append (Q .done ++ label i name) (G .bs), kl, G .long);
                     state = fill-then (Q .done ++ label i name) (G .bs) old one ys k p one-is kl ep (G .out);

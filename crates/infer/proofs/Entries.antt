@@ -9,11 +9,10 @@ use mathlib.Core.Bool.{Bool, true}
 use mathlib.Core.Option.{some}
 use mathlib.Core.List.{List, [], _++_, append-assoc, append-nil}
 use native.Mathlib.Omega.{arith}
-use lib.ListN.{length, getD, drop, set, length-append, length-drop}
-use lib.Seq.{drop-drop}
+use lib.ListN.{length, getD, drop, set, length-append}
 use borrow.Rule.Slice.PartMut.{putMid, same-len-mid}
 use Rattle.form.specs.Limits.{nameWidth, mostBytes}
-use Rattle.form.specs.Trees.{Val, Entries, no-entries}
+use Rattle.form.specs.Trees.{Entries, no-entries}
 use Rattle.form.specs.Form.{bytes, numAt, Bytes, encFields, WfV}
 use Rattle.form.proofs.Exact.{bytes-drop}
 use Rattle.form.proofs.Numbers.{length-bytes}
@@ -23,16 +22,16 @@ use Rattle.order.specs.Size.{sizeVal, sizeEntries}
 use Rattle.order.specs.Values.{holdData}
 use Rattle.order.specs.Inferred.{isData}
 use Rattle.order.proofs.Size.{length-enc}
-use Rattle.types.proofs.Entries.{step, enc-field, enc-none}
+use Rattle.types.proofs.Entries.{enc-field, enc-none}
 use Rattle.values.specs.At.{valueAt, entriesAt}
-use Rattle.values.proofs.Reading.{some-byte, v-inside, Entry, next-entry, no-entry, encoded}
+use Rattle.values.proofs.Reading.{some-byte, encoded}
 use Rattle.output.proofs.OntoLaws.{length-over}
 use Rattle.infer.specs.Typing.{typeBy, fieldsBy, FitVal, FitEntries, Plain, Starts, Wrote, Typed, typeText, fieldsText}
 use Rattle.infer.proofs.Trees.{fine, fields-none, fields-entry, data-entry}
 use Rattle.infer.proofs.OutputFront.{starts, lent-starts, over-starts, open-fit, fit, typed, typed-is, behind}
 use Rattle.infer.proofs.ByCommand.{plain-free, plain-put, plain-byte, plain-told}
 use Rattle.output.specs.Output.{over}
-use Rattle.values.proofs.EntriesAt.{size-next}
+use Rattle.values.proofs.EntriesAt.{This, this, none-left}
 
 pub record EntriesInv (m : Bool) (l : ℕ) (v : List ℕ) (n : ℕ) (old spare₀ out spare : List ℕ) (at to i : ℕ) : Type 0 where
   -- all, what is left of them, and what was written
@@ -82,53 +81,27 @@ entries-start m l v n old spare₀ p =
       state = starts [] old old refl;
     }
 
--- the entry that stands at `at`
-pub record Here (m : Bool) (l n at : ℕ) (s : List ℕ) (es : Entries) : Type 0 where
-  pub name : ℕ
-  pub v : Val
-  pub more : Entries
-  pub two : at + nameWidth ≤ length s
-  pub named : name ≡ numAt nameWidth at s
-  pub first : valueAt l (behind (at + nameWidth) s) ≡ some v
-  pub well : WfV v
-  pub fits : at + nameWidth + sizeVal v ≤ length s
-  pub second : entriesAt l n (suc name) (drop (at + nameWidth + sizeVal v) s) ≡ some more
-  pub sized : sizeEntries es ≡ nameWidth + sizeVal v + sizeEntries more
-  pub text : fieldsText m es ≡ bytes nameWidth name ++ (typeText m v ++ fieldsText m more)
-  pub apt : (m ≡ true → holdData fixed es ≡ true) → (m ≡ true → isData v ≡ true) × (m ≡ true → holdData fixed more ≡ true)
-
 size-no-entries : sizeEntries no-entries ≡ 0
 unfolding sizeEntries
 size-no-entries = refl
 
-here : (m : Bool) (l i n at k : ℕ) (s : List ℕ) (es : Entries) → Bytes s → i < n → at ≤ length s → entriesAt l (n - i) k (drop at s) ≡ some es → Here m l (n - (i + 1)) at s es
-here m l i n at k s es bs h in-s e = go (next-entry l (n - (i + 1)) k (drop at s) es (ap (λ (z : ℕ). entriesAt l z k (drop at s)) (sym (step i n h)) ∙ e))
-  where
-    go : Entry l (n - (i + 1)) k (drop at s) es → Here m l (n - (i + 1)) at s es
-    go E =
-        let d : drop nameWidth (drop at s) ≡ drop (at + nameWidth) s = drop-drop nameWidth at s in
-        let r : behind (at + nameWidth) s ≡ drop (at + nameWidth) s = rest s (at + nameWidth) in
-        let f : valueAt l (drop (at + nameWidth) s) ≡ some (E .v) = ap (valueAt l) (sym d) ∙ E .first in
-        let two : at + nameWidth ≤ length s = omega (arith, simp length-drop at (E .two)) in
-        record {
-          name = E .name;
-          v = E .v;
-          more = E .more;
-          two = two;
-          named = E .named;
-          first = ap (valueAt l) r ∙ f;
-          well = encoded l (drop (at + nameWidth) s) (E .v) (bytes-drop (at + nameWidth) s bs) f .well;
-          fits = omega (arith, two, simp length-drop at (v-inside l (drop (at + nameWidth) s) (E .v) f));
-          second = ap (entriesAt l (n - (i + 1)) (suc (E .name))) (sym (drop-drop (sizeVal (E .v)) (at + nameWidth) s) ∙ ap (drop (sizeVal (E .v))) (sym d)) ∙ E .second;
-          sized = ap sizeEntries (E .is) ∙ size-next (E .name) (E .v) (E .more);
-          text = ap (fieldsText m) (E .is) ∙ ap encFields (fields-entry m (E .name) (E .v) (E .more)) ∙ enc-field (E .name) (typeBy m (E .v)) (fieldsBy m (E .more));
-          apt = λ d. data-entry m (E .name) (E .v) (E .more) (λ q. ap (holdData fixed) (sym (E .is)) ∙ d q);
-        }
-
 module _ {m : Bool} {l : ℕ} {s : List ℕ} {n : ℕ} {old spare₀ out spare : List ℕ} {at to i : ℕ} (Q : EntriesInv m l s n old spare₀ out spare at to i) (bs : Bytes s) where
   module _ (h : i < n) where
-    abbrev H : Here m l (n - (i + 1)) at s (Q .left)
-    H = here m l i n at (Q .name) s (Q .left) bs h (Q .in-v) (Q .read)
+    -- the entry that stands at `at`
+    abbrev H : This l (n - (i + 1)) at (Q .name) s (Q .left)
+    H = this l i n at (Q .name) s (Q .left) h (Q .read)
+
+    first : valueAt l (behind (at + nameWidth) s) ≡ some (H .x)
+    first = ap (valueAt l) (rest s (at + nameWidth)) ∙ H .first
+
+    well : WfV (H .x)
+    well = encoded l (drop (at + nameWidth) s) (H .x) (bytes-drop (at + nameWidth) s bs) (H .first) .well
+
+    texts : fieldsText m (Q .left) ≡ bytes nameWidth (H .name) ++ (typeText m (H .x) ++ fieldsText m (H .more))
+    texts = ap (fieldsText m) (H .is) ∙ ap encFields (fields-entry m (H .name) (H .x) (H .more)) ∙ enc-field (H .name) (typeBy m (H .x)) (fieldsBy m (H .more))
+
+    apt : (m ≡ true → isData (H .x) ≡ true) × (m ≡ true → holdData fixed (H .more) ≡ true)
+    apt = data-entry m (H .name) (H .x) (H .more) (λ q. ap (holdData fixed) (sym (H .is)) ∙ Q .apt q)
 
     pub entry-name : at + nameWidth ≤ length s
     entry-name = H .two
@@ -138,11 +111,10 @@ module _ {m : Bool} {l : ℕ} {s : List ℕ} {n : ℕ} {old spare₀ out spare :
 
     pub entry-fits : (xs : List ℕ) → length xs ≡ length out → FitVal m (valueAt l (behind (at + nameWidth) s)) (length (behind (to + nameWidth) xs)) (length spare)
     entry-fits xs e =
-        let a = H .apt (Q .apt) in
-        fit (valueAt l (behind (at + nameWidth) s)) (H .v) (length (behind (to + nameWidth) xs)) (length spare) (H .first)
+        fit (valueAt l (behind (at + nameWidth) s)) (H .x) (length (behind (to + nameWidth) xs)) (length spare) first
         (record {
-          well = H .well;
-          apt = a .0;
+          well = well;
+          apt = apt .0;
           roomy = omega (arith, length-rest xs (to + nameWidth), Q .room, Q .out-len, Q .low, Q .sized, H .sized);
           spared = omega (arith, Q .spared, Q .spare-len, Q .sized, H .sized);
           small = omega (arith, Q .small, Q .sized, H .sized);
@@ -154,14 +126,14 @@ module _ {m : Bool} {l : ℕ} {s : List ℕ} {n : ℕ} {old spare₀ out spare :
     -- the name was copied, and the type written behind it
     module _ (xs ys : List ℕ) (e w : ℕ) (named : xs ≡ over to (bytes nameWidth (numAt nameWidth at s)) out)
         (T : Typed sizeVal (typeText m) (valueAt l (behind (at + nameWidth) s)) (behind (to + nameWidth) xs) ys e w) where
-      abbrev W : Wrote sizeVal (typeText m) (H .v) (behind (to + nameWidth) xs) ys e w
-      W = typed-is (valueAt l (behind (at + nameWidth) s)) (H .v) (behind (to + nameWidth) xs) ys e w (H .first) T
+      abbrev W : Wrote sizeVal (typeText m) (H .x) (behind (to + nameWidth) xs) ys e w
+      W = typed-is (valueAt l (behind (at + nameWidth) s)) (H .x) (behind (to + nameWidth) xs) ys e w first T
 
       pub entry-read : at + nameWidth + e ≤ length s
       entry-read = omega (arith, H .fits, W .all)
 
       short : w ≤ e
-      short = omega (arith, W .all, W .long, length-enc (typeBy m (H .v)), fine m (H .v) (H .well) (omega (arith, Q .small, Q .sized, H .sized)) .short)
+      short = omega (arith, W .all, W .long, length-enc (typeBy m (H .x)), fine m (H .x) well (omega (arith, Q .small, Q .sized, H .sized)) .short)
 
       pub entry-wrote : to + nameWidth + w ≤ length s
       entry-wrote = omega (arith, short, Q .low, entry-read)
@@ -179,28 +151,28 @@ module _ {m : Bool} {l : ℕ} {s : List ℕ} {n : ℕ} {old spare₀ out spare :
             whole = Q .whole;
             left = H .more;
             name = suc (H .name);
-            done = p ++ typeText m (H .v);
+            done = p ++ typeText m (H .x);
             read-all = Q .read-all;
             below = omega arith;
             in-v = entry-read;
             read = ap (λ (z : ℕ). entriesAt l (n - (i + 1)) (suc (H .name)) (drop (at + nameWidth + z) s)) (W .all) ∙ H .second;
             sized = omega (arith, Q .sized, H .sized, W .all);
-            text = append-assoc p (typeText m (H .v)) (fieldsText m (H .more)) ∙ append-assoc (Q .done) name (typeText m (H .v) ++ fieldsText m (H .more))
-                ∙ ap (λ (z : List ℕ). Q .done ++ z) (sym (H .text)) ∙ Q .text;
-            long = omega (arith, length-append p (typeText m (H .v)), W .long);
+            text = append-assoc p (typeText m (H .x)) (fieldsText m (H .more)) ∙ append-assoc (Q .done) name (typeText m (H .x) ++ fieldsText m (H .more))
+                ∙ ap (λ (z : List ℕ). Q .done ++ z) (sym texts) ∙ Q .text;
+            long = omega (arith, length-append p (typeText m (H .x)), W .long);
             low = omega (arith, short, Q .low);
-            apt = H .apt (Q .apt) .1;
+            apt = apt .1;
             room = Q .room;
             spared = Q .spared;
             small = Q .small;
             out-len = same-len-mid (to + nameWidth) (length xs - (to + nameWidth)) xs ys (W .kept) ∙ name-len xs named ∙ Q .out-len;
             spare-len = k ∙ Q .spare-len;
-            state = lent-starts p (typeText m (H .v)) xs ys (to + nameWidth) sx lp (W .out);
+            state = lent-starts p (typeText m (H .x)) xs ys (to + nameWidth) sx lp (W .out);
           }
 
     -- the short way past a leaf
     pub entry-some : 0 < length (behind (at + nameWidth) s)
-    entry-some = some-byte l (behind (at + nameWidth) s) (H .v) (H .first)
+    entry-some = some-byte l (behind (at + nameWidth) s) (H .x) first
 
     pub entry-byte : at + nameWidth < length s
     entry-byte = omega (arith, entry-some, length-rest s (at + nameWidth))
@@ -234,8 +206,7 @@ module _ {m : Bool} {l : ℕ} {s : List ℕ} {n : ℕ} {old spare₀ out spare :
 
   pub entries-done : n ≤ i → Typed sizeEntries (fieldsText m) (entriesAt l n 0 s) old out at to
   entries-done h =
-      let z : n - i ≡ 0 = omega arith in
-      let e : Q .left ≡ no-entries = no-entry l (Q .name) (drop at s) (Q .left) (ap (λ (k : ℕ). entriesAt l k (Q .name) (drop at s)) (sym z) ∙ Q .read) in
+      let e : Q .left ≡ no-entries = none-left l i n at (Q .name) s (Q .left) h (Q .read) in
       let t : Q .done ≡ fieldsText m (Q .whole) =
       sym (append-nil (Q .done)) ∙ ap (λ (k : List ℕ). Q .done ++ k) (sym (ap (fieldsText m) e ∙ ap encFields (fields-none m) ∙ enc-none)) ∙ Q .text in
       typed (entriesAt l n 0 s) (Q .whole) old out at to (Q .read-all)

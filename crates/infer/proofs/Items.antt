@@ -9,13 +9,12 @@ use mathlib.Core.Bool.{Bool, true}
 use mathlib.Core.Option.{some}
 use mathlib.Core.List.{List, [], _∷_}
 use native.Mathlib.Omega.{arith}
-use lib.ListN.{length, getD, drop, set, length-drop, length-set}
-use lib.Seq.{drop-drop}
+use lib.ListN.{length, getD, drop, set, length-set}
 use borrow.Rule.Slice.PartMut.{putMid, same-len-mid}
 use Rattle.form.specs.Limits.{mostBytes, valueLevels, typeLevels}
 use Rattle.form.specs.Trees.{null, Ty, leaf, Val, Vals, no-items, item}
-use Rattle.form.specs.Form.{Bytes, enc, level, levelV, Wf, WfV, WfVals}
-use Rattle.form.proofs.Exact.{bytes-drop}
+use Rattle.form.specs.Form.{Bytes, enc, encV, level, levelV, Wf, WfV, WfVals}
+use Rattle.form.proofs.Exact.{Found, bytes-drop}
 use Rattle.form.proofs.Runs.{rest, length-rest}
 use Rattle.order.specs.Order.{fixed}
 use Rattle.order.specs.Types.{reduce}
@@ -24,9 +23,8 @@ use Rattle.order.specs.Values.{areData}
 use Rattle.order.specs.Inferred.{isData}
 use Rattle.order.proofs.Size.{length-enc}
 use Rattle.types.specs.At.{typeAt}
-use Rattle.types.proofs.Entries.{step}
 use Rattle.values.specs.At.{valueAt, itemsAt}
-use Rattle.values.proofs.Reading.{some-byte, v-inside, Item, next-item, no-item, encoded, size-item}
+use Rattle.values.proofs.Reading.{some-byte, Nth, nth, no-nth, no-item, encoded}
 use Rattle.output.proofs.OntoLaws.{onto-first}
 use Rattle.infer.specs.Typing.{typeBy, joined, taken, inner, FitVal, FitItems, Plain, Starts, Wrote, Typed, typeText, innerText, Sides, Reduced, Joined}
 use Rattle.infer.proofs.Trees.{Fine, fine, Sound, sound, type-reduced, joined-reduced, data-item}
@@ -81,38 +79,6 @@ taken-item : (m equal : Bool) (t : Ty) (v : Val) (vs : Vals) → taken m equal (
 unfolding taken
 taken-item m equal t v vs = refl
 
--- the item that stands at `at`
-pub record Nth (m : Bool) (l n at : ℕ) (s : List ℕ) (vs : Vals) : Type 0 where
-  pub v : Val
-  pub more : Vals
-  pub first : valueAt l (drop at s) ≡ some v
-  pub well : WfV v
-  pub depth : levelV v ≤ l
-  pub fits : at + sizeVal v ≤ length s
-  pub second : itemsAt l n (drop (at + sizeVal v) s) ≡ some more
-  pub is : vs ≡ item v more
-  pub sized : sizeVals vs ≡ sizeVal v + sizeVals more
-  pub apt : (m ≡ true → areData fixed vs ≡ true) → (m ≡ true → isData v ≡ true) × (m ≡ true → areData fixed more ≡ true)
-
-nth : (m : Bool) (l i n at : ℕ) (s : List ℕ) (vs : Vals) → Bytes s → i < n → at ≤ length s → itemsAt l (n - i) (drop at s) ≡ some vs → Nth m l (n - (i + 1)) at s vs
-nth m l i n at s vs bs h in-s e = go (next-item l (n - (i + 1)) (drop at s) vs (ap (λ (z : ℕ). itemsAt l z (drop at s)) (sym (step i n h)) ∙ e))
-  where
-    go : Item l (n - (i + 1)) (drop at s) vs → Nth m l (n - (i + 1)) at s vs
-    go E =
-        let F = encoded l (drop at s) (E .v) (bytes-drop at s bs) (E .first) in
-        record {
-          v = E .v;
-          more = E .more;
-          first = E .first;
-          well = F .well;
-          depth = F .low;
-          fits = omega (arith, simp length-drop at (v-inside l (drop at s) (E .v) (E .first)));
-          second = ap (itemsAt l (n - (i + 1))) (sym (drop-drop (sizeVal (E .v)) at s)) ∙ E .second;
-          is = E .is;
-          sized = ap sizeVals (E .is) ∙ size-item (E .v) (E .more);
-          apt = λ d. data-item m (E .v) (E .more) (λ q. ap (areData fixed) (sym (E .is)) ∙ d q);
-        }
-
 module _ (m equal : Bool) (l : ℕ) (s : List ℕ) (n : ℕ) (old spare₀ : List ℕ) (p : FitItems m (itemsAt l n s) (length old) (length spare₀)) where
   abbrev K : Opened WfVals (areData fixed) (λ vs. sizeVals vs + 1) m (itemsAt l n s) (length old) (length spare₀)
   K = open-fit (itemsAt l n s) (length old) (length spare₀) p
@@ -133,44 +99,51 @@ module _ (m equal : Bool) (l : ℕ) (s : List ℕ) (n : ℕ) (old spare₀ : Lis
       })
 
   module _ (bs : Bytes s) (levels : l ≤ valueLevels) (h : n ≡ 0 → ⊥) where
-    abbrev F : Nth m l (n - (0 + 1)) 0 s (K .x)
-    F = let en : n - 0 ≡ n = omega arith in nth m l 0 n 0 s (K .x) bs (omega arith) (omega arith) (ap (λ (z : ℕ). itemsAt l z s) en ∙ K .read)
+    -- the first item
+    abbrev F : Nth l (n - (0 + 1)) 0 s (K .x)
+    F = let en : n - 0 ≡ n = omega arith in nth l 0 n 0 s (K .x) (omega arith) (omega arith) (ap (λ (z : ℕ). itemsAt l z s) en ∙ K .read)
+
+    first-text : Found encV WfV levelV l s (F .x) (sizeVal (F .x))
+    first-text = encoded l s (F .x) bs (F .first)
+
+    first-apt : (m ≡ true → isData (F .x) ≡ true) × (m ≡ true → areData fixed (F .more) ≡ true)
+    first-apt = data-item m (F .x) (F .more) (λ q. ap (areData fixed) (sym (F .is)) ∙ K .fits .apt q)
 
     pub items-first : FitVal m (valueAt l s) (length old) (length spare₀)
     items-first =
-        fit (valueAt l s) (F .v) (length old) (length spare₀) (F .first)
+        fit (valueAt l s) (F .x) (length old) (length spare₀) (F .first)
         (record {
-          well = F .well;
-          apt = F .apt (K .fits .apt) .0;
+          well = first-text .well;
+          apt = first-apt .0;
           roomy = omega (arith, K .fits .roomy, F .sized);
           spared = omega (arith, K .fits .spared, F .sized);
           small = omega (arith, K .fits .small, F .sized);
         })
 
     pub items-kept : (out : List ℕ) (e w : ℕ) → Typed sizeVal (typeText m) (valueAt l s) old out e w → length out ≡ length old
-    items-kept out e w T = typed-is (valueAt l s) (F .v) old out e w (F .first) T .kept
+    items-kept out e w T = typed-is (valueAt l s) (F .x) old out e w (F .first) T .kept
 
     pub items-start : (out spare : List ℕ) (e w : ℕ) → Typed sizeVal (typeText m) (valueAt l s) old out e w → length spare ≡ length spare₀ → ItemsInv m equal l s n out spare out spare e w 1
     items-start out spare e w T k =
-        let W = typed-is (valueAt l s) (F .v) old out e w (F .first) T in
-        let G = fine m (F .v) (F .well) (omega (arith, K .fits .small, F .sized)) in
-        let z : 0 + sizeVal (F .v) ≡ e = omega (arith, W .all) in
+        let W = typed-is (valueAt l s) (F .x) old out e w (F .first) T in
+        let G = fine m (F .x) (first-text .well) (omega (arith, K .fits .small, F .sized)) in
+        let z : 0 + sizeVal (F .x) ≡ e = omega (arith, W .all) in
         record {
           whole = K .x;
           left = F .more;
-          t = typeBy m (F .v);
+          t = typeBy m (F .x);
           read-all = K .read;
           below = omega arith;
           in-v = omega (arith, F .fits, W .all);
           read = ap (λ (z : ℕ). itemsAt l (n - 1) (drop z s)) (sym z) ∙ F .second;
           sized = omega (arith, F .sized, W .all);
-          type = inner-item m equal (F .v) (F .more) ∙ ap (inner m equal) (sym (F .is));
+          type = inner-item m equal (F .x) (F .more) ∙ ap (inner m equal) (sym (F .is));
           wf = G .wf;
-          reduced = type-reduced m (F .v);
-          long = omega (arith, W .long, length-enc (typeBy m (F .v)));
-          low = omega (arith, W .all, W .long, length-enc (typeBy m (F .v)), G .short);
-          levels = omega (arith, G .low, F .depth);
-          apt = F .apt (K .fits .apt) .1;
+          reduced = type-reduced m (F .x);
+          long = omega (arith, W .long, length-enc (typeBy m (F .x)));
+          low = omega (arith, W .all, W .long, length-enc (typeBy m (F .x)), G .short);
+          levels = omega (arith, G .low, first-text .low);
+          apt = first-apt .1;
           room = omega (arith, K .fits .roomy, W .kept);
           spared = omega (arith, K .fits .spared, k);
           small = K .fits .small;
@@ -184,35 +157,42 @@ module _ {m equal : Bool} {l : ℕ} {s : List ℕ} {n : ℕ} {old spare₀ out s
   item-room = omega (arith, Q .room, Q .out-len, Q .low, Q .sized)
 
   module _ (h : i < n) where
-    abbrev N : Nth m l (n - (i + 1)) at s (Q .left)
-    N = nth m l i n at s (Q .left) bs h (Q .in-v) (Q .read)
+    -- the item that stands at `at`
+    abbrev N : Nth l (n - (i + 1)) at s (Q .left)
+    N = nth l i n at s (Q .left) h (Q .in-v) (Q .read)
 
-    first-behind : valueAt l (behind at s) ≡ some (N .v)
+    text : Found encV WfV levelV l (drop at s) (N .x) (sizeVal (N .x))
+    text = encoded l (drop at s) (N .x) (bytes-drop at s bs) (N .first)
+
+    apt : (m ≡ true → isData (N .x) ≡ true) × (m ≡ true → areData fixed (N .more) ≡ true)
+    apt = data-item m (N .x) (N .more) (λ q. ap (areData fixed) (sym (N .is)) ∙ Q .apt q)
+
+    first-behind : valueAt l (behind at s) ≡ some (N .x)
     first-behind = ap (valueAt l) (rest s at) ∙ N .first
 
     pub item-fits : FitVal m (valueAt l (behind at s)) (length (behind to out)) (length spare)
     item-fits =
-        fit (valueAt l (behind at s)) (N .v) (length (behind to out)) (length spare) first-behind
+        fit (valueAt l (behind at s)) (N .x) (length (behind to out)) (length spare) first-behind
         (record {
-          well = N .well;
-          apt = N .apt (Q .apt) .0;
+          well = text .well;
+          apt = apt .0;
           roomy = omega (arith, length-rest out to, Q .room, Q .out-len, Q .low, Q .sized, N .sized);
           spared = omega (arith, Q .spared, Q .spare-len, Q .sized, N .sized);
           small = omega (arith, Q .small, Q .sized, N .sized);
         })
 
     module _ (levels : l ≤ valueLevels) (ys sp : List ℕ) (e w : ℕ) (T : Typed sizeVal (typeText m) (valueAt l (behind at s)) (behind to out) ys e w) (k : length sp ≡ length spare) where
-      abbrev W : Wrote sizeVal (typeText m) (N .v) (behind to out) ys e w
-      W = typed-is (valueAt l (behind at s)) (N .v) (behind to out) ys e w first-behind T
+      abbrev W : Wrote sizeVal (typeText m) (N .x) (behind to out) ys e w
+      W = typed-is (valueAt l (behind at s)) (N .x) (behind to out) ys e w first-behind T
 
       abbrev xs : List ℕ
       xs = putMid to (length out - to) out ys
 
       abbrev u : Ty
-      u = typeBy m (N .v)
+      u = typeBy m (N .x)
 
-      good : Fine m (N .v)
-      good = fine m (N .v) (N .well) (omega (arith, Q .small, Q .sized, N .sized))
+      good : Fine m (N .x)
+      good = fine m (N .x) (text .well) (omega (arith, Q .small, Q .sized, N .sized))
 
       both : Sound (Q .t) u (joined m equal (Q .t) u)
       both = sound m equal (Q .t) u (Q .wf) (good .wf) (omega (arith, good .short, Q .small, Q .low, Q .long, Q .sized, N .sized))
@@ -227,7 +207,7 @@ module _ {m equal : Bool} {l : ℕ} {s : List ℕ} {n : ℕ} {old spare₀ out s
       read-t = starts-read typeLevels (Q .t) xs (Q .wf) (Q .levels) (lent-front (enc (Q .t)) out ys to (Q .state) front-long)
 
       read-u : typeAt typeLevels (drop to xs) ≡ some u
-      read-u = ap (typeAt typeLevels) (lent-back (enc (Q .t)) out ys to (Q .state) front-long) ∙ starts-read typeLevels u ys (good .wf) (omega (arith, good .low, N .depth)) (W .out)
+      read-u = ap (typeAt typeLevels) (lent-back (enc (Q .t)) out ys to (Q .state) front-long) ∙ starts-read typeLevels u ys (good .wf) (omega (arith, good .low, text .low)) (W .out)
 
       xs-len : length xs ≡ length out
       xs-len = same-len-mid to (length out - to) out ys (W .kept)
@@ -265,13 +245,13 @@ module _ {m equal : Bool} {l : ℕ} {s : List ℕ} {n : ℕ} {old spare₀ out s
             in-v = item-read;
             read = ap (λ (z : ℕ). itemsAt l (n - (i + 1)) (drop (at + z) s)) (W .all) ∙ N .second;
             sized = omega (arith, Q .sized, N .sized, W .all);
-            type = taken-item m equal (Q .t) (N .v) (N .more) ∙ ap (taken m equal (Q .t)) (sym (N .is)) ∙ Q .type;
+            type = taken-item m equal (Q .t) (N .x) (N .more) ∙ ap (taken m equal (Q .t)) (sym (N .is)) ∙ Q .type;
             wf = both .wf;
             reduced = joined-reduced m equal (Q .t) u;
             long = sym (length-enc j) ∙ sym (S .long);
             low = omega (arith, S .long, length-enc j, both .short, Q .long, Q .low, good .short, W .all);
-            levels = omega (arith, both .low, Q .levels, good .low, N .depth);
-            apt = N .apt (Q .apt) .1;
+            levels = omega (arith, both .low, Q .levels, good .low, text .low);
+            apt = apt .1;
             room = Q .room;
             spared = Q .spared;
             small = Q .small;
@@ -282,7 +262,7 @@ module _ {m equal : Bool} {l : ℕ} {s : List ℕ} {n : ℕ} {old spare₀ out s
 
     -- the short way past a leaf
     pub item-some : 0 < length (behind at s)
-    item-some = some-byte l (behind at s) (N .v) first-behind
+    item-some = some-byte l (behind at s) (N .x) first-behind
 
     pub item-byte : at < length s
     item-byte = omega (arith, item-some, length-rest s at)
@@ -322,8 +302,7 @@ module _ {m equal : Bool} {l : ℕ} {s : List ℕ} {n : ℕ} {old spare₀ out s
 
   pub items-done : n ≤ i → (first : List ℕ) → length old ≡ length first → Typed sizeVals (innerText m equal) (itemsAt l n s) first out at to
   items-done h first k =
-      let z : n - i ≡ 0 = omega arith in
-      let e : Q .left ≡ no-items = no-item l (drop at s) (Q .left) (ap (λ (k : ℕ). itemsAt l k (drop at s)) (sym z) ∙ Q .read) in
+      let e : Q .left ≡ no-items = no-nth l i n at s (Q .left) h (Q .read) in
       let t : Q .t ≡ inner m equal (Q .whole) = sym (ap (taken m equal (Q .t)) e ∙ taken-none m equal (Q .t)) ∙ Q .type in
       typed (itemsAt l n s) (Q .whole) first out at to (Q .read-all)
       (record {

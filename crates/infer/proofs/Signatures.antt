@@ -8,7 +8,6 @@ use mathlib.Core.Option.{Option, none, some}
 use mathlib.Core.List.{List, [], _++_, append-assoc}
 use native.Mathlib.Omega.{arith}
 use lib.ListN.{length, take, drop, length-drop, length-append}
-use lib.Seq.{drop-drop}
 use borrow.Rule.Slice.PartMut.{putMid}
 use Rattle.form.specs.Limits.{nameWidth}
 use Rattle.form.specs.Trees.{Ty, Params, no-parameters}
@@ -22,10 +21,10 @@ use Rattle.order.specs.Values.{typesOf}
 use Rattle.order.proofs.Size.{length-enc}
 use Rattle.types.specs.At.{typeAt, sizeAt}
 use Rattle.types.proofs.Reading.{t-good}
-use Rattle.types.proofs.Entries.{step, size-got}
+use Rattle.types.proofs.Entries.{size-got}
 use Rattle.types.proofs.Instances.{front-bytes}
 use Rattle.values.specs.At.{Definition, definition, sizeDefinition, definitionAt}
-use Rattle.values.proofs.Reading.{paramsAt, definition-parts, Parameter, next-parameter, no-parameter, definition-inside}
+use Rattle.values.proofs.Reading.{paramsAt, definition-parts, ParameterAt, parameter-at, no-parameter, definition-inside}
 use Rattle.output.proofs.OntoLaws.{length-onto, back, onto-nil}
 use Rattle.infer.specs.Typing.{Starts, Wrote, Typed, signatureText, FitDefinition}
 use Rattle.infer.proofs.JoinedTypes.{onto-again}
@@ -97,29 +96,18 @@ module _ {l : ℕ} {v : List ℕ} {count k : ℕ} {old out : List ℕ} {at to i 
   sig-last-room = omega (arith, sig-out, I .room)
 
   module _ (h : i < count) where
-    P : Parameter l (count - (i + 1)) (drop at v) (I .more)
-    P = next-parameter l (count - (i + 1)) (drop at v) (I .more) (ap (λ n. paramsAt l n (drop at v)) (sym (step i count h)) ∙ I .read)
-
-    sizes-more : sizeParams (I .more) ≡ nameWidth + size (P .t) + sizeParams (P .more)
-    unfolding sizeParams
-    sizes-more = ap sizeParams (P .is)
+    P : ParameterAt l (count - (i + 1)) at v (I .more)
+    P = parameter-at l i count at v (I .more) h (I .read)
 
     pub sig-name : at + nameWidth ≤ length v
-    sig-name = omega (arith, I .inside, sizes-more)
-
-    -- behind the name
-    behind : drop (at + nameWidth) v ≡ drop nameWidth (drop at v)
-    behind = sym (drop-drop nameWidth at v)
-
-    first-is : typeAt l (drop (at + nameWidth) v) ≡ some (P .t)
-    first-is = ap (typeAt l) behind ∙ P .first
+    sig-name = P .two
 
     module _ (x : ℕ) (e : x ≡ sizeAt (typeAt l (take (length v - (at + nameWidth)) (drop (at + nameWidth) v)))) where
-      x-is : x ≡ size (P .t)
-      x-is = e ∙ ap (λ s. sizeAt (typeAt l s)) (rest v (at + nameWidth)) ∙ size-got (typeAt l (drop (at + nameWidth) v)) (P .t) first-is
+      x-is : x ≡ size (P .x)
+      x-is = e ∙ ap (λ s. sizeAt (typeAt l s)) (rest v (at + nameWidth)) ∙ size-got (typeAt l (drop (at + nameWidth) v)) (P .x) (P .first)
 
       pub sig-type : at + nameWidth + x ≤ length v
-      sig-type = omega (arith, x-is, I .inside, sizes-more)
+      sig-type = omega (arith, x-is, I .inside, P .sized)
 
       pub sig-part : length (take (at + nameWidth + x - (at + nameWidth)) (drop (at + nameWidth) v)) ≤ length (take (length out - to) (drop to out))
       sig-part =
@@ -127,38 +115,35 @@ module _ {l : ℕ} {v : List ℕ} {count k : ℕ} {old out : List ℕ} {at to i 
           let y : x ≤ length (drop (at + nameWidth) v) = simp length-drop (omega (arith, sig-type)) in
           let w : length (take (at + nameWidth + x - (at + nameWidth)) (drop (at + nameWidth) v)) ≡ x = ap (λ n. length (take n (drop (at + nameWidth) v))) z
           ∙ take-length x (drop (at + nameWidth) v) y in
-          omega (arith, w, length-rest out to, sig-out, I .room, sizes-more, x-is)
+          omega (arith, w, length-rest out to, sig-out, I .room, P .sized, x-is)
 
       pub sig-wide : to + x ≤ length old
-      sig-wide = omega (arith, I .room, sizes-more, x-is)
+      sig-wide = omega (arith, I .room, P .sized, x-is)
 
       pub sig-again : Bytes v → (ys : List ℕ) → ys ≡ onto (take (at + nameWidth + x - (at + nameWidth)) (drop (at + nameWidth) v)) (take (length out - to) (drop to out))
           → SigInv l v count k old (putMid to (length out - to) out ys) (at + nameWidth + x) (to + x) (i + 1)
-      unfolding typesOf enc
+      unfolding typesOf enc paramsAt
       sig-again bs ys q =
-          let z : at + nameWidth + x - (at + nameWidth) ≡ size (P .t) = omega (arith, x-is) in
-          let w : take (at + nameWidth + x - (at + nameWidth)) (drop (at + nameWidth) v) ≡ enc (P .t) = ap (λ n. take n (drop (at + nameWidth) v)) z
-          ∙ front-bytes l (drop (at + nameWidth) v) (P .t) (bytes-drop (at + nameWidth) v bs) first-is .1 in
-          let u : at + nameWidth + size (P .t) ≡ at + nameWidth + x = omega (arith, x-is) in
-          let y : drop (size (P .t)) (drop nameWidth (drop at v)) ≡ drop (at + nameWidth + x) v = ap (drop (size (P .t))) (drop-drop nameWidth at v) ∙ drop-drop (size (P .t)) (at + nameWidth) v
-          ∙ ap (λ n. drop n v) u in
+          let z : at + nameWidth + x - (at + nameWidth) ≡ size (P .x) = omega (arith, x-is) in
+          let w : take (at + nameWidth + x - (at + nameWidth)) (drop (at + nameWidth) v) ≡ enc (P .x) = ap (λ n. take n (drop (at + nameWidth) v)) z
+          ∙ front-bytes l (drop (at + nameWidth) v) (P .x) (bytes-drop (at + nameWidth) v bs) (P .first) .1 in
           record {
             d = I .d;
             r = I .r;
             more = P .more;
-            text = I .text ++ enc (P .t);
+            text = I .text ++ enc (P .x);
             whole = I .whole;
             read-r = I .read-r;
             sized-r = I .sized-r;
-            read = ap (paramsAt l (count - (i + 1))) (sym y) ∙ P .second;
+            read = ap (λ n. paramsAt l (count - (i + 1)) (drop (at + nameWidth + n) v)) x-is ∙ P .second;
             here = omega arith;
-            inside = omega (arith, x-is, I .inside, sizes-more);
-            room = omega (arith, x-is, I .room, sizes-more);
-            sizes = omega (arith, x-is, I .sizes, sizes-more);
-            long = length-append (I .text) (enc (P .t)) ∙ omega (arith, I .long, length-enc (P .t), x-is);
-            wrote = back (I .text) (enc (P .t)) old out ys to (I .wrote) (I .long) (omega (arith, I .room)) (q ∙ ap (λ n. onto n (take (length out - to) (drop to out))) w);
-            texts = I .texts ∙ ap (λ ps. I .text ++ (encTys (typesOf ps) ++ enc (I .r))) (P .is) ∙ ap (λ n. I .text ++ n) (append-assoc (enc (P .t)) (encTys (typesOf (P .more))) (enc (I .r)))
-                ∙ sym (append-assoc (I .text) (enc (P .t)) (encTys (typesOf (P .more)) ++ enc (I .r)));
+            inside = omega (arith, x-is, I .inside, P .sized);
+            room = omega (arith, x-is, I .room, P .sized);
+            sizes = omega (arith, x-is, I .sizes, P .sized);
+            long = length-append (I .text) (enc (P .x)) ∙ omega (arith, I .long, length-enc (P .x), x-is);
+            wrote = back (I .text) (enc (P .x)) old out ys to (I .wrote) (I .long) (omega (arith, I .room)) (q ∙ ap (λ n. onto n (take (length out - to) (drop to out))) w);
+            texts = I .texts ∙ ap (λ ps. I .text ++ (encTys (typesOf ps) ++ enc (I .r))) (P .is) ∙ ap (λ n. I .text ++ n) (append-assoc (enc (P .x)) (encTys (typesOf (P .more))) (enc (I .r)))
+                ∙ sym (append-assoc (I .text) (enc (P .x)) (encTys (typesOf (P .more)) ++ enc (I .r)));
           }
 
   pub sig-last : length (take k v) ≤ length (take (length out - to) (drop to out))

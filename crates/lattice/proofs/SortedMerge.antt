@@ -25,7 +25,7 @@ use Rattle.order.proofs.Size.{length-enc, length-fields}
 use Rattle.order.proofs.Sentences.{sup-fields-first, sup-fields-second, sub-fields-first, sub-fields-second}
 use Rattle.types.specs.At.{typeAt, fieldsAt, sizeAt}
 use Rattle.types.proofs.Reading.{t-good}
-use Rattle.types.proofs.Entries.{Here, here, gone, ahead, next-is, size-entry, size-got, enc-field, enc-none, size-field, size-none, count-field}
+use Rattle.types.proofs.Entries.{Here, here, gone, ahead, next-is, size-got, enc-field, enc-none, size-field, size-none, count-field}
 use Rattle.lattice.specs.Writing.{answer, answerFields, ofTypes, ofFields, mostAnswer, Ready, Combined, Counted}
 use Rattle.output.proofs.OntoLaws.{onto-nil, back, back-length, over-onto, length-over}
 use Rattle.lattice.proofs.BoundTrees.{count-none, count-size, fields-none, fields-both, self}
@@ -107,10 +107,10 @@ skipped l a p z t e f = e ∙ ap (λ (r : List ℕ). sizeAt (typeAt l r)) (rest 
 
 module _ {d : Dir} {l : ℕ} {a : List ℕ} {n : ℕ} {b : List ℕ} {m : ℕ} {old out : List ℕ} {at i bt j to k : ℕ} (v : FieldsInv d l a n b m old out at i bt j to k) where
   pub entry-a : i < n → Here l (n - (i + 1)) at (v .least-a) a (v .fs)
-  entry-a h = here l i n at (v .least-a) a (v .fs) h (v .in-a) (v .read-a)
+  entry-a h = here l i n at (v .least-a) a (v .fs) h (v .read-a)
 
   pub entry-b : j < m → Here l (m - (j + 1)) bt (v .least-b) b (v .gs)
-  entry-b h = here l j m bt (v .least-b) b (v .gs) h (v .in-b) (v .read-b)
+  entry-b h = here l j m bt (v .least-b) b (v .gs) h (v .read-b)
 
   pub peek-a : i < n → at + nameWidth ≤ length a
   peek-a h = entry-a h .two
@@ -131,7 +131,7 @@ module _ {d : Dir} {l : ℕ} {a : List ℕ} {n : ℕ} {b : List ℕ} {m : ℕ} {
     pub size-a : at′ + sizeFields fs′ ≡ sizeFields (v .all-a)
     pub size-b : bt′ + sizeFields gs′ ≡ sizeFields (v .all-b)
 
-  rest-a : i < n → (A : Here l (n - (i + 1)) at (v .least-a) a (v .fs)) (z : ℕ) → z ≡ size (A .t) → Rest (at + nameWidth + z) (i + 1) bt j (A .more) (v .gs)
+  rest-a : i < n → (A : Here l (n - (i + 1)) at (v .least-a) a (v .fs)) (z : ℕ) → z ≡ size (A .x) → Rest (at + nameWidth + z) (i + 1) bt j (A .more) (v .gs)
   rest-a h A z e =
       record {
         least-a = suc (A .name);
@@ -142,11 +142,11 @@ module _ {d : Dir} {l : ℕ} {a : List ℕ} {n : ℕ} {b : List ℕ} {m : ℕ} {
         in-b = v .in-b;
         read-a = ap (λ (x : ℕ). fieldsAt l (n - (i + 1)) (suc (A .name)) (drop (at + nameWidth + x) a)) e ∙ A .second;
         read-b = v .read-b;
-        size-a = omega (arith, v .size-a, size-entry A);
+        size-a = omega (arith, v .size-a, A .sized);
         size-b = v .size-b;
       }
 
-  rest-b : j < m → (B : Here l (m - (j + 1)) bt (v .least-b) b (v .gs)) (z : ℕ) → z ≡ size (B .t) → Rest at i (bt + nameWidth + z) (j + 1) (v .fs) (B .more)
+  rest-b : j < m → (B : Here l (m - (j + 1)) bt (v .least-b) b (v .gs)) (z : ℕ) → z ≡ size (B .x) → Rest at i (bt + nameWidth + z) (j + 1) (v .fs) (B .more)
   rest-b h B z e =
       record {
         least-a = v .least-a;
@@ -158,7 +158,7 @@ module _ {d : Dir} {l : ℕ} {a : List ℕ} {n : ℕ} {b : List ℕ} {m : ℕ} {
         read-a = v .read-a;
         read-b = ap (λ (x : ℕ). fieldsAt l (m - (j + 1)) (suc (B .name)) (drop (bt + nameWidth + x) b)) e ∙ B .second;
         size-a = v .size-a;
-        size-b = omega (arith, v .size-b, size-entry B);
+        size-b = omega (arith, v .size-b, B .sized);
       }
 
   rest-both : {at′ i′ bt′ j′ : ℕ} {fs′ gs′ : Fields} → Rest at′ i′ bt j fs′ (v .gs) → Rest at i bt′ j′ (v .fs) gs′ → Rest at′ i′ bt′ j′ fs′ gs′
@@ -326,19 +326,19 @@ module _ {d : Dir} {l : ℕ} {a : List ℕ} {n : ℕ} {b : List ℕ} {m : ℕ} {
       B = entry-b (more-b (omega arith))
 
       in-step : (A : Here l (n - (i + 1)) at (v .least-a) a (v .fs)) (B : Here l (m - (j + 1)) bt (v .least-b) b (v .gs)) → A .name ≡ B .name
-          → answerFields d (v .fs) (v .gs) ≡ field (A .name) (answer d (A .t) (B .t)) (answerFields d (A .more) (B .more))
-      in-step A B e = ap₂ (answerFields d) (A .is) (B .is ∙ ap (λ (z : ℕ). field z (B .t) (B .more)) (sym e)) ∙ fields-both d (A .name) (A .t) (B .t) (A .more) (B .more) (A .asc)
+          → answerFields d (v .fs) (v .gs) ≡ field (A .name) (answer d (A .x) (B .x)) (answerFields d (A .more) (B .more))
+      in-step A B e = ap₂ (answerFields d) (A .is) (B .is ∙ ap (λ (z : ℕ). field z (B .x) (B .more)) (sym e)) ∙ fields-both d (A .name) (A .x) (B .x) (A .more) (B .more) (A .asc)
 
-      now : answerFields d (v .fs) (v .gs) ≡ field (A .name) (answer d (A .t) (B .t)) (answerFields d (A .more) (B .more))
+      now : answerFields d (v .fs) (v .gs) ≡ field (A .name) (answer d (A .x) (B .x)) (answerFields d (A .more) (B .more))
       now = in-step A B (omega (arith, A .named, B .named, name-a less .1, name-b (omega arith) .1))
 
       pub both-room : to + nameWidth ≤ length out
-      both-room = omega (arith, entry-room (A .name) (answer d (A .t) (B .t)) (A .more) (B .more) now)
+      both-room = omega (arith, entry-room (A .name) (answer d (A .x) (B .x)) (A .more) (B .more) now)
 
-      part-a : typeAt l (behind (at + nameWidth) a) ≡ some (A .t)
+      part-a : typeAt l (behind (at + nameWidth) a) ≡ some (A .x)
       part-a = ap (typeAt l) (rest a (at + nameWidth)) ∙ A .first
 
-      part-b : typeAt l (behind (bt + nameWidth) b) ≡ some (B .t)
+      part-b : typeAt l (behind (bt + nameWidth) b) ≡ some (B .x)
       part-b = ap (typeAt l) (rest b (bt + nameWidth)) ∙ B .first
 
       module _ (T : List ℕ) (et : T ≡ over to (bytes nameWidth (numAt nameWidth at a)) out) where
@@ -346,26 +346,26 @@ module _ {d : Dir} {l : ℕ} {a : List ℕ} {n : ℕ} {b : List ℕ} {m : ℕ} {
         copied = et ∙ ap (λ (z : ℕ). over to (bytes nameWidth z) out) (sym (A .named))
 
         pub both-length : length T ≡ length out
-        both-length = entry-length (A .name) (answer d (A .t) (B .t)) (A .more) (B .more) now T copied
+        both-length = entry-length (A .name) (answer d (A .x) (B .x)) (A .more) (B .more) now T copied
 
         pub both-ready : Ready (ofTypes d) (typeAt l (behind (at + nameWidth) a)) (typeAt l (behind (bt + nameWidth) b)) (length (behind (to + nameWidth) T))
-        both-ready = entry-ready (A .name) (answer d (A .t) (B .t)) (A .more) (B .more) now T copied _ _ (A .t) (B .t) part-a part-b refl
+        both-ready = entry-ready (A .name) (answer d (A .x) (B .x)) (A .more) (B .more) now T copied _ _ (A .x) (B .x) part-a part-b refl
 
         module _ (ns : List ℕ) (e f w : ℕ) (h : Combined (ofTypes d) (typeAt l (behind (at + nameWidth) a)) (typeAt l (behind (bt + nameWidth) b)) (behind (to + nameWidth) T) ns e f w) where
-          both-wrote : (e ≡ size (A .t)) × (f ≡ size (B .t)) × (w ≡ size (answer d (A .t) (B .t))) × (ns ≡ onto (enc (answer d (A .t) (B .t))) (behind (to + nameWidth) T))
-          both-wrote = written (A .name) (answer d (A .t) (B .t)) (A .more) (B .more) now T copied _ _ (A .t) (B .t) part-a part-b refl ns e f w h
+          both-wrote : (e ≡ size (A .x)) × (f ≡ size (B .x)) × (w ≡ size (answer d (A .x) (B .x))) × (ns ≡ onto (enc (answer d (A .x) (B .x))) (behind (to + nameWidth) T))
+          both-wrote = written (A .name) (answer d (A .x) (B .x)) (A .more) (B .more) now T copied _ _ (A .x) (B .x) part-a part-b refl ns e f w h
 
           pub both-ends : (at + nameWidth + e ≤ length a) × (bt + nameWidth + f ≤ length b) × (to + nameWidth + w ≤ length out)
           both-ends = (
             omega (arith, both-wrote .0, A .fits),
             omega (arith, both-wrote .1, B .fits),
             omega
-                (arith, both-wrote .2, entry-room (A .name) (answer d (A .t) (B .t)) (A .more) (B .more) now),
+                (arith, both-wrote .2, entry-room (A .name) (answer d (A .x) (B .x)) (A .more) (B .more) now),
           )
 
           pub both-next : length ns ≡ length (behind (to + nameWidth) T) → FieldsInv d l a n b m old (putMid (to + nameWidth) (length T - (to + nameWidth)) T ns) (at + nameWidth + e) (i + 1)
               (bt + nameWidth + f) (j + 1) (to + nameWidth + w) (k + 1)
-          both-next el = advance (A .name) (answer d (A .t) (B .t)) (A .more) (B .more) now T copied
+          both-next el = advance (A .name) (answer d (A .x) (B .x)) (A .more) (B .more) now T copied
               (rest-both (rest-a (more-a less) A e (both-wrote .0)) (rest-b (more-b (omega arith)) B f (both-wrote .1))) ns w (both-wrote .2) (both-wrote .3) el
 
 -- ---- supertype: a name of one side only is passed over
@@ -376,7 +376,7 @@ module _ {l : ℕ} {a : List ℕ} {n : ℕ} {b : List ℕ} {m : ℕ} {old out : 
     SA = entry-a v (more-a v pk (omega arith))
 
     pub skip-a-fits : at + nameWidth + z ≤ length a
-    skip-a-fits = omega (arith, SA .fits, skipped l a (at + nameWidth) z (SA .t) e (SA .first))
+    skip-a-fits = omega (arith, SA .fits, skipped l a (at + nameWidth) z (SA .x) e (SA .first))
 
     pub skip-a : FieldsInv up l a n b m old out (at + nameWidth + z) (i + 1) bt j to k
     skip-a = go SA
@@ -384,16 +384,16 @@ module _ {l : ℕ} {a : List ℕ} {n : ℕ} {b : List ℕ} {m : ℕ} {old out : 
         go : Here l (n - (i + 1)) at (v .least-a) a (v .fs) → FieldsInv up l a n b m old out (at + nameWidth + z) (i + 1) bt j to k
         go A =
             let g = name-a v pk (omega arith) in
-            let w : AscFields (v .gs) (suc (A .name)) = ahead l j m bt (v .least-b) b (v .gs) (v .in-b) (v .read-b) (A .name) y (pk .second) (omega (arith, A .named, g .1)) in
-            pass v (rest-a v (g .0) A z (skipped l a (at + nameWidth) z (A .t) e (A .first)))
-            (ap (λ (f : Fields). answerFields up f (v .gs)) (A .is) ∙ sup-fields-first fixed (A .name) (A .t) (A .more) (v .gs) w)
+            let w : AscFields (v .gs) (suc (A .name)) = ahead l j m bt (v .least-b) b (v .gs) (v .read-b) (A .name) y (pk .second) (omega (arith, A .named, g .1)) in
+            pass v (rest-a v (g .0) A z (skipped l a (at + nameWidth) z (A .x) e (A .first)))
+            (ap (λ (f : Fields). answerFields up f (v .gs)) (A .is) ∙ sup-fields-first fixed (A .name) (A .x) (A .more) (v .gs) w)
 
   module _ (q : y < x) (z : ℕ) (e : z ≡ sizeAt (typeAt l (behind (bt + nameWidth) b))) where
     abbrev SB : Here l (m - (j + 1)) bt (v .least-b) b (v .gs)
     SB = entry-b v (more-b v pk (omega arith))
 
     pub skip-b-fits : bt + nameWidth + z ≤ length b
-    skip-b-fits = omega (arith, SB .fits, skipped l b (bt + nameWidth) z (SB .t) e (SB .first))
+    skip-b-fits = omega (arith, SB .fits, skipped l b (bt + nameWidth) z (SB .x) e (SB .first))
 
     pub skip-b : FieldsInv up l a n b m old out at i (bt + nameWidth + z) (j + 1) to k
     skip-b = go SB
@@ -401,9 +401,9 @@ module _ {l : ℕ} {a : List ℕ} {n : ℕ} {b : List ℕ} {m : ℕ} {old out : 
         go : Here l (m - (j + 1)) bt (v .least-b) b (v .gs) → FieldsInv up l a n b m old out at i (bt + nameWidth + z) (j + 1) to k
         go B =
             let g = name-b v pk (omega arith) in
-            let w : AscFields (v .fs) (suc (B .name)) = ahead l i n at (v .least-a) a (v .fs) (v .in-a) (v .read-a) (B .name) x (pk .first) (omega (arith, B .named, g .1)) in
-            pass v (rest-b v (g .0) B z (skipped l b (bt + nameWidth) z (B .t) e (B .first)))
-            (ap (λ (f : Fields). answerFields up (v .fs) f) (B .is) ∙ sup-fields-second fixed (v .fs) (B .name) (suc (B .name)) (B .t) (B .more) w (omega arith))
+            let w : AscFields (v .fs) (suc (B .name)) = ahead l i n at (v .least-a) a (v .fs) (v .read-a) (B .name) x (pk .first) (omega (arith, B .named, g .1)) in
+            pass v (rest-b v (g .0) B z (skipped l b (bt + nameWidth) z (B .x) e (B .first)))
+            (ap (λ (f : Fields). answerFields up (v .fs) f) (B .is) ∙ sup-fields-second fixed (v .fs) (B .name) (suc (B .name)) (B .x) (B .more) w (omega arith))
 
 -- ---- subtype: a name of one side only is written with its reduced type
 module _ {l : ℕ} {a : List ℕ} {n : ℕ} {b : List ℕ} {m : ℕ} {old out : List ℕ} {at i bt j to k : ℕ} (v : FieldsInv down l a n b m old out at i bt j to k) {x y : ℕ}
@@ -412,16 +412,16 @@ module _ {l : ℕ} {a : List ℕ} {n : ℕ} {b : List ℕ} {m : ℕ} {old out : 
     abbrev OA : Here l (n - (i + 1)) at (v .least-a) a (v .fs)
     OA = entry-a v (more-a v pk (omega arith))
 
-    only-a : (A : Here l (n - (i + 1)) at (v .least-a) a (v .fs)) → answerFields down (v .fs) (v .gs) ≡ field (A .name) (answer down (A .t) (A .t)) (answerFields down (A .more) (v .gs))
+    only-a : (A : Here l (n - (i + 1)) at (v .least-a) a (v .fs)) → answerFields down (v .fs) (v .gs) ≡ field (A .name) (answer down (A .x) (A .x)) (answerFields down (A .more) (v .gs))
     only-a A =
-        let w : AscFields (v .gs) (suc (A .name)) = ahead l j m bt (v .least-b) b (v .gs) (v .in-b) (v .read-b) (A .name) y (pk .second) (omega (arith, A .named, name-a v pk (omega arith) .1)) in
-        ap (λ (f : Fields). answerFields down f (v .gs)) (A .is) ∙ sub-fields-first fixed (A .name) (A .t) (A .more) (v .gs) (A .asc) w
-        ∙ ap (λ (z : Ty). field (A .name) z (answerFields down (A .more) (v .gs))) (sym (self down (A .t) (t-good l (drop (at + nameWidth) a) (A .t) (A .first) .0)))
+        let w : AscFields (v .gs) (suc (A .name)) = ahead l j m bt (v .least-b) b (v .gs) (v .read-b) (A .name) y (pk .second) (omega (arith, A .named, name-a v pk (omega arith) .1)) in
+        ap (λ (f : Fields). answerFields down f (v .gs)) (A .is) ∙ sub-fields-first fixed (A .name) (A .x) (A .more) (v .gs) (A .asc) w
+        ∙ ap (λ (z : Ty). field (A .name) z (answerFields down (A .more) (v .gs))) (sym (self down (A .x) (t-good l (drop (at + nameWidth) a) (A .x) (A .first) .0)))
 
     pub a-room : to + nameWidth ≤ length out
-    a-room = omega (arith, entry-room v (OA .name) (answer down (OA .t) (OA .t)) (OA .more) (v .gs) (only-a OA))
+    a-room = omega (arith, entry-room v (OA .name) (answer down (OA .x) (OA .x)) (OA .more) (v .gs) (only-a OA))
 
-    piece-a : typeAt l (behind (at + nameWidth) a) ≡ some (OA .t)
+    piece-a : typeAt l (behind (at + nameWidth) a) ≡ some (OA .x)
     piece-a = ap (typeAt l) (rest a (at + nameWidth)) ∙ OA .first
 
     module _ (T : List ℕ) (et : T ≡ over to (bytes nameWidth (numAt nameWidth at a)) out) where
@@ -429,37 +429,37 @@ module _ {l : ℕ} {a : List ℕ} {n : ℕ} {b : List ℕ} {m : ℕ} {old out : 
       copied-a = et ∙ ap (λ (z : ℕ). over to (bytes nameWidth z) out) (sym (OA .named))
 
       pub a-length : length T ≡ length out
-      a-length = entry-length v (OA .name) (answer down (OA .t) (OA .t)) (OA .more) (v .gs) (only-a OA) T copied-a
+      a-length = entry-length v (OA .name) (answer down (OA .x) (OA .x)) (OA .more) (v .gs) (only-a OA) T copied-a
 
       pub a-ready : Ready (ofTypes down) (typeAt l (behind (at + nameWidth) a)) (typeAt l (behind (at + nameWidth) a)) (length (behind (to + nameWidth) T))
-      a-ready = entry-ready v (OA .name) (answer down (OA .t) (OA .t)) (OA .more) (v .gs) (only-a OA) T copied-a _ _ (OA .t) (OA .t) piece-a piece-a refl
+      a-ready = entry-ready v (OA .name) (answer down (OA .x) (OA .x)) (OA .more) (v .gs) (only-a OA) T copied-a _ _ (OA .x) (OA .x) piece-a piece-a refl
 
       module _ (ns : List ℕ) (e f w : ℕ) (h : Combined (ofTypes down) (typeAt l (behind (at + nameWidth) a)) (typeAt l (behind (at + nameWidth) a)) (behind (to + nameWidth) T) ns e f w) where
-        a-wrote : (e ≡ size (OA .t)) × (f ≡ size (OA .t)) × (w ≡ size (answer down (OA .t) (OA .t))) × (ns ≡ onto (enc (answer down (OA .t) (OA .t))) (behind (to + nameWidth) T))
-        a-wrote = written v (OA .name) (answer down (OA .t) (OA .t)) (OA .more) (v .gs) (only-a OA) T copied-a _ _ (OA .t) (OA .t) piece-a piece-a refl ns e f w h
+        a-wrote : (e ≡ size (OA .x)) × (f ≡ size (OA .x)) × (w ≡ size (answer down (OA .x) (OA .x))) × (ns ≡ onto (enc (answer down (OA .x) (OA .x))) (behind (to + nameWidth) T))
+        a-wrote = written v (OA .name) (answer down (OA .x) (OA .x)) (OA .more) (v .gs) (only-a OA) T copied-a _ _ (OA .x) (OA .x) piece-a piece-a refl ns e f w h
 
         pub a-ends : (at + nameWidth + e ≤ length a) × (to + nameWidth + w ≤ length out)
-        a-ends = (omega (arith, a-wrote .0, OA .fits), omega (arith, a-wrote .2, entry-room v (OA .name) (answer down (OA .t) (OA .t)) (OA .more) (v .gs) (only-a OA)))
+        a-ends = (omega (arith, a-wrote .0, OA .fits), omega (arith, a-wrote .2, entry-room v (OA .name) (answer down (OA .x) (OA .x)) (OA .more) (v .gs) (only-a OA)))
 
         pub a-next : length ns ≡ length (behind (to + nameWidth) T) → FieldsInv down l a n b m old (putMid (to + nameWidth) (length T - (to + nameWidth)) T ns) (at + nameWidth + e) (i + 1) bt j
             (to + nameWidth + w) (k + 1)
-        a-next el = advance v (OA .name) (answer down (OA .t) (OA .t)) (OA .more) (v .gs) (only-a OA) T copied-a (rest-a v (more-a v pk (omega arith)) OA e (a-wrote .0)) ns w (a-wrote .2)
+        a-next el = advance v (OA .name) (answer down (OA .x) (OA .x)) (OA .more) (v .gs) (only-a OA) T copied-a (rest-a v (more-a v pk (omega arith)) OA e (a-wrote .0)) ns w (a-wrote .2)
             (a-wrote .3) el
 
   module _ (q : y < x) where
     abbrev OB : Here l (m - (j + 1)) bt (v .least-b) b (v .gs)
     OB = entry-b v (more-b v pk (omega arith))
 
-    only-b : (B : Here l (m - (j + 1)) bt (v .least-b) b (v .gs)) → answerFields down (v .fs) (v .gs) ≡ field (B .name) (answer down (B .t) (B .t)) (answerFields down (v .fs) (B .more))
+    only-b : (B : Here l (m - (j + 1)) bt (v .least-b) b (v .gs)) → answerFields down (v .fs) (v .gs) ≡ field (B .name) (answer down (B .x) (B .x)) (answerFields down (v .fs) (B .more))
     only-b B =
-        let w : AscFields (v .fs) (suc (B .name)) = ahead l i n at (v .least-a) a (v .fs) (v .in-a) (v .read-a) (B .name) x (pk .first) (omega (arith, B .named, name-b v pk (omega arith) .1)) in
-        ap (λ (f : Fields). answerFields down (v .fs) f) (B .is) ∙ sub-fields-second fixed (v .fs) (B .name) (suc (B .name)) (B .t) (B .more) w (omega arith)
-        ∙ ap (λ (z : Ty). field (B .name) z (answerFields down (v .fs) (B .more))) (sym (self down (B .t) (t-good l (drop (bt + nameWidth) b) (B .t) (B .first) .0)))
+        let w : AscFields (v .fs) (suc (B .name)) = ahead l i n at (v .least-a) a (v .fs) (v .read-a) (B .name) x (pk .first) (omega (arith, B .named, name-b v pk (omega arith) .1)) in
+        ap (λ (f : Fields). answerFields down (v .fs) f) (B .is) ∙ sub-fields-second fixed (v .fs) (B .name) (suc (B .name)) (B .x) (B .more) w (omega arith)
+        ∙ ap (λ (z : Ty). field (B .name) z (answerFields down (v .fs) (B .more))) (sym (self down (B .x) (t-good l (drop (bt + nameWidth) b) (B .x) (B .first) .0)))
 
     pub b-room : to + nameWidth ≤ length out
-    b-room = omega (arith, entry-room v (OB .name) (answer down (OB .t) (OB .t)) (v .fs) (OB .more) (only-b OB))
+    b-room = omega (arith, entry-room v (OB .name) (answer down (OB .x) (OB .x)) (v .fs) (OB .more) (only-b OB))
 
-    piece-b : typeAt l (behind (bt + nameWidth) b) ≡ some (OB .t)
+    piece-b : typeAt l (behind (bt + nameWidth) b) ≡ some (OB .x)
     piece-b = ap (typeAt l) (rest b (bt + nameWidth)) ∙ OB .first
 
     module _ (T : List ℕ) (et : T ≡ over to (bytes nameWidth (numAt nameWidth bt b)) out) where
@@ -467,19 +467,19 @@ module _ {l : ℕ} {a : List ℕ} {n : ℕ} {b : List ℕ} {m : ℕ} {old out : 
       copied-b = et ∙ ap (λ (z : ℕ). over to (bytes nameWidth z) out) (sym (OB .named))
 
       pub b-length : length T ≡ length out
-      b-length = entry-length v (OB .name) (answer down (OB .t) (OB .t)) (v .fs) (OB .more) (only-b OB) T copied-b
+      b-length = entry-length v (OB .name) (answer down (OB .x) (OB .x)) (v .fs) (OB .more) (only-b OB) T copied-b
 
       pub b-ready : Ready (ofTypes down) (typeAt l (behind (bt + nameWidth) b)) (typeAt l (behind (bt + nameWidth) b)) (length (behind (to + nameWidth) T))
-      b-ready = entry-ready v (OB .name) (answer down (OB .t) (OB .t)) (v .fs) (OB .more) (only-b OB) T copied-b _ _ (OB .t) (OB .t) piece-b piece-b refl
+      b-ready = entry-ready v (OB .name) (answer down (OB .x) (OB .x)) (v .fs) (OB .more) (only-b OB) T copied-b _ _ (OB .x) (OB .x) piece-b piece-b refl
 
       module _ (ns : List ℕ) (e f w : ℕ) (h : Combined (ofTypes down) (typeAt l (behind (bt + nameWidth) b)) (typeAt l (behind (bt + nameWidth) b)) (behind (to + nameWidth) T) ns e f w) where
-        b-wrote : (e ≡ size (OB .t)) × (f ≡ size (OB .t)) × (w ≡ size (answer down (OB .t) (OB .t))) × (ns ≡ onto (enc (answer down (OB .t) (OB .t))) (behind (to + nameWidth) T))
-        b-wrote = written v (OB .name) (answer down (OB .t) (OB .t)) (v .fs) (OB .more) (only-b OB) T copied-b _ _ (OB .t) (OB .t) piece-b piece-b refl ns e f w h
+        b-wrote : (e ≡ size (OB .x)) × (f ≡ size (OB .x)) × (w ≡ size (answer down (OB .x) (OB .x))) × (ns ≡ onto (enc (answer down (OB .x) (OB .x))) (behind (to + nameWidth) T))
+        b-wrote = written v (OB .name) (answer down (OB .x) (OB .x)) (v .fs) (OB .more) (only-b OB) T copied-b _ _ (OB .x) (OB .x) piece-b piece-b refl ns e f w h
 
         pub b-ends : (bt + nameWidth + e ≤ length b) × (to + nameWidth + w ≤ length out)
-        b-ends = (omega (arith, b-wrote .0, OB .fits), omega (arith, b-wrote .2, entry-room v (OB .name) (answer down (OB .t) (OB .t)) (v .fs) (OB .more) (only-b OB)))
+        b-ends = (omega (arith, b-wrote .0, OB .fits), omega (arith, b-wrote .2, entry-room v (OB .name) (answer down (OB .x) (OB .x)) (v .fs) (OB .more) (only-b OB)))
 
         pub b-next : length ns ≡ length (behind (to + nameWidth) T) → FieldsInv down l a n b m old (putMid (to + nameWidth) (length T - (to + nameWidth)) T ns) at i (bt + nameWidth + e) (j + 1)
             (to + nameWidth + w) (k + 1)
-        b-next el = advance v (OB .name) (answer down (OB .t) (OB .t)) (v .fs) (OB .more) (only-b OB) T copied-b (rest-b v (more-b v pk (omega arith)) OB e (b-wrote .0)) ns w (b-wrote .2)
+        b-next el = advance v (OB .name) (answer down (OB .x) (OB .x)) (v .fs) (OB .more) (only-b OB) T copied-b (rest-b v (more-b v pk (omega arith)) OB e (b-wrote .0)) ns w (b-wrote .2)
             (b-wrote .3) el

@@ -193,7 +193,7 @@ module _ (c : List ℕ) (O : Opened c 0) where
     first-entry : This 30 (numAt 2 1 c - (0 + 1)) 3 0 c (O .es)
     first-entry =
         let z : numAt 2 1 c - 0 ≡ numAt 2 1 c = omega arith in
-        this 30 0 (numAt 2 1 c) 3 0 c (O .es) (omega (arith, d)) (O .ctx .three) (ap (λ (k : ℕ). entriesAt 30 k 0 (drop 3 c)) z ∙ O .ctx .entries)
+        this 30 0 (numAt 2 1 c) 3 0 c (O .es) (omega (arith, d)) (ap (λ (k : ℕ). entriesAt 30 k 0 (drop 3 c)) z ∙ O .ctx .entries)
 
     pub first-inside : 5 ≤ length c
     first-inside = omega (arith, first-entry .two)
@@ -201,7 +201,7 @@ module _ (c : List ℕ) (O : Opened c 0) where
     pub first-done : (k : ℕ) → k ≡ sizeAtV (valueAt 30 (behind 5 c)) → done (some (piece 5 k)) ≡ extentOf (getFirstCall c)
     first-done k e =
         let A = first-entry in
-        let z : k ≡ length (encV (A .v)) = e ∙ size-behind 30 5 c (A .v) (A .first) ∙ sym (length-encV (A .v)) in
+        let z : k ≡ length (encV (A .x)) = e ∙ size-behind 30 5 c (A .x) (A .first) ∙ sym (length-encV (A .x)) in
         ap (λ (j : ℕ). done (some (piece 5 j))) z ∙ sym (ap (λ x. done (map extent (firstSpot x))) (A .is)) ∙ part-done (contextOf c 0) (O .es) firstSpot (O .is)
 
 -- ---- a part that is lent

@@ -24,7 +24,8 @@ use Rattle.paths.specs.declared.walk.Place.{Place}
 use Rattle.paths.specs.declared.walk.Place.the-variants as place-is
 use Rattle.paths.specs.declared.walk.Seen.the-variants as seen-is
 use Rattle.paths.proofs.Whole.{size-behind, fills-behind, Front, front-read, front-ok, ctx-front}
-use Rattle.values.proofs.EntriesAt.{From, This, this, none-left, size-next, size-none}
+use Rattle.values.proofs.Reading.{From}
+use Rattle.values.proofs.EntriesAt.{This, this, none-left, size-next, size-none}
 use Rattle.form.proofs.Runs.{behind}
 
 -- ---- on trees
@@ -130,19 +131,19 @@ module _ {l : ℕ} {s : List ℕ} {name n at i : ℕ} (Q : Finding l s name n at
 
   module _ (h : i < n) where
     abbrev A : This (l - 1) (n - (i + 1)) at (Q .least) s (Q .es)
-    A = this (l - 1) i n at (Q .least) s (Q .es) h (Q .inside) (Q .read)
+    A = this (l - 1) i n at (Q .least) s (Q .es) h (Q .read)
 
     pub finding-name : at + nameWidth ≤ length s
     finding-name = A .two
 
     -- the context ends with its last entry
-    last-ends : eqb (i + 1) n ≡ true → at + nameWidth + sizeVal (A .v) ≡ 3 + sizeEntries (Q .all)
+    last-ends : eqb (i + 1) n ≡ true → at + nameWidth + sizeVal (A .x) ≡ 3 + sizeEntries (Q .all)
     last-ends e =
-        let z = none-left (l - 1) (i + 1) n (at + nameWidth + sizeVal (A .v)) (suc (A .name)) s (A .more) (omega (arith, eqb-true (i + 1) n e)) (A .second) in
+        let z = none-left (l - 1) (i + 1) n (at + nameWidth + sizeVal (A .x)) (suc (A .name)) s (A .more) (omega (arith, eqb-true (i + 1) n e)) (A .second) in
         omega (arith, Q .end, A .sized, ap sizeEntries z, size-none)
 
     pub finding-fills : Ok (contextAt l s) → Fills (eqb (i + 1) n) (l - 1) (behind (at + nameWidth) s)
-    finding-fills k e = fills-behind (l - 1) (at + nameWidth) s (A .v) (A .first) (last-ends e ∙ ctx-front l s (Q .all) k (Q .front) .all)
+    finding-fills k e = fills-behind (l - 1) (at + nameWidth) s (A .x) (A .first) (last-ends e ∙ ctx-front l s (Q .all) k (Q .front) .all)
 
     module _ (x : ℕ) (ex : x ≡ numAt nameWidth at s) where
       is-name : x ≡ A .name
@@ -152,10 +153,10 @@ module _ {l : ℕ} {s : List ℕ} {name n at i : ℕ} (Q : Finding l s name n at
       here-place : name ≤ x → entryPlace name (Q .all) ≡ at
       here-place b =
           let m : name ≤ A .name = omega (arith, is-name) in omega
-          (arith, Q .place, ap (λ z. sizeEntries (below name z)) (A .is) ∙ ap sizeEntries (below-none name (A .name) (A .v) (A .more) m) ∙ size-none)
+          (arith, Q .place, ap (λ z. sizeEntries (below name z)) (A .is) ∙ ap sizeEntries (below-none name (A .name) (A .x) (A .more) m) ∙ size-none)
 
-      here-value : x ≡ name → valueOf name (Q .all) ≡ some (A .v)
-      here-value b = let m : A .name ≡ name = sym is-name ∙ b in Q .value ∙ ap (valueOf name) (A .is ∙ ap (λ z. entry z (A .v) (A .more)) m) ∙ value-first name (A .v) (A .more)
+      here-value : x ≡ name → valueOf name (Q .all) ≡ some (A .x)
+      here-value b = let m : A .name ≡ name = sym is-name ∙ b in Q .value ∙ ap (valueOf name) (A .is ∙ ap (λ z. entry z (A .x) (A .more)) m) ∙ value-first name (A .x) (A .more)
 
       -- the name is above the one that is looked for
       pub finding-passed : name < x → Absent (Q .all) name at
@@ -163,15 +164,15 @@ module _ {l : ℕ} {s : List ℕ} {name n at i : ℕ} (Q : Finding l s name n at
           let m : name < A .name = omega (arith, is-name) in
           record {
             place = here-place (omega arith);
-            value = Q .value ∙ ap (valueOf name) (A .is) ∙ value-later name (A .name) (A .v) (A .more) (λ e. omega arith) ∙ value-absent name (suc (A .name)) (A .more) (A .from) (omega arith);
+            value = Q .value ∙ ap (valueOf name) (A .is) ∙ value-later name (A .name) (A .x) (A .more) (λ e. omega arith) ∙ value-absent name (suc (A .name)) (A .more) (A .asc) (omega arith);
           }
 
       pub seek-hit : x ≡ name → Sees (frontAt l s) name (seen-is.At (at + nameWidth) (eqb (i + 1) n))
-      seek-hit b = sees-at (Q .front) (record { x = A .v; value = here-value b; start = ap (λ (k : ℕ). k + nameWidth) (sym (here-place (omega arith))); end = last-ends })
+      seek-hit b = sees-at (Q .front) (record { x = A .x; value = here-value b; start = ap (λ (k : ℕ). k + nameWidth) (sym (here-place (omega arith))); end = last-ends })
 
       module _ (k : ℕ) (ek : k ≡ sizeAtV (valueAt (l - 1) (behind (at + nameWidth) s))) where
-        skipped : k ≡ sizeVal (A .v)
-        skipped = ek ∙ size-behind (l - 1) (at + nameWidth) s (A .v) (A .first)
+        skipped : k ≡ sizeVal (A .x)
+        skipped = ek ∙ size-behind (l - 1) (at + nameWidth) s (A .x) (A .first)
 
         pub finding-end : at + nameWidth + k ≤ length s
         finding-end = omega (arith, A .fits, skipped)
@@ -196,10 +197,10 @@ module _ {l : ℕ} {s : List ℕ} {name n at i : ℕ} (Q : Finding l s name n at
                   omega (
                     arith,
                     Q .place,
-                    ap (λ z. sizeEntries (below name z)) (A .is) ∙ ap sizeEntries (below-more name (A .name) (A .v) (A .more) m) ∙ size-next
-                        (A .name) (A .v) (below name (A .more)),
+                    ap (λ z. sizeEntries (below name z)) (A .is) ∙ ap sizeEntries (below-more name (A .name) (A .x) (A .more) m) ∙ size-next
+                        (A .name) (A .x) (below name (A .more)),
                     skipped,
                   );
-              value = Q .value ∙ ap (valueOf name) (A .is) ∙ value-later name (A .name) (A .v) (A .more) (λ e. omega arith);
+              value = Q .value ∙ ap (valueOf name) (A .is) ∙ value-later name (A .name) (A .x) (A .more) (λ e. omega arith);
               end = omega (arith, Q .end, A .sized, skipped);
             }

@@ -28,7 +28,7 @@ use Rattle.order.proofs.LeastSize.{length-encV}
 use Rattle.types.specs.At.{Ok}
 use Rattle.types.proofs.Reading.{is-ok, got-seen}
 use Rattle.values.specs.At.{valueAt, entriesAt, sizeAtV}
-use Rattle.values.proofs.Reading.{size-got, some-byte, next-entry, no-entry, as-context}
+use Rattle.values.proofs.Reading.{From, size-got, some-byte, no-entry, as-context}
 use Rattle.paths.specs.Paths.{valueOf, below, entriesOf, bind, isSome, orEmpty, contextUnder, search, among, containsDeep, entryPlace, place}
 use Rattle.paths.specs.Places.{wholeAt, contextAt, frontAt, Fills, Sights, Sees, placed, Finds, spot, piece, Piece, extent, found, spotIn, Searches, shifted, Clear}
 use Rattle.paths.specs.declared.walk.Place.{Place}
@@ -41,7 +41,7 @@ use Rattle.paths.proofs.Whole.{whole-is, of-context, given-is, size-beh
 use Rattle.paths.proofs.FindLoops.{value-empty, value-first, value-later, value-absent, below-more, below-none, finds-is}
 use Rattle.paths.proofs.SplitContext.{around-some, part-some, child-whole}
 use Rattle.form.specs.Options.{map}
-use Rattle.values.proofs.EntriesAt.{ContextVal, context-val, size-context, size-next, size-none, from-read, From}
+use Rattle.values.proofs.EntriesAt.{ContextVal, context-val, size-context, size-next, size-none, first-entry}
 use Rattle.form.proofs.Options.{none-some, some-same}
 
 -- ---- a whole value and its first byte
@@ -175,7 +175,7 @@ stands-at (n ∷ m ∷ ns) l s es x bs C e = go (λ part fs. stands-at (m ∷ ns
 abbrev There : ℕ → List ℕ → ℕ → Val → Entries → Type 0
 There l s n x es = valueOf n es ≡ some x → valueAt l (drop (sizeEntries (below n es) + nameWidth) s) ≡ some x
 
-next-there : (l : ℕ) (s : List ℕ) (n : ℕ) (x : Val) (m : ℕ) (v : Val) (es : Entries) → valueAt l (drop nameWidth s) ≡ some v → From (suc m) es → There l (drop (sizeVal v) (drop nameWidth s)) n x es
+next-there : (l : ℕ) (s : List ℕ) (n : ℕ) (x : Val) (m : ℕ) (v : Val) (es : Entries) → valueAt l (drop nameWidth s) ≡ some v → From (suc m) es → There l (drop (nameWidth + sizeVal v) s) n x es
     → There l s n x (entry m v es)
 next-there l s n x m v es first from ih h = go (ltb m n) (eqb n m) refl refl
   where
@@ -186,8 +186,8 @@ next-there l s n x m v es first from ih h = go (ltb m n) (eqb n m) refl refl
     go true b p q =
         let c = ltb-true m n p in
         let j = sizeEntries (below n es) + nameWidth in
-        moved (nameWidth + (sizeVal v + j)) (omega (arith, ap sizeEntries (below-more n m v es c), size-next m v (below n es)))
-        ∙ ap (valueAt l) (sym (drop-drop (sizeVal v + j) nameWidth s) ∙ sym (drop-drop j (sizeVal v) (drop nameWidth s)))
+        moved (nameWidth + sizeVal v + j) (omega (arith, ap sizeEntries (below-more n m v es c), size-next m v (below n es)))
+        ∙ ap (valueAt l) (sym (drop-drop j (nameWidth + sizeVal v) s))
         ∙ ih (sym (value-later n m v es (λ u. omega arith)) ∙ h)
     go false true p q =
         let c = eqb-true n m q in
@@ -200,10 +200,9 @@ next-there l s n x m v es first from ih h = go (ltb m n) (eqb n m) refl refl
 value-there : (l k least : ℕ) (s : List ℕ) (n : ℕ) (x : Val) (es : Entries) → entriesAt l k least s ≡ some es → There l s n x es
 value-there l zero least s n x es e = λ h. absurd (none-some (sym (ap (valueOf n) (no-entry l least s es e) ∙ value-empty n) ∙ h))
 value-there l (suc k) least s n x es e =
-    let E = next-entry l k least s es e in
-    let r = drop (sizeVal (E .v)) (drop nameWidth s) in
-    let ih = value-there l k (suc (E .name)) r n x (E .more) (E .second) in
-    subst (There l s n x) (sym (E .is)) (next-there l s n x (E .name) (E .v) (E .more) (E .first) (from-read l k (suc (E .name)) r (E .more) (E .second)) ih)
+    let E = first-entry l k 0 least s es e in
+    let ih = value-there l k (suc (E .name)) (drop (nameWidth + sizeVal (E .x)) s) n x (E .more) (E .second) in
+    subst (There l s n x) (sym (E .is)) (next-there l s n x (E .name) (E .x) (E .more) (E .first) (E .asc) ih)
 
 -- ---- in and out
 pub searches : {l : ℕ} {s : List ℕ} {es : Entries} (p : List ℕ) (r : Found) → Front l s es → found r ≡ done (map extent (spotIn p es)) → Searches (frontAt l s) p r

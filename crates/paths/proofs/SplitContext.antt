@@ -27,7 +27,8 @@ use Rattle.paths.specs.Paths.{valueOf, below, above, entryPlace}
 use Rattle.paths.specs.Places.{wholeAt}
 use Rattle.paths.proofs.Whole.{is-whole, context-read, Ctx}
 use Rattle.paths.proofs.FindLoops.{value-first, value-later, value-absent, below-more, below-none}
-use Rattle.values.proofs.EntriesAt.{size-context, From, from-none, from-entry, from-less}
+use Rattle.values.proofs.Reading.{From, from-none, from-entry, from-less}
+use Rattle.values.proofs.EntriesAt.{size-context}
 use Rattle.form.proofs.Options.{none-some, some-same}
 
 -- ---- on trees

@@ -23,7 +23,8 @@ use Rattle.order.specs.Size.{size, sizeFields, sizeVal, sizeEntries}
 use Rattle.types.specs.At.{typeAt, fieldsAt, sizeAt, Ok}
 use Rattle.types.proofs.Reading as types
 use Rattle.types.proofs.Reading.{is-ok, ok-got}
-use Rattle.types.proofs.Entries.{size-got, Here, here, gone, ahead, next-is, size-entry, entry-ok, at-end}
+use Rattle.types.proofs.ChildAt.{entry-ok}
+use Rattle.types.proofs.Entries.{size-got, Here, here, gone, ahead, next-is, at-end}
 use Rattle.values.specs.At.{valueAt, entriesAt, sizeAtV}
 use Rattle.values.proofs.Reading as values
 use Rattle.values.proofs.Reading.{as-context}
@@ -38,7 +39,8 @@ use Rattle.retrieval.proofs.Trees.{pass-field, pass-entry, entries-none
 use Rattle.retrieval.proofs.BuilderContract.{retrieves, retrieves-is, gave-some, gave-none, Got, gave-yes, gave-no, gave-length}
 use Rattle.form.specs.Options.{map}
 use Rattle.output.specs.Output.{fill}
-use Rattle.values.proofs.EntriesAt.{context-val, size-context, size-none, This, this, none-left, above, From}
+use Rattle.values.proofs.EntriesAt.{context-val, size-context, size-none, This, this, none-left, above}
+use Rattle.values.proofs.Reading.{From}
 use Rattle.output.proofs.ContextText.{ended, contextText}
 
 -- ---- a context and a context type
@@ -142,10 +144,10 @@ module _ {l : ℕ} {t : List ℕ} {m : ℕ} {v : List ℕ} {n : ℕ} {mid out : 
   count-fits = omega (arith, Q .few, Q .small, Q .below-v)
 
   pub entry-v : i < n → This (l - 1) (n - (i + 1)) at (Q .least-v) v (Q .es)
-  entry-v h = this (l - 1) i n at (Q .least-v) v (Q .es) h (Q .in-v) (Q .read-v)
+  entry-v h = this (l - 1) i n at (Q .least-v) v (Q .es) h (Q .read-v)
 
   pub entry-t : j < m → Here (l - 1) (m - (j + 1)) bt (Q .least-t) t (Q .fs)
-  entry-t h = here (l - 1) j m bt (Q .least-t) t (Q .fs) h (Q .in-t) (Q .read-t)
+  entry-t h = here (l - 1) j m bt (Q .least-t) t (Q .fs) h (Q .read-t)
 
   pub peek-v : i < n → at + nameWidth ≤ length v
   peek-v h = entry-v h .two
@@ -169,8 +171,8 @@ module _ {l : ℕ} {t : List ℕ} {m : ℕ} {v : List ℕ} {n : ℕ} {mid out : 
       name-v = A .two
 
       module _ (z : ℕ) (e : z ≡ sizeAtV (valueAt (l - 1) (behind (at + nameWidth) v))) where
-        skipped-v : z ≡ sizeVal (A .v)
-        skipped-v = e ∙ ap (λ (r : List ℕ). sizeAtV (valueAt (l - 1) r)) (rest v (at + nameWidth)) ∙ values.size-got (valueAt (l - 1) (drop (at + nameWidth) v)) (A .v) (A .first)
+        skipped-v : z ≡ sizeVal (A .x)
+        skipped-v = e ∙ ap (λ (r : List ℕ). sizeAtV (valueAt (l - 1) r)) (rest v (at + nameWidth)) ∙ values.size-got (valueAt (l - 1) (drop (at + nameWidth) v)) (A .x) (A .first)
 
         pub skip-v : at + nameWidth + z ≤ length v
         skip-v = omega (arith, A .fits, skipped-v)
@@ -178,7 +180,7 @@ module _ {l : ℕ} {t : List ℕ} {m : ℕ} {v : List ℕ} {n : ℕ} {mid out : 
         pub passed-v : ContextInv l t m v n mid out bt j (at + nameWidth + z) (i + 1) to k
         passed-v =
             let h1 = more-v in
-            let w : AscFields (Q .fs) (suc (A .name)) = subst (λ (q : ℕ). AscFields (Q .fs) (suc q)) x-name (ahead (l - 1) j m bt (Q .least-t) t (Q .fs) (Q .in-t) (Q .read-t) x y ey h) in
+            let w : AscFields (Q .fs) (suc (A .name)) = subst (λ (q : ℕ). AscFields (Q .fs) (suc q)) x-name (ahead (l - 1) j m bt (Q .least-t) t (Q .fs) (Q .read-t) x y ey h) in
             record {
               both = Q .both;
               fs = Q .fs;
@@ -194,7 +196,7 @@ module _ {l : ℕ} {t : List ℕ} {m : ℕ} {v : List ℕ} {n : ℕ} {mid out : 
               read-v = ap (λ (q : ℕ). entriesAt (l - 1) (n - (i + 1)) (suc (A .name)) (drop (at + nameWidth + q) v)) skipped-v ∙ A .second;
               size-t = Q .size-t;
               size-v = omega (arith, Q .size-v, A .sized, skipped-v);
-              goes = sym (ap (map (contextText k (Q .done))) (ap (λ q. retrieveEntries q (Q .fs)) (A .is) ∙ pass-entry (A .name) (A .v) (A .more) (Q .fs) w)) ∙ Q .goes;
+              goes = sym (ap (map (contextText k (Q .done))) (ap (λ q. retrieveEntries q (Q .fs)) (A .is) ∙ pass-entry (A .name) (A .x) (A .more) (Q .fs) w)) ∙ Q .goes;
               long = Q .long;
               low = omega (arith, Q .low);
               few = omega (arith, Q .few);
@@ -217,8 +219,8 @@ module _ {l : ℕ} {t : List ℕ} {m : ℕ} {v : List ℕ} {n : ℕ} {mid out : 
       name-t = B .two
 
       module _ (z : ℕ) (e : z ≡ sizeAt (typeAt (l - 1) (behind (bt + nameWidth) t))) where
-        skipped-t : z ≡ size (B .t)
-        skipped-t = e ∙ ap (λ (r : List ℕ). sizeAt (typeAt (l - 1) r)) (rest t (bt + nameWidth)) ∙ size-got (typeAt (l - 1) (drop (bt + nameWidth) t)) (B .t) (B .first)
+        skipped-t : z ≡ size (B .x)
+        skipped-t = e ∙ ap (λ (r : List ℕ). sizeAt (typeAt (l - 1) r)) (rest t (bt + nameWidth)) ∙ size-got (typeAt (l - 1) (drop (bt + nameWidth) t)) (B .x) (B .first)
 
         pub skip-t : bt + nameWidth + z ≤ length t
         skip-t = omega (arith, B .fits, skipped-t)
@@ -226,7 +228,7 @@ module _ {l : ℕ} {t : List ℕ} {m : ℕ} {v : List ℕ} {n : ℕ} {mid out : 
         pub passed-t : ContextInv l t m v n mid out (bt + nameWidth + z) (j + 1) at i to k
         passed-t =
             let h1 = more-t in
-            let w : From (suc (B .name)) (Q .es) = subst (λ (q : ℕ). From (suc q) (Q .es)) y-name (above (l - 1) i n at (Q .least-v) v (Q .es) (Q .in-v) (Q .read-v) x y ex h) in
+            let w : From (suc (B .name)) (Q .es) = subst (λ (q : ℕ). From (suc q) (Q .es)) y-name (above (l - 1) i n at (Q .least-v) v (Q .es) (Q .read-v) x y ex h) in
             record {
               both = Q .both;
               fs = B .more;
@@ -240,9 +242,9 @@ module _ {l : ℕ} {t : List ℕ} {m : ℕ} {v : List ℕ} {n : ℕ} {mid out : 
               in-v = Q .in-v;
               read-t = ap (λ (q : ℕ). fieldsAt (l - 1) (m - (j + 1)) (suc (B .name)) (drop (bt + nameWidth + q) t)) skipped-t ∙ B .second;
               read-v = Q .read-v;
-              size-t = omega (arith, Q .size-t, size-entry B, skipped-t);
+              size-t = omega (arith, Q .size-t, B .sized, skipped-t);
               size-v = Q .size-v;
-              goes = sym (ap (map (contextText k (Q .done))) (ap (retrieveEntries (Q .es)) (B .is) ∙ pass-field (B .name) (B .t) (Q .es) (B .more) w)) ∙ Q .goes;
+              goes = sym (ap (map (contextText k (Q .done))) (ap (retrieveEntries (Q .es)) (B .is) ∙ pass-field (B .name) (B .x) (Q .es) (B .more) w)) ∙ Q .goes;
               long = Q .long;
               low = Q .low;
               few = Q .few;
@@ -283,7 +285,7 @@ module _ {l : ℕ} {t : List ℕ} {m : ℕ} {v : List ℕ} {n : ℕ} {mid out : 
       common-to = omega (arith, A2 .two, Q .low)
 
       pub common-ok-v : Ok (valueAt (l - 1) (behind (at + nameWidth) v))
-      common-ok-v = rw (rest v (at + nameWidth)) (is-ok (valueAt (l - 1) (drop (at + nameWidth) v)) (A2 .v) (A2 .first))
+      common-ok-v = rw (rest v (at + nameWidth)) (is-ok (valueAt (l - 1) (drop (at + nameWidth) v)) (A2 .x) (A2 .first))
 
       pub common-ok-t : Ok (typeAt (l - 1) (behind (bt + nameWidth) t))
       common-ok-t = entry-ok B2
@@ -311,27 +313,27 @@ module _ {l : ℕ} {t : List ℕ} {m : ℕ} {v : List ℕ} {n : ℕ} {mid out : 
         mine-kept = back-length w out ns (ap length en ∙ length-fill (take (at + nameWidth - at) (drop at v)) (behind w out))
 
         module _ (u : ℕ) (ys : List ℕ) (r : Retrieved) (T : Retrieves (typeAt (l - 1) (behind (bt + nameWidth) t)) (valueAt (l - 1) (behind (at + nameWidth) v)) (behind u mine) ys r) where
-          gave : Gave (B2 .t) (A2 .v) (behind u mine) ys r
-          gave = retrieves-is (typeAt (l - 1) (behind (bt + nameWidth) t)) (valueAt (l - 1) (behind (at + nameWidth) v)) (B2 .t) (A2 .v) (behind u mine) ys r
+          gave : Gave (B2 .x) (A2 .x) (behind u mine) ys r
+          gave = retrieves-is (typeAt (l - 1) (behind (bt + nameWidth) t)) (valueAt (l - 1) (behind (at + nameWidth) v)) (B2 .x) (A2 .x) (behind u mine) ys r
               (ap (typeAt (l - 1)) (rest t (bt + nameWidth)) ∙ B2 .first) (ap (valueAt (l - 1)) (rest v (at + nameWidth)) ∙ A2 .first) T
 
           pub back-kept : length (putMid u (length mine - u) mine ys) ≡ length mid
-          back-kept = back-length u mine ys (gave-length (B2 .t) (A2 .v) (behind u mine) ys r gave) ∙ mine-kept ∙ context-kept
+          back-kept = back-length u mine ys (gave-length (B2 .x) (A2 .x) (behind u mine) ys r gave) ∙ mine-kept ∙ context-kept
 
           pub common-no : r ≡ No → (old : List ℕ) → mid ≡ fill (take 3 v) old → Retrieves (typeAt l t) (valueAt l v) old (putMid u (length mine - u) mine ys) No
           common-no e old em =
-              let G = gave-no (B2 .t) (A2 .v) (behind u mine) ys r gave e in
-              let f : Q .fs ≡ field (A2 .name) (B2 .t) (B2 .more) = B2 .is ∙ ap (λ (q : ℕ). field q (B2 .t) (B2 .more)) (sym same-name) in
+              let G = gave-no (B2 .x) (A2 .x) (behind u mine) ys r gave e in
+              let f : Q .fs ≡ field (A2 .name) (B2 .x) (B2 .more) = B2 .is ∙ ap (λ (q : ℕ). field q (B2 .x) (B2 .more)) (sym same-name) in
               let X = built (context (Q .both .fs)) in
               let Y = v-context (Q .both .es) in
               let z : map encV (retrieve Y X) ≡ none =
-              sym (Q .goes) ∙ ap (map (contextText k (Q .done))) (ap₂ retrieveEntries (A2 .is) f ∙ entry-none (A2 .name) (A2 .v) (A2 .more) (B2 .t) (B2 .more) (A2 .from) (G .0)) in
+              sym (Q .goes) ∙ ap (map (contextText k (Q .done))) (ap₂ retrieveEntries (A2 .is) f ∙ entry-none (A2 .name) (A2 .x) (A2 .more) (B2 .x) (B2 .more) (A2 .asc) (G .0)) in
               retrieves (typeAt l t) (valueAt l v) X Y old (putMid u (length mine - u) mine ys) No (Q .both .read-t) (Q .both .read-v)
               (gave-none X Y old (putMid u (length mine - u) mine ys) z (back-kept ∙ ap length em ∙ length-fill (take 3 v) old))
 
           module _ (b a c : ℕ) (e : r ≡ Yes b a c) where
-            G : Got (B2 .t) (A2 .v) (behind u mine) ys b a c
-            G = gave-yes (B2 .t) (A2 .v) (behind u mine) ys r b a c gave e
+            G : Got (B2 .x) (A2 .x) (behind u mine) ys b a c
+            G = gave-yes (B2 .x) (A2 .x) (behind u mine) ys r b a c gave e
 
             pub both-read-v : at + nameWidth + a ≤ length v
             both-read-v = omega (arith, A2 .fits, G .size-v)
@@ -347,7 +349,7 @@ module _ {l : ℕ} {t : List ℕ} {m : ℕ} {v : List ℕ} {n : ℕ} {mid out : 
             common-next eu =
                 let hv = both-v in
                 let ht = both-t in
-                let f : Q .fs ≡ field (A2 .name) (B2 .t) (B2 .more) = B2 .is ∙ ap (λ (q : ℕ). field q (B2 .t) (B2 .more)) (sym same-name) in
+                let f : Q .fs ≡ field (A2 .name) (B2 .x) (B2 .more) = B2 .is ∙ ap (λ (q : ℕ). field q (B2 .x) (B2 .more)) (sym same-name) in
                 let nl : length (bytes nameWidth (A2 .name)) ≡ nameWidth = length-bytes nameWidth (A2 .name) in
                 let D = Q .done ++ bytes nameWidth (A2 .name) in
                 let front : length ((take 3 v ++ Q .done) ++ bytes nameWidth (A2 .name)) ≡ to + nameWidth = omega
@@ -369,10 +371,10 @@ module _ {l : ℕ} {t : List ℕ} {m : ℕ} {v : List ℕ} {n : ℕ} {mid out : 
                   in-v = both-read-v;
                   read-t = ap (λ (q : ℕ). fieldsAt (l - 1) (m - (j + 1)) (suc (B2 .name)) (drop (bt + nameWidth + q) t)) (G .size-t) ∙ B2 .second;
                   read-v = ap (λ (q : ℕ). entriesAt (l - 1) (n - (i + 1)) (suc (A2 .name)) (drop (at + nameWidth + q) v)) (G .size-v) ∙ A2 .second;
-                  size-t = omega (arith, Q .size-t, size-entry B2, G .size-t);
+                  size-t = omega (arith, Q .size-t, B2 .sized, G .size-t);
                   size-v = omega (arith, Q .size-v, A2 .sized, G .size-v);
                   goes = sym (ap₂ (λ q z. map (contextText k (Q .done)) (retrieveEntries q z)) (A2 .is) f
-                      ∙ entry-some k (A2 .name) (Q .done) (A2 .v) (A2 .more) (B2 .t) (B2 .more) (G .w) (A2 .from) (G .is)) ∙ Q .goes;
+                      ∙ entry-some k (A2 .name) (Q .done) (A2 .x) (A2 .more) (B2 .x) (B2 .more) (G .w) (A2 .asc) (G .is)) ∙ Q .goes;
                   long = omega (arith, length-append D (encV (G .w)), length-append (Q .done) (bytes nameWidth (A2 .name)), nl, Q .long, G .long);
                   low = omega (arith, Q .low, G .short);
                   few = omega (arith, Q .few);

@@ -7,20 +7,21 @@ use mathlib.Core.Path.{_≡_, refl, sym, ap, _∙_}
 use mathlib.Core.Option.{none, some}
 use mathlib.Core.List.{List, [], _∷_, _++_, append-nil}
 use native.Mathlib.Omega.{arith}
-use lib.ListN.{length, getD, take, drop, length-append, length-drop}
-use lib.Seq.{drop-drop, length-take-le}
+use lib.ListN.{length, getD, take, drop, length-append}
+use lib.Seq.{length-take-le}
 use borrow.Rule.Slice.PartMut.{putMid}
-use Rattle.form.specs.Trees.{Ty, built, list, Val, v-list, Vals, no-items, item}
+use Rattle.form.specs.Trees.{Ty, built, list, Val, v-list, Vals, no-items}
 use Rattle.form.specs.Form.{bytes, numAt, Bytes, countVals, encV, encVals}
 use Rattle.form.proofs.Runs.{rest, behind}
 use Rattle.order.specs.Size.{size, sizeVal, sizeVals}
 use Rattle.types.specs.At.{typeAt, sizeAt, Ok}
 use Rattle.types.proofs.Reading as types
 use Rattle.types.proofs.Reading.{is-ok, ok-got}
-use Rattle.types.proofs.Entries.{step, size-got}
+use Rattle.types.proofs.Entries.{size-got}
 use Rattle.values.specs.At.{valueAt, itemsAt}
 use Rattle.values.proofs.Reading.{v-inside, IsVal, is-list, as-list}
 use Rattle.values.proofs.Reading.{some-level, Item, next-item, no-item, encoded, size-item}
+use Rattle.values.proofs.Reading.{Nth, nth, no-nth}
 use Rattle.retrieval.specs.declared.builder.Retrieved.{Retrieved}
 use Rattle.retrieval.specs.declared.builder.Retrieved.the-variants.{Yes, No}
 use Rattle.retrieval.specs.Retrieve.{retrieve, retrieveItems}
@@ -137,31 +138,6 @@ list-begins {l} {t} {v} L n old mid bs en e =
       state = e ∙ sym (fill-over (take 3 v) (take 3 v) old (omega arith)) ∙ ap (fill (take 3 v)) (sym e);
     }
 
--- the item that stands at `at`
-record Nth (l n at : ℕ) (s : List ℕ) (vs : Vals) : Type 0 where
-  v : Val
-  more : Vals
-  first : valueAt l (drop at s) ≡ some v
-  fits : at + sizeVal v ≤ length s
-  second : itemsAt l n (drop (at + sizeVal v) s) ≡ some more
-  is : vs ≡ item v more
-  sized : sizeVals vs ≡ sizeVal v + sizeVals more
-
-nth : (l i n at : ℕ) (s : List ℕ) (vs : Vals) → i < n → at ≤ length s → itemsAt l (n - i) (drop at s) ≡ some vs → Nth l (n - (i + 1)) at s vs
-nth l i n at s vs h in-s e = go (next-item l (n - (i + 1)) (drop at s) vs (ap (λ (z : ℕ). itemsAt l z (drop at s)) (sym (step i n h)) ∙ e))
-  where
-    go : Item l (n - (i + 1)) (drop at s) vs → Nth l (n - (i + 1)) at s vs
-    go E =
-        record {
-          v = E .v;
-          more = E .more;
-          first = E .first;
-          fits = omega (arith, simp length-drop at (v-inside l (drop at s) (E .v) (E .first)));
-          second = ap (itemsAt l (n - (i + 1))) (sym (drop-drop (sizeVal (E .v)) at s)) ∙ E .second;
-          is = E .is;
-          sized = ap sizeVals (E .is) ∙ size-item (E .v) (E .more);
-        }
-
 module _ {l : ℕ} {t v : List ℕ} {n : ℕ} {mid out : List ℕ} {at to bt i : ℕ} (Q : ListInv l t v n mid out at to bt i) where
   pub list-kept : length out ≡ length mid
   list-kept = ap length (Q .state) ∙ length-fill (Q .done) mid
@@ -170,33 +146,34 @@ module _ {l : ℕ} {t v : List ℕ} {n : ℕ} {mid out : List ℕ} {at to bt i :
   type-ok = rw (rest t 1) (is-ok (typeAt (l - 1) (drop 1 t)) (Q .both .u) (Q .both .read-u))
 
   module _ (h : i < n) where
+    -- the item that stands at `at`
     abbrev N : Nth (l - 1) (n - (i + 1)) at v (Q .left)
     N = nth (l - 1) i n at v (Q .left) h (Q .in-v) (Q .read)
 
-    first-behind : valueAt (l - 1) (behind at v) ≡ some (N .v)
+    first-behind : valueAt (l - 1) (behind at v) ≡ some (N .x)
     first-behind = ap (valueAt (l - 1)) (rest v at) ∙ N .first
 
     pub item-ok : Ok (valueAt (l - 1) (behind at v))
-    item-ok = is-ok (valueAt (l - 1) (behind at v)) (N .v) first-behind
+    item-ok = is-ok (valueAt (l - 1) (behind at v)) (N .x) first-behind
 
     module _ (p : ℕ) (ys : List ℕ) (r : Retrieved) (T : Retrieves (typeAt (l - 1) (behind 1 t)) (valueAt (l - 1) (behind at v)) (behind p out) ys r) where
-      gave : Gave (Q .both .u) (N .v) (behind p out) ys r
-      gave = retrieves-is (typeAt (l - 1) (behind 1 t)) (valueAt (l - 1) (behind at v)) (Q .both .u) (N .v) (behind p out) ys r (ap (typeAt (l - 1)) (rest t 1) ∙ Q .both .read-u) first-behind T
+      gave : Gave (Q .both .u) (N .x) (behind p out) ys r
+      gave = retrieves-is (typeAt (l - 1) (behind 1 t)) (valueAt (l - 1) (behind at v)) (Q .both .u) (N .x) (behind p out) ys r (ap (typeAt (l - 1)) (rest t 1) ∙ Q .both .read-u) first-behind T
 
       pub back-kept : length (putMid p (length out - p) out ys) ≡ length out
-      back-kept = back-length p out ys (gave-length (Q .both .u) (N .v) (behind p out) ys r gave)
+      back-kept = back-length p out ys (gave-length (Q .both .u) (N .x) (behind p out) ys r gave)
 
       pub item-no : r ≡ No → (old : List ℕ) → mid ≡ fill (take 3 v) old → Retrieves (typeAt l t) (valueAt l v) old (putMid p (length out - p) out ys) No
       item-no e old m =
-          let G = gave-no (Q .both .u) (N .v) (behind p out) ys r gave e in
+          let G = gave-no (Q .both .u) (N .x) (behind p out) ys r gave e in
           let z : map encV (retrieve (v-list (Q .both .vs)) (built (list (Q .both .u)))) ≡ none =
-          sym (Q .goes) ∙ ap (map (λ ws. Q .done ++ encVals ws)) (ap (λ k. retrieveItems k (Q .both .u)) (N .is) ∙ item-none (N .v) (N .more) (Q .both .u) (G .0)) in
+          sym (Q .goes) ∙ ap (map (λ ws. Q .done ++ encVals ws)) (ap (λ k. retrieveItems k (Q .both .u)) (N .is) ∙ item-none (N .x) (N .more) (Q .both .u) (G .0)) in
           retrieves (typeAt l t) (valueAt l v) (built (list (Q .both .u))) (v-list (Q .both .vs)) old (putMid p (length out - p) out ys) No (Q .both .read-t) (Q .both .read-v)
           (gave-none (built (list (Q .both .u))) (v-list (Q .both .vs)) old (putMid p (length out - p) out ys) z (back-kept ∙ list-kept ∙ ap length m ∙ length-fill (take 3 v) old))
 
       module _ (a b c : ℕ) (e : r ≡ Yes a b c) where
-        G : Got (Q .both .u) (N .v) (behind p out) ys a b c
-        G = gave-yes (Q .both .u) (N .v) (behind p out) ys r a b c gave e
+        G : Got (Q .both .u) (N .x) (behind p out) ys a b c
+        G = gave-yes (Q .both .u) (N .x) (behind p out) ys r a b c gave e
 
         pub item-read : at + b ≤ length v
         item-read = omega (arith, N .fits, G .size-v)
@@ -214,7 +191,7 @@ module _ {l : ℕ} {t v : List ℕ} {n : ℕ} {mid out : List ℕ} {at to bt i :
               in-v = item-read;
               read = ap (λ (z : ℕ). itemsAt (l - 1) (n - (i + 1)) (drop (at + z) v)) (G .size-v) ∙ N .second;
               sized = omega (arith, Q .sized, N .sized, G .size-v);
-              goes = sym (ap (λ k. map (λ ws. Q .done ++ encVals ws) (retrieveItems k (Q .both .u))) (N .is) ∙ item-some (Q .done) (N .v) (N .more) (Q .both .u) (G .w) (G .is)) ∙ Q .goes;
+              goes = sym (ap (λ k. map (λ ws. Q .done ++ encVals ws) (retrieveItems k (Q .both .u))) (N .is) ∙ item-some (Q .done) (N .x) (N .more) (Q .both .u) (G .w) (G .is)) ∙ Q .goes;
               long = omega (arith, length-append (Q .done) (encV (G .w)), Q .long, G .long);
               head = omega (arith, Q .head);
               low = omega (arith, Q .low, G .short);
@@ -224,8 +201,7 @@ module _ {l : ℕ} {t v : List ℕ} {n : ℕ} {mid out : List ℕ} {at to bt i :
 
   ended : n ≤ i → (k : ℕ) → k ≡ size (built (list (Q .both .u))) → (old : List ℕ) → mid ≡ fill (take 3 v) old → Retrieves (typeAt l t) (valueAt l v) old out (Yes k at to)
   ended h k ek old m =
-      let z : n - i ≡ 0 = omega arith in
-      let e : Q .left ≡ no-items = no-item (l - 1) (drop at v) (Q .left) (ap (λ (j : ℕ). itemsAt (l - 1) j (drop at v)) (sym z) ∙ Q .read) in
+      let e : Q .left ≡ no-items = no-nth (l - 1) i n at v (Q .left) h (Q .read) in
       let T = built (list (Q .both .u)) in
       let W = v-list (Q .both .vs) in
       let l3 : length (take 3 v) ≡ 3 = length-take-le 3 v (Q .both .three) in

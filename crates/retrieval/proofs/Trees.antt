@@ -19,7 +19,7 @@ use Rattle.order.proofs.Conform.{look-below as below}
 use Rattle.retrieval.proofs.Theorems.{less-val}
 use Rattle.retrieval.specs.Retrieve.{kept, retrieve, retrieveItems, retrieveEntries}
 use Rattle.form.specs.Options.{map, both}
-use Rattle.values.proofs.EntriesAt.{From}
+use Rattle.values.proofs.Reading.{From}
 use Rattle.output.proofs.ContextText.{contextText}
 
 -- a retrieved value is never longer

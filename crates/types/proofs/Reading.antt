@@ -1,7 +1,8 @@
 -- What stands at the front of the bytes says of its parts, and that its names ascend and that it ends within the bytes.
 -- Idea: one induction on the reader (`type-told`); the parts by the command byte.
--- Index: `type-told`, `t-good`, `fields-good` (size, names, end); `cmd`, `cmd-is`, `is-leaf`, `is-list`, `is-range`, `is-ctx`, `is-fun`, `last-cmd` (a type by its command);
--- `entry`, `no-entry` (entries); `parameter`, `result` (parameters); `size-list`, `size-range`, `size-ctx`, `size-fun`, `size-cons`, `size-result` (sizes); `ok-got`, `seen-got`, `got-seen`.
+-- Index: `Tells`, `run-told`, `named-told` (runs, from `RunSizes` and `NamedSizes`); `type-told`, `t-good`, `fields-good` (size, names, end);
+-- `cmd`, `cmd-is`, `is-leaf`, `is-list`, `is-range`, `is-ctx`, `is-fun`, `last-cmd` (a type by its command); `parameter`, `result` (parameters);
+-- `size-list`, `size-range`, `size-ctx`, `size-fun`, `size-cons`, `size-result` (sizes); `ok-got`, `seen-got`, `got-seen`.
 -- Assumes nothing.
 use Prim.Native.Nat.{ℕ, zero, suc, _+_, _-_, _<_, _≤_}
 use mathlib.Core.Path.{_≡_, refl, sym, ap, subst, _∙_}
@@ -51,45 +52,72 @@ pub record Told {X : Type 0} (sz : X → ℕ) (asc : X → Type 0) (s : List ℕ
   pub ascend : asc x
   pub inside : n ≤ length s
 
-told-as : {X : Type 0} {sz : X → ℕ} {asc : X → Type 0} {s : List ℕ} {x y : X} {n m : ℕ} → x ≡ y → n ≡ m → Told sz asc s x n → Told sz asc s y m
+pub told-as : {X : Type 0} {sz : X → ℕ} {asc : X → Type 0} {s : List ℕ} {x y : X} {n m : ℕ} → x ≡ y → n ≡ m → Told sz asc s x n → Told sz asc s y m
 told-as p q f = rw (← p, ← q) f
 
-abbrev Tells : {X : Type 0} → (X → ℕ) → (X → Type 0) → (List ℕ → Got X) → Type 0
+abbrev pub Tells : {X : Type 0} → (X → ℕ) → (X → Type 0) → (List ℕ → Got X) → Type 0
 Tells {X} sz asc read = (s : List ℕ) (x : X) (n : ℕ) → read s ≡ got x n → Told sz asc s x n
 
-module _ (child : List ℕ → Got Ty) (ih : Tells size Asc child) where
-  tys-told : (c : ℕ) → Tells sizeTys AscTys (readTys child c)
-  unfolding readRun size Asc
-  tys-told zero s x n e = got-parts no-params x 0 n e (λ p q. told-as p q (record { sized = refl; ascend = tt; inside = omega arith }))
-  tys-told (suc c) s z n e =
-      item-parts no-params param child c s z n e (λ x m px y j py pz pn.
-      let F = ih s x m px in
-      let G = tys-told c (drop m s) y j py in
-      told-as pz refl (record { sized = omega (arith, F .sized, G .sized); ascend = (F .ascend, G .ascend); inside = omega (arith, F .inside, simp length-drop at (G .inside)) }))
+-- what the sizes and the names of a run say of its children: without names
+pub record RunSizes {X R : Type 0} (sz : X → ℕ) (asc : X → Type 0) (nil : R) (cons : X → R → R) (szs : R → ℕ) (ascs : R → Type 0) : Type 0 where
+  pub size-nil : szs nil ≡ 0
+  pub size-cons : (x : X) (xs : R) → szs (cons x xs) ≡ sz x + szs xs
+  pub asc-nil : ascs nil
+  pub asc-cons : (x : X) (xs : R) → asc x → ascs xs → ascs (cons x xs)
 
-  fields-told : (c least : ℕ) → Tells sizeFields (λ fs. AscFields fs least) (readFields child c least)
-  unfolding readNamed size Asc
-  fields-told zero least s x n e = got-parts no-fields x 0 n e (λ p q. told-as p q (record { sized = refl; ascend = tt; inside = omega arith }))
-  fields-told (suc c) least s z n e =
-      named-parts no-fields field ascending child c least s z n e (λ w h x m px y j py pz pn.
-      let F = ih (drop nameWidth s) x m px in
-      let G = fields-told c (num (take nameWidth s) + 1) (drop m (drop nameWidth s)) y j py in
-      let a : AscFields y (suc (num (take nameWidth s))) = rw add-one at (G .ascend) in
-      told-as pz refl (record {
-        sized = omega (arith, F .sized, G .sized);
-        ascend = (h, F .ascend, a);
-        inside = omega (arith, simp length-drop at (F .inside), simp (length-drop, length-drop) at (G .inside));
-      }))
+pub run-told : {X R : Type 0} {sz : X → ℕ} {asc : X → Type 0} {nil : R} {cons : X → R → R} {szs : R → ℕ} {ascs : R → Type 0} → RunSizes sz asc nil cons szs ascs → (child : List ℕ → Got X)
+    → Tells sz asc child → (c : ℕ) → Tells szs ascs (readRun nil cons child c)
+unfolding readRun
+run-told {nil = nil} A child ih zero s x n e = got-parts nil x 0 n e (λ p q. told-as p q (record { sized = sym (A .size-nil); ascend = A .asc-nil; inside = omega arith }))
+run-told {nil = nil} {cons = cons} A child ih (suc c) s z n e =
+    item-parts nil cons child c s z n e (λ x m px y j py pz pn.
+    let F = ih s x m px in
+    let G = run-told A child ih c (drop m s) y j py in
+    told-as pz refl (record {
+      sized = omega (arith, F .sized, G .sized, A .size-cons x y);
+      ascend = A .asc-cons x y (F .ascend) (G .ascend);
+      inside = omega (arith, F .inside, simp length-drop at (G .inside));
+    }))
+
+-- and with names: behind the name m the next is at least `after m`, in the reader's words `next m`
+pub record NamedSizes {X R : Type 0} (sz : X → ℕ) (asc : X → Type 0) (nil : R) (cons : ℕ → X → R → R) (next after : ℕ → ℕ) (szs : R → ℕ) (ascs : R → ℕ → Type 0) : Type 0 where
+  pub size-nil : szs nil ≡ 0
+  pub size-cons : (m : ℕ) (x : X) (xs : R) → szs (cons m x xs) ≡ nameWidth + sz x + szs xs
+  pub goes-on : (m : ℕ) → next m ≡ after m
+  pub asc-nil : (k : ℕ) → ascs nil k
+  pub asc-cons : (k m : ℕ) (x : X) (xs : R) → k ≤ m → asc x → ascs xs (after m) → ascs (cons m x xs) k
+
+pub named-told : {X R : Type 0} {sz : X → ℕ} {asc : X → Type 0} {nil : R} {cons : ℕ → X → R → R} {next after : ℕ → ℕ} {szs : R → ℕ} {ascs : R → ℕ → Type 0}
+    → NamedSizes sz asc nil cons next after szs ascs → (child : List ℕ → Got X) → Tells sz asc child → (c least : ℕ) → Tells szs (λ xs. ascs xs least) (readNamed nil cons next child c least)
+unfolding readNamed
+named-told {nil = nil} A child ih zero least s x n e = got-parts nil x 0 n e (λ p q. told-as p q (record { sized = sym (A .size-nil); ascend = A .asc-nil least; inside = omega arith }))
+named-told {nil = nil} {cons = cons} {next = next} {ascs = ascs} A child ih (suc c) least s z n e =
+    named-parts nil cons next child c least s z n e (λ w h x m px y j py pz pn.
+    let F = ih (drop nameWidth s) x m px in
+    let G = named-told A child ih c (next (num (take nameWidth s))) (drop m (drop nameWidth s)) y j py in
+    told-as pz refl (record {
+      sized = omega (arith, F .sized, G .sized, A .size-cons (num (take nameWidth s)) x y);
+      ascend = A .asc-cons least (num (take nameWidth s)) x y h (F .ascend) (subst (ascs y) (A .goes-on (num (take nameWidth s))) (G .ascend));
+      inside = omega (arith, simp length-drop at (F .inside), simp (length-drop, length-drop) at (G .inside));
+    }))
+
+tys-sizes : RunSizes size Asc no-params param sizeTys AscTys
+unfolding size Asc
+tys-sizes = record { size-nil = refl; size-cons = λ x xs. refl; asc-nil = tt; asc-cons = λ x xs p q. (p, q) }
+
+pub fields-sizes : NamedSizes size Asc no-fields field ascending suc sizeFields AscFields
+unfolding size Asc
+fields-sizes = record { size-nil = refl; size-cons = λ m x xs. refl; goes-on = add-one; asc-nil = λ k. tt; asc-cons = λ k m x xs h p q. (h, p, q) }
 
 type-step : (left : ℕ) (s : List ℕ) → Tells size Asc (readT left) → 0 < length s → (t : Ty) (n : ℕ) → NodeT left s t n → Told size Asc s t n
 unfolding size Asc
 type-step left s ih h t n (nSimple p q) = record { sized = refl; ascend = tt; inside = omega arith }
 type-step left s ih h t n (nList e u m r) = let F = ih (drop 1 s) u m r in record { sized = omega (arith, F .sized); ascend = F .ascend; inside = omega (arith, simp length-drop at (F .inside)) }
 type-step left s ih h t n (nRange e u m r) = let F = ih (drop 1 s) u m r in record { sized = omega (arith, F .sized); ascend = F .ascend; inside = omega (arith, simp length-drop at (F .inside)) }
-type-step left s ih h t n (nContext e k fs m r) = let F = fields-told (readT left) ih (numAt 2 1 s) 0 (drop 3 s) fs m r in record
+type-step left s ih h t n (nContext e k fs m r) = let F = named-told fields-sizes (readT left) ih (numAt 2 1 s) 0 (drop 3 s) fs m r in record
     { sized = omega (arith, F .sized); ascend = F .ascend; inside = omega (arith, simp length-drop at (F .inside)) }
 type-step left s ih h t n (nFunction e k ts m r u j q) =
-    let F = tys-told (readT left) ih (getD s 1 0) (drop 2 s) ts m r in
+    let F = run-told tys-sizes (readT left) ih (getD s 1 0) (drop 2 s) ts m r in
     let G = ih (drop m (drop 2 s)) u j q in
     record { sized = omega (arith, F .sized, G .sized); ascend = (F .ascend, G .ascend); inside = omega (arith, simp length-drop at (F .inside), simp (length-drop, length-drop) at (G .inside)) }
 
@@ -212,44 +240,10 @@ module _ (l : ℕ) (s : List ℕ) (t : Ty) (q : typeAt l s ≡ some t) where
   is-leaf h k = opened l s t q (λ n e. node-leaf (l - 1) s t n (type-read l s t n e .node) h k)
 
 -- ---- entries
-pub record Entry (l n least : ℕ) (s : List ℕ) (fs : Fields) : Type 0 where
-  pub name : ℕ
-  pub t : Ty
-  pub more : Fields
-  pub two : nameWidth ≤ length s
-  pub named : name ≡ num (take nameWidth s)
-  pub above : least ≤ name
-  pub first : typeAt l (drop nameWidth s) ≡ some t
-  pub second : fieldsAt l n (suc name) (drop (size t) (drop nameWidth s)) ≡ some more
-  pub is : fs ≡ field name t more
-
-pub entry : (l n least : ℕ) (s : List ℕ) (fs : Fields) → fieldsAt l (suc n) least s ≡ some fs → Entry l n least s fs
-unfolding fieldsAt typeAt
-entry l n least s fs e =
-    seen-got (readFields (readT l) (suc n) least s) fs e (λ m r.
-    named-parts no-fields field ascending (readT l) n least s fs m r (λ w h x k px y j py pz pn.
-    let F = type-told l (drop nameWidth s) x k px in
-    let p : seen (readFields (readT l) n (num (take nameWidth s) + 1) (drop k (drop nameWidth s))) ≡ some y = got-seen
-    (readFields (readT l) n (num (take nameWidth s) + 1) (drop k (drop nameWidth s))) y j py in
-    record {
-      name = num (take nameWidth s);
-      t = x;
-      more = y;
-      two = w;
-      named = refl;
-      above = h;
-      first = got-seen (readT l (drop nameWidth s)) x k px;
-      second = subst (λ (i : ℕ). seen (readFields (readT l) n (suc (num (take nameWidth s))) (drop i (drop nameWidth s))) ≡ some y) (F .sized) (rw add-one at p);
-      is = sym pz;
-    }))
-
-pub no-entry : (l least : ℕ) (s : List ℕ) (fs : Fields) → fieldsAt l 0 least s ≡ some fs → fs ≡ no-fields
-unfolding fieldsAt seen readNamed
-no-entry l least s fs e = cc
-
 pub fields-good : (l n least : ℕ) (s : List ℕ) (fs : Fields) → fieldsAt l n least s ≡ some fs → AscFields fs least × (sizeFields fs ≤ length s)
 unfolding fieldsAt
-fields-good l n least s fs e = seen-got (readFields (readT l) n least s) fs e (λ m r. let F = fields-told (readT l) (type-told l) n least s fs m r in (F .ascend, omega (arith, F .sized, F .inside)))
+fields-good l n least s fs e =
+    seen-got (readFields (readT l) n least s) fs e (λ m r. let F = named-told fields-sizes (readT l) (type-told l) n least s fs m r in (F .ascend, omega (arith, F .sized, F .inside)))
 
 -- ---- parameters
 pub record Then (l n : ℕ) (s : List ℕ) (f : Sig) : Type 0 where

@@ -1,7 +1,7 @@
 -- Two ascending lists of names taken in step: entries of some kind (of a context type, of a context) against the entries of a context type.
 -- The verdict on the whole is that on what is left of both, behind what was passed, whether it is read or not (`NamesGo`). What the first list is made
 -- of, and what a common name is held to, are told by two records (`Run`, `Tests`), so that every such loop cites the same laws.
--- Index: `Run`, `Tests`, `First`, `fields-run`, `named-on`, `readable-type` (what is given); `NamesGo`, `names-start`, `names-done`, `names-left` (start and end); `cut-a`, `cut-b`, `falls-a`
+-- Index: `Run`, `Tests`, `fields-run`, `named-on`, `readable-type` (what is given); `NamesGo`, `names-start`, `names-done`, `names-left` (start and end); `cut-a`, `cut-b`, `falls-a`
 -- (a name at fault); `names-missing`, `names-unread`, `names-skip` (a name of one list only); `names-common`, `names-apart`, `b-more` (a common name).
 -- Assumes nothing.
 use Prim.Native.Nat.{ℕ, suc, _+_, _-_, _<_, _≤_}
@@ -24,21 +24,10 @@ use Rattle.order.specs.Size.{size, sizeFields}
 use Rattle.order.proofs.Size.{size-positive}
 use Rattle.types.specs.At.{seen, typeAt, fieldsAt}
 use Rattle.types.specs.Conform.{Conform, judge, conformBy, addSizes, Met}
-use Rattle.types.proofs.Reading.{seen-got, type-told, t-good, fields-good, entry}
-use Rattle.types.proofs.Entries.{step, ahead, next-is}
+use Rattle.types.proofs.Reading.{seen-got, type-told, t-good, fields-good}
+use Rattle.types.proofs.ChildAt.{EntryAt}
+use Rattle.types.proofs.Entries.{step, Here, here, ahead, next-is}
 use Rattle.types.proofs.Pairs.{mapO, mapO-same, seen-front, both, no-when, mapped, met-yes, met-no, grown-on, grown-none, Readable, Sized, sized-in, Pair, MetAt, pair-no, pair-in}
-
--- the first of some entries
-pub record First {X N : Type 0} (one : List ℕ → Option X) (cons : ℕ → X → N → N) (Asc : N → ℕ → Type 0) (least : ℕ) (s : List ℕ) (fs : N) : Type 0 where
-  pub name : ℕ
-  pub x : X
-  pub more : N
-  pub two : nameWidth ≤ length s
-  pub named : name ≡ num (take nameWidth s)
-  pub above : least ≤ name
-  pub first : one (drop nameWidth s) ≡ some x
-  pub is : fs ≡ cons name x more
-  pub asc : Asc more (suc name)
 
 -- a list of names, each with what stands behind it, as it is read
 pub record Run {X N : Type 0} (sx : X → ℕ) (sn : N → ℕ) (one : List ℕ → Option X) (many : ℕ → ℕ → List ℕ → Option N) (nil : N) (cons : ℕ → X → N → N) (Asc : N → ℕ → Type 0) : Type 0 where
@@ -48,7 +37,7 @@ pub record Run {X N : Type 0} (sx : X → ℕ) (sn : N → ℕ) (one : List ℕ 
   pub none : (least : ℕ) (s : List ℕ) → many 0 least s ≡ some nil
   pub on : (n least : ℕ) (s : List ℕ) (x : X) → nameWidth ≤ length s → least ≤ num (take nameWidth s) → one (drop nameWidth s) ≡ some x
       → many (suc n) least s ≡ mapO (cons (num (take nameWidth s)) x) (many n (num (take nameWidth s) + 1) (drop (sx x) (drop nameWidth s)))
-  pub back : (n least : ℕ) (s : List ℕ) (fs : N) → many (suc n) least s ≡ some fs → First one cons Asc least s fs
+  pub back : (i n at least : ℕ) (s : List ℕ) (fs : N) → i < n → many (n - i) least (drop at s) ≡ some fs → EntryAt sx sn Asc one many cons suc (n - (i + 1)) at least s fs
 
 -- a test of two lists, name by name
 pub record Tests {X N : Type 0} (nil : N) (cons : ℕ → X → N → N) (Asc : N → ℕ → Type 0) (test : X → Ty → Bool) (all : N → Fields → Bool) : Type 0 where
@@ -81,18 +70,7 @@ fields-run l = record {
   size-cons = λ n x fs. refl;
   none = λ least s. refl;
   on = λ n least s x w h e. named-on size no-fields field (readT l) (λ r y m f. type-told l r y m f .sized) n least s x w h e;
-  back = λ n least s fs e. let E = entry l n least s fs e in record {
-    name = E .name;
-    x = E .t;
-    more = E .more;
-    two = E .two;
-    named = E .named;
-    above = E .above;
-    first = E .first;
-    is = E .is;
-    asc = fields-good l n (suc (E .name))
-        (drop (size (E .t)) (drop nameWidth s)) (E .more) (E .second) .0;
-  };
+  back = here l;
 }
 
 module _ {X N : Type 0} {sx : X → ℕ} {sn : N → ℕ} {one : List ℕ → Option X} {many : ℕ → ℕ → List ℕ → Option N} {nil : N} {cons : ℕ → X → N → N} {Asc : N → ℕ → Type 0}
@@ -107,10 +85,6 @@ module _ {X N : Type 0} {sx : X → ℕ} {sn : N → ℕ} {one : List ℕ → Op
 
   none-at : n ≤ i → many (n - i) least (drop at a) ≡ some nil
   none-at h = let z : n - i ≡ 0 = omega arith in ap (λ k. many k least (drop at a)) z ∙ R .none least (drop at a)
-
-  -- and taken apart
-  first-at : (fs : N) → i < n → many (n - i) least (drop at a) ≡ some fs → First one cons Asc least (drop at a) fs
-  first-at fs h e = R .back (n - (i + 1)) least (drop at a) fs (ap (λ k. many k least (drop at a)) (sym (step i n h)) ∙ e)
 
 -- ---- the verdict on the whole is that on what is left, behind what was passed
 pub record NamesGo {X N : Type 0} (sx : X → ℕ) (sn : N → ℕ) (one : List ℕ → Option X) (many : ℕ → ℕ → List ℕ → Option N) (nil : N) (cons : ℕ → X → N → N) (Asc : N → ℕ → Type 0) (test : X → Ty → Bool)
@@ -151,18 +125,18 @@ module _ {X N : Type 0} {sx : X → ℕ} {sn : N → ℕ} {one : List ℕ → Op
   names-no : ((fs : N) (gs : Fields) → many (n - i) least (drop at a) ≡ some fs → fieldsAt l (m - j) (v .least-b) (drop bt b) ≡ some gs → all fs gs ≡ false) → Met (addSizes k k whole) 0 t
   names-no f = met-no 0 t (ap (addSizes k k) (v .goes ∙ ap (addSizes at bt) (no-when sn sizeFields all (many (n - i) least (drop at a)) (fieldsAt l (m - j) (v .least-b) (drop bt b)) f))) refl
 
-  at-a : i < n → (fs : N) → many (n - i) least (drop at a) ≡ some fs → First one cons Asc least (drop at a) fs
-  at-a h fs e = first-at (v .run) i n at least a fs h e
+  at-a : i < n → (fs : N) → many (n - i) least (drop at a) ≡ some fs → EntryAt sx sn Asc one many cons suc (n - (i + 1)) at least a fs
+  at-a h fs e = v .run .back i n at least a fs h e
 
-  at-b : j < m → (gs : Fields) → fieldsAt l (m - j) (v .least-b) (drop bt b) ≡ some gs → First (typeAt l) field AscFields (v .least-b) (drop bt b) gs
-  at-b h gs e = first-at (fields-run l) j m bt (v .least-b) b gs h e
+  at-b : j < m → (gs : Fields) → fieldsAt l (m - j) (v .least-b) (drop bt b) ≡ some gs → Here l (m - (j + 1)) bt (v .least-b) b gs
+  at-b h gs e = here l j m bt (v .least-b) b gs h e
 
   -- a name that is not there whole
   pub cut-a : i < n → length a - at < nameWidth → Met (addSizes k k whole) 0 t
-  cut-a h w = names-no (λ fs gs e f. absurd (let A = at-a h fs e in omega (arith, simp length-drop at (A .two))))
+  cut-a h w = names-no (λ fs gs e f. absurd (let A = at-a h fs e in omega (arith, A .two)))
 
   pub cut-b : j < m → length b - bt < nameWidth → Met (addSizes k k whole) 0 t
-  cut-b h w = names-no (λ fs gs e f. absurd (let B = at-b h gs f in omega (arith, simp length-drop at (B .two))))
+  cut-b h w = names-no (λ fs gs e f. absurd (let B = at-b h gs f in omega (arith, B .two)))
 
   -- one that is too small
   pub falls-a : i < n → (name : ℕ) → name ≡ numAt nameWidth at a → name < least → Met (addSizes k k whole) 0 t
@@ -194,7 +168,7 @@ module _ {X N : Type 0} {sx : X → ℕ} {sn : N → ℕ} {one : List ℕ → Op
 
     -- a name of the first that the second lacks: what stands behind it is passed over
     pub names-unread : ((x : X) → one (drop (at + nameWidth) a) ≡ some x → ⊥) → Met (addSizes k k whole) 0 t
-    names-unread u = names-no (λ fs gs f g. absurd (let A = at-a h fs f in u (A .x) (ap one (sym (drop-drop nameWidth at a)) ∙ A .first)))
+    names-unread u = names-no (λ fs gs f g. absurd (let A = at-a h fs f in u (A .x) (A .first)))
 
     pub names-skip : name < next → (z : ℕ) → Sized sx one (drop (at + nameWidth) a) z → NamesGo sx sn one many nil cons Asc test all l whole a n b m (at + nameWidth + z) (name + 1) (i + 1) bt j
     names-skip q z S =
@@ -216,7 +190,7 @@ module _ {X N : Type 0} {sx : X → ℕ} {sn : N → ℕ} {one : List ℕ → Op
           in-b = v .in-b;
           goes = v .goes ∙ ap (addSizes at bt) (ap₂ (conformBy sn sizeFields all) ea (sym (mapO-same B))
               ∙ mapped sn sizeFields all sn sizeFields all (cons name (S .x)) (λ x. x) (nameWidth + z) 0 A B
-              (λ fs gs e f. v .tests .first name (S .x) fs gs (ahead l j m bt (v .least-b) b gs (v .in-b) f name next ye q)) (λ x e. omega (arith, v .run .size-cons name (S .x) x))
+              (λ fs gs e f. v .tests .first name (S .x) fs gs (ahead l j m bt (v .least-b) b gs f name next ye q)) (λ x e. omega (arith, v .run .size-cons name (S .x) x))
               (λ x. omega arith))
               ∙ grown-on at bt (nameWidth + z) 0 (conformBy sn sizeFields all A B) ∙ ap₂ (λ p r. addSizes p r (conformBy sn sizeFields all A B)) o o′;
         }
@@ -237,7 +211,7 @@ module _ {X N : Type 0} {sx : X → ℕ} {sn : N → ℕ} {one : List ℕ → Op
           ap₂ all (A .is) (B .is ∙ ap (λ x. field x (B .x) (B .more)) same)
           ∙ v .tests .common (A .name) (A .x) (B .x) (A .more) (B .more) (subst (λ (x : ℕ). AscFields (B .more) (suc x)) same (B .asc))
           ∙ ap (λ x. x && all (A .more) (B .more)) (pair-no (v .run .readable) (readable-type l) test a (at + nameWidth) b (bt + nameWidth) r s e z (A .x) (B .x)
-          (ap one (sym (drop-drop nameWidth at a)) ∙ A .first) (ap (typeAt l) (sym (drop-drop nameWidth bt b)) ∙ B .first)))
+          (A .first) (B .first)))
 
       pub names-common : bt + nameWidth ≤ length b → (r s : ℕ) → Pair (v .run .readable) (readable-type l) test a (at + nameWidth) b (bt + nameWidth) r s
           → NamesGo sx sn one many nil cons Asc test all l whole a n b m (at + nameWidth + r) (name + 1) (i + 1) (bt + nameWidth + s) (j + 1)

@@ -22,7 +22,7 @@ use Rattle.order.specs.Size.{sizeVal}
 use Rattle.types.proofs.Entries.{next-is, at-end}
 use Rattle.types.specs.At.{Ok}
 use Rattle.values.specs.At.{valueAt, entriesAt, sizeAtV}
-use Rattle.values.proofs.Reading.{size-got, front-text}
+use Rattle.values.proofs.Reading.{From, size-got, front-text}
 use Rattle.output.proofs.OntoLaws.{name-bytes}
 use Rattle.output.proofs.FillLaws.{length-fill, fill-over, late-head}
 use Rattle.paths.specs.Places.{contextAt}
@@ -31,7 +31,7 @@ use Rattle.updates.specs.Writing.{merged, Merges}
 use Rattle.output.proofs.FillLaws.{put-then}
 use Rattle.updates.proofs.MergedContexts.{merged-none, merged-own, merged-both, merged-new, merged-passed}
 use Rattle.output.specs.Output.{fill, puts}
-use Rattle.values.proofs.EntriesAt.{From, This, this, none-left, above}
+use Rattle.values.proofs.EntriesAt.{This, this, none-left, above}
 use Rattle.output.proofs.ContextText.{contextText, ended}
 
 -- ---- what is left of a context's bytes
@@ -58,14 +58,14 @@ Seen s n at i x = (x ≡ cond (ltb i n) (numAt nameWidth at s) nameEnd) × ((x �
 module _ {l : ℕ} {s : List ℕ} {n at i : ℕ} {es : Entries} (L : Left l s n at i es) where
   module _ {x : ℕ} (X : Seen s n at i x) where
     left-above : (y : ℕ) → y < x → From (suc y) es
-    left-above y h = above (l - 1) i n at (L .least) s es (L .inside) (L .read) x y (X .0) h
+    left-above y h = above (l - 1) i n at (L .least) s es (L .read) x y (X .0) h
 
     left-ended : x ≡ nameEnd → es ≡ no-entries
     left-ended e = none-left (l - 1) i n at (L .least) s es (at-end i n x (X .1 .1) e) (L .read)
 
   module _ (h : i < n) where
     abbrev A : This (l - 1) (n - (i + 1)) at (L .least) s es
-    A = this (l - 1) i n at (L .least) s es h (L .inside) (L .read)
+    A = this (l - 1) i n at (L .least) s es h (L .read)
 
     pub name-in : at + nameWidth ≤ length s
     name-in = A .two
@@ -74,8 +74,8 @@ module _ {l : ℕ} {s : List ℕ} {n at i : ℕ} {es : Entries} (L : Left l s n 
     left-name {x} X b = next-is i n (numAt nameWidth at s) x (X .0) b .1 ∙ sym (A .named)
 
     module _ (z : ℕ) (e : z ≡ sizeAtV (valueAt (l - 1) (behind (at + nameWidth) s))) where
-      skipped : z ≡ sizeVal (A .v)
-      skipped = e ∙ ap (λ (r : List ℕ). sizeAtV (valueAt (l - 1) r)) (rest s (at + nameWidth)) ∙ size-got (valueAt (l - 1) (drop (at + nameWidth) s)) (A .v) (A .first)
+      skipped : z ≡ sizeVal (A .x)
+      skipped = e ∙ ap (λ (r : List ℕ). sizeAtV (valueAt (l - 1) r)) (rest s (at + nameWidth)) ∙ size-got (valueAt (l - 1) (drop (at + nameWidth) s)) (A .x) (A .first)
 
       pub end-in : at + nameWidth + z ≤ length s
       end-in = omega (arith, A .fits, skipped)
@@ -99,7 +99,7 @@ module _ {l : ℕ} {s : List ℕ} {n at i : ℕ} {es : Entries} (L : Left l s n 
           let b : nameWidth + z ≤ length (drop at s) = omega (arith, length-drop at s, end-in) in
           ap (λ (q : ℕ). length (take q (drop at s))) k ∙ length-take-le (nameWidth + z) (drop at s) b
 
-      entry-text : Bytes s → entry-bytes ≡ bytes nameWidth (A .name) ++ encV (A .v)
+      entry-text : Bytes s → entry-bytes ≡ bytes nameWidth (A .name) ++ encV (A .x)
       entry-text bs =
           let N = bytes nameWidth (A .name) in
           let k : at + nameWidth + z - at ≡ length N + z = omega (arith, length-bytes nameWidth (A .name)) in
@@ -107,7 +107,7 @@ module _ {l : ℕ} {s : List ℕ} {n at i : ℕ} {es : Entries} (L : Left l s n 
           sym (take-append-drop nameWidth (drop at s)) ∙ ap₂ (λ (a b : List ℕ). a ++ b) (name-bytes nameWidth at s bs (A .two) ∙ ap (bytes nameWidth) (sym (A .named))) (drop-drop nameWidth at s) in
           ap₂ (λ (q : ℕ) (r : List ℕ). take q r) k d
           ∙ take-append-add N (drop (at + nameWidth) s) z
-          ∙ ap (λ (r : List ℕ). N ++ r) (ap (λ (q : ℕ). take q (drop (at + nameWidth) s)) skipped ∙ front-text (l - 1) (drop (at + nameWidth) s) (A .v) (bytes-drop (at + nameWidth) s bs) (A .first))
+          ∙ ap (λ (r : List ℕ). N ++ r) (ap (λ (q : ℕ). take q (drop (at + nameWidth) s)) skipped ∙ front-text (l - 1) (drop (at + nameWidth) s) (A .x) (bytes-drop (at + nameWidth) s bs) (A .first))
 
 -- ---- what was written: the first head, and k entries behind it
 pub record Written (head mid out done : List ℕ) (to k : ℕ) : Type 0 where
@@ -209,7 +209,7 @@ module _ {all : Bool} {l : ℕ} {c o : List ℕ} {n m : ℕ} {mid out : List ℕ
     entry-room b = omega (arith, entry-long L h z e, end-in L h z e, short)
 
     entry-joined : {at′ i″ bt′ j″ : ℕ} {es gs : Entries} → Left l c n at′ i″ es → Left l o m bt′ j″ gs → at + bt + (nameWidth + z) ≤ at′ + bt′
-        → merged all (Q .es) (Q .gs) ≡ entry (A L h .name) (A L h .v) (merged all es gs)
+        → merged all (Q .es) (Q .gs) ≡ entry (A L h .name) (A L h .x) (merged all es gs)
         → Bytes s → (new : List ℕ) (t : ℕ) → t ≡ to + length (entry-bytes L h z e) → new ≡ puts to (entry-bytes L h z e) out
         → Joining all l c o n m mid new at′ i″ bt′ j″ t (k + 1)
     entry-joined {es = es} {gs = gs} C O more step bs new t et en =
@@ -224,7 +224,7 @@ module _ {all : Bool} {l : ℕ} {c o : List ℕ} {n m : ℕ} {mid out : List ℕ
           done = Q .done ++ b;
           wrote = written-more (Q .wrote) b new t (omega arith) en et;
           low = omega (arith, Q .low);
-          goes = sym (ap (contextText k (Q .done)) step ∙ text-more k (A L h .name) (Q .done) (A L h .v) (merged all es gs) b (entry-text L h z e bs)) ∙ Q .goes;
+          goes = sym (ap (contextText k (Q .done)) step ∙ text-more k (A L h .name) (Q .done) (A L h .x) (merged all es gs) b (entry-text L h z e bs)) ∙ Q .goes;
         }
 
   module _ {x y : ℕ} (X : Seen c n at i x) (Y : Seen o m bt j y) where
@@ -242,7 +242,7 @@ module _ {all : Bool} {l : ℕ} {c o : List ℕ} {n m : ℕ} {mid out : List ℕ
           let named : x ≡ E .name = left-name L own-more X (omega (arith, Y .1 .0)) in
           let f : From (suc (E .name)) (Q .gs) = subst (λ (q : ℕ). From (suc q) (Q .gs)) named (left-above (Q .left-o) Y x h) in
           entry-joined L own-more z e (left-next L own-more z e) (Q .left-o) (omega arith)
-          (ap (λ q. merged all q (Q .gs)) (E .is) ∙ merged-own all (E .name) (E .v) (E .more) (Q .gs) f)
+          (ap (λ q. merged all q (Q .gs)) (E .is) ∙ merged-own all (E .name) (E .x) (E .more) (Q .gs) f)
 
     -- ---- a name that only the other has
     module _ (h : y < x) where
@@ -264,7 +264,7 @@ module _ {all : Bool} {l : ℕ} {c o : List ℕ} {n m : ℕ} {mid out : List ℕ
             → Joining all l c o n m mid new at i (bt + nameWidth + z) (j + 1) t (k + 1)
         new-next a =
             entry-joined (Q .left-o) new-more z e (Q .left-c) (left-next (Q .left-o) new-more z e) (omega arith)
-            (ap (merged all (Q .es)) (O .is) ∙ merged-new all (O .name) (O .v) (Q .es) (O .more) a own-above (O .from))
+            (ap (merged all (Q .es)) (O .is) ∙ merged-new all (O .name) (O .x) (Q .es) (O .more) a own-above (O .asc))
 
         -- or passed over
         pub new-passed : all ≡ false → Joining all l c o n m mid out at i (bt + nameWidth + z) (j + 1) to k
@@ -278,7 +278,7 @@ module _ {all : Bool} {l : ℕ} {c o : List ℕ} {n m : ℕ} {mid out : List ℕ
               done = Q .done;
               wrote = Q .wrote;
               low = omega (arith, Q .low);
-              goes = sym (ap (contextText k (Q .done)) (ap (merged all (Q .es)) (O .is) ∙ merged-passed all (O .name) (O .v) (Q .es) (O .more) a own-above)) ∙ Q .goes;
+              goes = sym (ap (contextText k (Q .done)) (ap (merged all (Q .es)) (O .is) ∙ merged-passed all (O .name) (O .x) (Q .es) (O .more) a own-above)) ∙ Q .goes;
             }
 
     module _ (lo : y ≤ x) (hi : x ≤ y) where
@@ -303,7 +303,7 @@ module _ {all : Bool} {l : ℕ} {c o : List ℕ} {n m : ℕ} {mid out : List ℕ
             let q : y ≡ G .name = left-name (Q .left-o) both-o Y (omega (arith, below-end)) in
             let same : E .name ≡ G .name = omega arith in
             entry-joined (Q .left-o) both-o z e (left-next (Q .left-c) both-c u f) (left-next (Q .left-o) both-o z e) (omega arith)
-            (ap₂ (merged all) (E .is ∙ ap (λ (r : ℕ). entry r (E .v) (E .more)) same) (G .is) ∙ merged-both all (G .name) (E .v) (G .v) (E .more) (G .more) (G .from))
+            (ap₂ (merged all) (E .is ∙ ap (λ (r : ℕ). entry r (E .x) (E .more)) same) (G .is) ∙ merged-both all (G .name) (E .x) (G .x) (E .more) (G .more) (G .asc))
 
       -- ---- both at their end
       pub joining-done : x ≡ nameEnd → (p q : ℕ) → p ≡ k % 256 → q ≡ k / 256 → (old new : List ℕ) → mid ≡ fill (take 3 c) old → new ≡ fill (11 ∷ p ∷ q ∷ []) out

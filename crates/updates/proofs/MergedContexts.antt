@@ -19,7 +19,8 @@ use Rattle.updates.specs.Update.{insert, zip, overwrite}
 use Rattle.updates.specs.Writing.{merged}
 use Rattle.updates.specs.Laws.{otherOrOwn, otherIfOwn}
 use Rattle.updates.proofs.InsertedEntries.{value-insert, value-insert-other, well-insert, count-insert}
-use Rattle.values.proofs.EntriesAt.{wf-lower, From}
+use Rattle.values.proofs.Reading.{From}
+use Rattle.values.proofs.EntriesAt.{wf-lower}
 
 -- ---- the value of a name, by the other's and one's own
 abbrev chosen : Bool → Option Val → Option Val → Option Val

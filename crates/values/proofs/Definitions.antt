@@ -9,8 +9,7 @@ use mathlib.Core.Bool.{Bool, true, _&&_}
 use mathlib.Core.Option.{some}
 use mathlib.Core.List.{List}
 use native.Mathlib.Omega.{arith}
-use lib.ListN.{length, getD, take, drop, length-drop}
-use lib.Seq.{drop-drop}
+use lib.ListN.{length, getD, take, drop}
 use Rattle.form.specs.Trees.{Ty, no-params, Params, no-parameters, parameter, Val, v-function}
 use Rattle.form.specs.Limits.{nameWidth}
 use Rattle.form.specs.Read.{readT}
@@ -26,7 +25,7 @@ use Rattle.order.proofs.Bools.{and-assoc}
 use Rattle.types.specs.At.{typeAt, Sig, sig, cons, funOf, sizeSig, sigAt, sizeAt, Ok}
 use Rattle.types.specs.Conform.{Conform, judge, conformBy, addSizes, Met}
 use Rattle.types.proofs.Reading.{seen-got, got-seen, ok-got, is-ok, is-fun, t-good, size-cons, size-fun, result}
-use Rattle.types.proofs.Entries.{step, size-got}
+use Rattle.types.proofs.Entries.{size-got}
 use Rattle.types.proofs.ParametersInStep.{param-at}
 use Rattle.types.proofs.ByCommand.{sig-count}
 use Rattle.types.proofs.Forward as forward
@@ -35,7 +34,7 @@ use Rattle.types.proofs.SortedNames.{readable-type}
 use Rattle.types.proofs.Pairs.{mapO, mapO-same, both, no-when, mapped, grown-on, met-yes, met-no, met-as, Pair, MetAt, pair, pair-no, pair-in}
 use Rattle.values.specs.At.{valueAt, Definition, definition, sizeDefinition, definitionAt}
 use Rattle.values.specs.Held.{held, definitionConforms, heldDefinition}
-use Rattle.values.proofs.Reading.{paramsAt, definition-parts, next-parameter, no-parameter}
+use Rattle.values.proofs.Reading.{paramsAt, definition-parts, ParameterAt, parameter-at, no-parameter}
 use Rattle.values.proofs.ByKind.{definition-is, held-function, counts-differ}
 use Rattle.values.proofs.ValueConformance.{fails}
 
@@ -91,30 +90,12 @@ definition-start l m v t count h o at k =
     }
 
 module _ {l m : ℕ} {whole : Conform} {v t : List ℕ} {count at bt i : ℕ} (I : DefinitionGo l m whole v t count at bt i) where
-  -- an own parameter whose name stands at `at`
-  record Own : Type 0 where
-    pub name : ℕ
-    pub a : Ty
-    pub more : Params
-    pub two : at + nameWidth ≤ length v
-    pub first : typeAt m (drop (at + nameWidth) v) ≡ some a
-    pub second : paramsAt l (count - (i + 1)) (drop (at + nameWidth + size a) v) ≡ some more
-    pub is : I .ps ≡ parameter name a more
+  -- the own parameter whose name stands at `at`
+  own : i < count → ParameterAt l (count - (i + 1)) at v (I .ps)
+  own h = parameter-at l i count at v (I .ps) h (I .read-v)
 
-  own : i < count → Own
-  own h =
-      let g = next-parameter l (count - (i + 1)) (drop at v) (I .ps) (ap (λ k. paramsAt l k (drop at v)) (sym (step i count h)) ∙ I .read-v) in
-      let in-v = I .in-v in
-      let two = simp length-drop at (g .two) in
-      record {
-        name = g .name;
-        a = g .t;
-        more = g .more;
-        two = omega arith;
-        first = type-up l m (drop (at + nameWidth) v) (g .t) (I .more) (ap (typeAt l) (sym (drop-drop nameWidth at v)) ∙ g .first);
-        second = ap (paramsAt l (count - (i + 1))) (sym (drop-drop (size (g .t)) (at + nameWidth) v) ∙ ap (drop (size (g .t))) (sym (drop-drop nameWidth at v))) ∙ g .second;
-        is = g .is;
-      }
+  own-first : (h : i < count) → typeAt m (drop (at + nameWidth) v) ≡ some (own h .x)
+  own-first h = type-up l m (drop (at + nameWidth) v) (own h .x) (I .more) (own h .first)
 
   pub name-there : i < count → at + nameWidth ≤ length v
   name-there h = own h .two
@@ -124,20 +105,21 @@ module _ {l m : ℕ} {whole : Conform} {v t : List ℕ} {count at bt i : ℕ} (I
     param-apart w z u = met-no 0 u (ap (addSizes 4 2) (I .goes ∙ ap (addSizes at bt) (no-when sizeParams sizeSig (left-conforms (I .r)) (some (I .ps)) (sigAt m (count - i) (drop bt t)) (λ qs f e g.
         let A = own h in
         let B = param-at m i count bt t f h (I .in-t) g in
-        ap₂ (left-conforms (I .r)) (sym (same-tree e) ∙ A .is) (B .is) ∙ left-cons (I .r) (A .name) (A .a) (A .more) (B .t) (B .more)
-        ∙ ap (λ q. q && left-conforms (I .r) (A .more) (B .more)) (pair-no (readable-type m) (readable-type m) (le fixed) v (at + nameWidth) t bt x y w z (A .a) (B .t) (A .first) (B .first)))))) refl
+        ap₂ (left-conforms (I .r)) (sym (same-tree e) ∙ A .is) (B .is) ∙ left-cons (I .r) (A .name) (A .x) (A .more) (B .t) (B .more)
+        ∙ ap (λ q. q && left-conforms (I .r) (A .more) (B .more)) (pair-no (readable-type m) (readable-type m) (le fixed) v (at + nameWidth) t bt x y w z (A .x) (B .t) (own-first h)
+        (B .first)))))) refl
 
     module _ (P : Pair (readable-type m) (readable-type m) (le fixed) v (at + nameWidth) t bt x y) where
       pub param-fits : (at + nameWidth + x ≤ length v) × (bt + y ≤ length t)
       param-fits = pair-in (readable-type m) (readable-type m) (le fixed) v (at + nameWidth) t bt x y (own h .two) (I .in-t) P
 
       pub param-turn : DefinitionGo l m whole v t count (at + nameWidth + x) (bt + y) (i + 1)
-      unfolding sizeParams mapO
+      unfolding sizeParams mapO paramsAt
       param-turn =
           let A = own h in
           let S = sigAt m (count - (i + 1)) (drop (bt + y) t) in
-          let a : P .x ≡ A .a = same-tree (sym (P .read-a) ∙ A .first) in
-          let xa : x ≡ size (A .a) = P .size-a ∙ ap size a in
+          let a : P .x ≡ A .x = same-tree (sym (P .read-a) ∙ own-first h) in
+          let xa : x ≡ size (A .x) = P .size-a ∙ ap size a in
           let e : sigAt m (count - i) (drop bt t) ≡ mapO (cons (P .y)) S = param-on m i count bt t (P .y) h (P .read-b)
           ∙ ap (λ k. mapO (cons (P .y)) (sigAt m (count - (i + 1)) (drop (bt + k) t))) (sym (P .size-b)) in
           let o : at + (nameWidth + x) ≡ at + nameWidth + x = omega arith in
@@ -151,8 +133,8 @@ module _ {l m : ℕ} {whole : Conform} {v t : List ℕ} {count at bt i : ℕ} (I
             read-r = I .read-r;
             read-v = ap (λ k. paramsAt l (count - (i + 1)) (drop (at + nameWidth + k) v)) xa ∙ A .second;
             goes = I .goes ∙ ap (addSizes at bt) (ap₂ (conformBy sizeParams sizeSig (left-conforms (I .r))) (ap some (A .is)) e
-                ∙ mapped sizeParams sizeSig (left-conforms (I .r)) sizeParams sizeSig (left-conforms (I .r)) (parameter (A .name) (A .a)) (cons (P .y)) (nameWidth + x) y (some (A .more)) S
-                (λ qs f p q. left-cons (I .r) (A .name) (A .a) qs (P .y) f ∙ ap (λ b. b && left-conforms (I .r) qs f) (ap (λ k. le fixed k (P .y)) (sym a) ∙ P .holds)) (λ qs p. omega (arith, xa))
+                ∙ mapped sizeParams sizeSig (left-conforms (I .r)) sizeParams sizeSig (left-conforms (I .r)) (parameter (A .name) (A .x)) (cons (P .y)) (nameWidth + x) y (some (A .more)) S
+                (λ qs f p q. left-cons (I .r) (A .name) (A .x) qs (P .y) f ∙ ap (λ b. b && left-conforms (I .r) qs f) (ap (λ k. le fixed k (P .y)) (sym a) ∙ P .holds)) (λ qs p. omega (arith, xa))
                 (λ f. omega (arith, size-cons (P .y) f, P .size-b)))
                 ∙ grown-on at bt (nameWidth + x) y (conformBy sizeParams sizeSig (left-conforms (I .r)) (some (A .more)) S)
                 ∙ ap (λ k. addSizes k (bt + y) (conformBy sizeParams sizeSig (left-conforms (I .r)) (some (A .more)) S)) o;

@@ -1,10 +1,9 @@
 -- The entries of a context, as they are read, and their test against those of a type, name by name: what the laws of two ascending lists in step ask for.
--- Index: `Above`, `entries-run`, `entries-tests` (for SortedNames of crate `types`); `entries-none`, `entries-left`, `entries-low` (no entries, no level).
+-- Index: `entries-run`, `entries-tests` (for SortedNames of crate `types`); `entries-none`, `entries-left`, `entries-low` (no entries, no level).
 -- Assumes nothing.
-use Prim.Native.Nat.{ℕ, zero, suc, _-_, _<_, _≤_}
-use mathlib.Core.Path.{_≡_, refl, sym, ap, ap₂, _∙_}
+use Prim.Native.Nat.{ℕ, suc, _<_, _≤_}
+use mathlib.Core.Path.{_≡_, refl, ap, ap₂, _∙_}
 use mathlib.Core.Bool.{false, cond, _&&_}
-use mathlib.Core.Option.{some}
 use mathlib.Core.List.{List}
 use native.Mathlib.Omega.{arith}
 use lib.ListN.{drop}
@@ -24,25 +23,18 @@ use Rattle.types.proofs.Pairs.{no-when, met-no}
 use Rattle.types.proofs.SortedNames.{Run, Tests, named-on, NamesGo, names-start, names-left, names-done}
 use Rattle.values.specs.At.{valueAt, entriesAt}
 use Rattle.values.specs.Held.{entriesConform, heldEntries}
-use Rattle.values.proofs.Reading.{value-told, some-level, next-entry, no-entry}
+use Rattle.values.proofs.Reading.{From, Above, value-told, some-level}
+use Rattle.values.proofs.EntriesAt.{this}
 use Rattle.values.proofs.ValueConformance.{readable-value}
-
--- no name below k is there
-abbrev pub Above : Entries → ℕ → Type 0
-Above es k = (m : ℕ) (u : Ty) → m < k → hasValue fixed es m u ≡ false
 
 has-other : (n : ℕ) (x : Val) (es : Entries) (m : ℕ) (u : Ty) → (m ≡ n → ⊥) → hasValue fixed (entry n x es) m u ≡ hasValue fixed es m u
 unfolding conforms
 has-other n x es m u d = ap (λ q. cond q (conforms fixed x u) (hasValue fixed es m u)) (ne-eqb m n d)
 
-above : (l n least : ℕ) (s : List ℕ) (es : Entries) → entriesAt l n least s ≡ some es → Above es least
-unfolding conforms
-above l zero least s es e m u h = ap (λ z. hasValue fixed z m u) (no-entry l least s es e)
-above l (suc n) least s es e m u h =
-    let g = next-entry l n least s es e in
-    let a = g .above in
-    ap (λ z. hasValue fixed z m u) (g .is) ∙ has-other (g .name) (g .v) (g .more) m u (λ z. omega arith)
-    ∙ above l n (suc (g .name)) (drop (sizeVal (g .v)) (drop nameWidth s)) (g .more) (g .second) m u (omega arith)
+absent : (es : Entries) (k m : ℕ) (u : Ty) → From k es → m < k → hasValue fixed es m u ≡ false
+unfolding conforms From
+absent no-entries k m u f h = refl
+absent (entry n x es) k m u f h = has-other n x es m u (λ e. omega (arith, f .0)) ∙ absent es k m u (f .1) h
 
 pub entries-run : (l : ℕ) → Run sizeVal sizeEntries (valueAt l) (entriesAt l) no-entries entry Above
 unfolding sizeVal valueAt entriesAt seen readNamed
@@ -52,18 +44,7 @@ entries-run l = record {
   size-cons = λ n x es. refl;
   none = λ least s. refl;
   on = λ n least s x w h e. named-on sizeVal no-entries entry (readV l) (λ r y m f. value-told l r y m f .sized) n least s x w h e;
-  back = λ n least s es e. let E = next-entry l n least s es e in record {
-    name = E .name;
-    x = E .v;
-    more = E .more;
-    two = E .two;
-    named = E .named;
-    above = E .above;
-    first = E .first;
-    is = E .is;
-    asc = above l n (suc (E .name))
-        (drop (sizeVal (E .v)) (drop nameWidth s)) (E .more) (E .second);
-  };
+  back = this l;
 }
 
 -- a name smaller than all that are asked for does not matter
@@ -78,7 +59,7 @@ entries-tests = record {
   done = refl;
   left = λ m u fs. refl;
   first = λ n x es fs w. skipped n x es fs (suc n) w (omega arith);
-  missing = λ n x es m u fs w h. ap (λ z. z && entriesConform (entry n x es) fs) (has-other n x es m u (λ e. omega arith) ∙ w m u (omega arith));
+  missing = λ n x es m u fs w h. ap (λ z. z && entriesConform (entry n x es) fs) (has-other n x es m u (λ e. omega arith) ∙ absent es (suc n) m u w (omega arith));
   common = λ n x u es fs w. ap₂ (λ q z. cond q (conforms fixed x u) (hasValue fixed es n u) && z) (eq-eqb n n refl) (skipped n x es fs (suc n) w (omega arith));
 }
 
@@ -95,6 +76,5 @@ module _ (l m : ℕ) (v : List ℕ) (n : ℕ) (t : List ℕ) (k : ℕ) where
 
   pub entries-low : (0 ≡ n → ⊥) → l ≡ 0 → (u : ℕ) → Met (addSizes 3 3 (heldEntries (entriesAt l n 0 v) (fieldsAt m k 0 t))) 0 u
   entries-low z e u = met-no 0 u (ap (addSizes 3 3) (no-when sizeEntries sizeFields entriesConform (entriesAt l n 0 v) (fieldsAt m k 0 t) (λ es fs f g.
-      let o : n ≡ suc (n - 1) = omega (arith, z) in
-      let E = next-entry l (n - 1) 0 v es (ap (λ j. entriesAt l j 0 v) (sym o) ∙ f) in
-      absurd (omega (arith, some-level l (drop nameWidth v) (E .v) (E .first)))))) refl
+      let E = this l 0 n 0 0 v es (omega (arith, z)) (ap (λ j. entriesAt l j 0 v) (omega arith) ∙ f) in
+      absurd (omega (arith, some-level l (drop nameWidth v) (E .x) (E .first)))))) refl

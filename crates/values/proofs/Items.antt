@@ -16,13 +16,12 @@ use Rattle.order.specs.Values.{conforms, allConform}
 use Rattle.order.specs.Inferred.{valueConformsTo}
 use Rattle.types.specs.At.{typeAt, sizeAt}
 use Rattle.types.specs.Conform.{Conform, conformBy, addSizes, Met}
-use Rattle.types.proofs.Entries.{step}
 use Rattle.types.proofs.SortedNames.{readable-type}
 use Rattle.types.proofs.TypeConformance.{sized-part, unsized-part}
 use Rattle.types.proofs.Pairs.{mapO, mapO-same, both, no-when, mapped, grown-on, grown-none, met-yes, met-no, Sized, Pair, MetAt, pair-no, pair-in}
 use Rattle.values.specs.At.{itemsAt}
 use Rattle.values.specs.Held.{heldItems}
-use Rattle.values.proofs.Reading.{next-item}
+use Rattle.values.proofs.Reading.{nth}
 use Rattle.values.proofs.Forward.{item-on, items-gone}
 use Rattle.values.proofs.ValueConformance.{readable-value}
 
@@ -52,9 +51,9 @@ module _ {l m : ℕ} {whole : Conform} {v : List ℕ} {n : ℕ} {t : List ℕ} {
     pub items-apart : MetAt (readable-value l) (readable-type m) valueConformsTo v at t 0 r s → r ≡ 0 → (u : ℕ) → Met (addSizes 3 1 whole) 0 u
     unfolding conforms
     items-apart w z u = met-no 0 u (ap (addSizes 3 1) (I .goes ∙ ap (addSizes at 0) (no-when sizeVals size (allConform fixed) (itemsAt l (n - i) (drop at v)) (typeAt m t) (λ vs y e f.
-        let A = next-item l (n - (i + 1)) (drop at v) vs (ap (λ k. itemsAt l k (drop at v)) (sym (step i n h)) ∙ e) in
+        let A = nth l i n at v vs h (I .in-v) e in
         ap (λ x. allConform fixed x y) (A .is)
-        ∙ ap (λ q. q && allConform fixed (A .more) y) (pair-no (readable-value l) (readable-type m) valueConformsTo v at t 0 r s w z (A .v) y (A .first) f))))) refl
+        ∙ ap (λ q. q && allConform fixed (A .more) y) (pair-no (readable-value l) (readable-type m) valueConformsTo v at t 0 r s w z (A .x) y (A .first) f))))) refl
 
     module _ (P : Pair (readable-value l) (readable-type m) valueConformsTo v at t 0 r s) where
       pub items-fit : at + r ≤ length v

@@ -1,8 +1,9 @@
 -- What stands at the front of the bytes of a value says of its parts, that the names of a context ascend, and that it ends within the bytes.
 -- Idea: one induction on the reader (`value-told`); the parts by the command (`IsVal`).
--- Index: `value-told`, `v-inside`, `items-inside`, `entries-inside`, `definition-inside` (size and end); `IsVal`, `is-val`, `as-leaf`, `as-null`, `as-range`, `as-list`,
--- `as-context`, `as-definition`, `as-built-in`, `as-type` (by the command); `next-item`, `no-item`, `next-entry`, `no-entry`, `definition-parts`, `next-parameter`,
--- `no-parameter` (runs); `skip-is`, `skip-end`, `skip-short`, `size-got` (what `skip` answers); `encoded`, `front-text` (the bytes).
+-- Index: `From`, `Above`, `from-none`, `from-entry`, `from-less` (names); `value-told`, `v-inside`, `items-inside`, `entries-inside`, `definition-inside` (size and end);
+-- `IsVal`, `is-val`, `as-leaf`, `as-null`, `as-range`, `as-list`, `as-context`, `as-definition`, `as-built-in`, `as-type` (by the command); `Nth`, `first-item`, `nth`, `no-nth`,
+-- `next-item`, `no-item`, `next-entry`, `no-entry`, `definition-parts`, `ParameterAt`, `first-parameter`, `parameter-at`, `next-parameter`, `no-parameter` (runs);
+-- `skip-is`, `skip-end`, `skip-short`, `size-got` (what `skip` answers); `encoded`, `front-text` (the bytes).
 -- Assumes nothing.
 use Prim.Native.Nat.{ℕ, zero, suc, _+_, _-_, _<_, _≤_}
 use mathlib.Core.Path.{_≡_, refl, sym, ap, subst, _∙_}
@@ -25,85 +26,89 @@ use Rattle.form.specs.Read.{Got, got, bad, andThen, readRun, readNamed, readT, 
 use Rattle.form.proofs.WalkAnswers.{short-end}
 use Rattle.form.proofs.CommandKinds.{kind-temporal, width-is}
 use Rattle.form.proofs.ValueLaws.{leaf-level}
-use Rattle.form.proofs.Exact.{got-parts, then-parts, Found}
+use Rattle.form.proofs.Exact.{then-parts, Found}
 use Rattle.form.proofs.Nodes.{item-parts, named-parts, NodeV, nNull, nBoolean, nNumber, nString, nTemporal, nRangeV, nListV, nContextV, nDefinition, nBuiltIn, nType, nIrrelevant, value-read, node-of}
+use Rattle.order.specs.Ascending.{Asc}
 use Rattle.order.specs.Size.{size, sizeParams, sizeVal, sizeVals, sizeEntries}
 use Rattle.order.specs.Values.{leafType}
 use Rattle.order.proofs.Simple.{temporal-code}
 use Rattle.types.specs.At.{seen, typeAt}
-use Rattle.types.proofs.Reading as types
-use Rattle.types.proofs.Reading.{seen-got, got-seen, then-got}
+use Rattle.types.proofs.Reading.{seen-got, got-seen, Told, Tells, RunSizes, run-told, NamedSizes, named-told, type-told, then-got}
+use Rattle.types.proofs.Entries.{step}
+use Rattle.types.proofs.ChildAt.{ItemAt, item-at, EntryAt, entry-at, none-at}
 use Rattle.values.specs.At.{valueAt, itemsAt, entriesAt, Definition, definition, sizeDefinition, definitionAt, sizeAtV}
 use lib.Seq.{take-at}
 use Rattle.form.proofs.ExactValues.{enc-readV, code-decode}
 use Rattle.order.proofs.LeastSize.{length-encV}
 
--- ---- the sizes that the reader gives are those of the trees, and all ends within the bytes
-pub record Told {X : Type 0} (sz : X → ℕ) (s : List ℕ) (x : X) (n : ℕ) : Type 0 where
-  pub sized : n ≡ sz x
-  pub inside : n ≤ length s
+-- ---- names of entries, at least k
+unfoldable pub From : ℕ → Entries → Type 0
+From k no-entries = Unit {0}
+From k (entry n v es) = (k ≤ n) × From k es
 
-told-as : {X : Type 0} {sz : X → ℕ} {s : List ℕ} {x y : X} {n m : ℕ} → x ≡ y → n ≡ m → Told sz s x n → Told sz s y m
-told-as p q f = rw (← p, ← q) f
+abbrev pub Above : Entries → ℕ → Type 0
+Above es k = From k es
 
-abbrev Tells : {X : Type 0} → (X → ℕ) → (List ℕ → Got X) → Type 0
-Tells {X} sz read = (s : List ℕ) (x : X) (n : ℕ) → read s ≡ got x n → Told sz s x n
+pub from-none : (k : ℕ) → From k no-entries
+unfolding From
+from-none k = tt
 
-type-told : (l : ℕ) → Tells size (readT l)
-type-told l s t n e = let F = types.type-told l s t n e in record { sized = F .sized; inside = F .inside }
+pub from-entry : (k n : ℕ) (v : Val) (es : Entries) → k ≤ n → From k es → From k (entry n v es)
+unfolding From
+from-entry k n v es h f = (h, f)
 
-params-told : (l c least : ℕ) → Tells sizeParams (readParams (readT l) c least)
-unfolding readNamed sizeParams
-params-told l zero least s x n e = got-parts no-parameters x 0 n e (λ p q. told-as p q (record { sized = refl; inside = omega arith }))
-params-told l (suc c) least s z n e =
-    named-parts no-parameters parameter anyOrder (readT l) c least s z n e (λ w h x m px y j py pz pn.
-    let F = type-told l (drop nameWidth s) x m px in
-    let G = params-told l c 0 (drop m (drop nameWidth s)) y j py in
-    told-as pz refl (record { sized = omega (arith, F .sized, G .sized); inside = omega (arith, simp length-drop at (F .inside), simp (length-drop, length-drop) at (G .inside)) }))
+pub from-less : (k j : ℕ) (es : Entries) → j ≤ k → From k es → From j es
+unfolding From
+from-less k j no-entries h f = tt
+from-less k j (entry n v es) h f = (omega (arith, f .0), from-less k j es h (f .1))
 
-module _ (child : List ℕ → Got Val) (ih : Tells sizeVal child) where
-  items-told : (c : ℕ) → Tells sizeVals (readVals child c)
-  unfolding readRun sizeVal
-  items-told zero s x n e = got-parts no-items x 0 n e (λ p q. told-as p q (record { sized = refl; inside = omega arith }))
-  items-told (suc c) s z n e =
-      item-parts no-items item child c s z n e (λ x m px y j py pz pn.
-      let F = ih s x m px in
-      let G = items-told c (drop m s) y j py in
-      told-as pz refl (record { sized = omega (arith, F .sized, G .sized); inside = omega (arith, F .inside, simp length-drop at (G .inside)) }))
+-- ---- the sizes that the reader gives are those of the trees, names ascend, and all ends within the bytes
+-- nothing is asked of a child's own names
+abbrev Free : {X : Type 0} → X → Type 0
+Free x = Unit {0}
 
-  entries-told : (c least : ℕ) → Tells sizeEntries (readEntries child c least)
-  unfolding readNamed sizeVal
-  entries-told zero least s x n e = got-parts no-entries x 0 n e (λ p q. told-as p q (record { sized = refl; inside = omega arith }))
-  entries-told (suc c) least s z n e =
-      named-parts no-entries entry ascending child c least s z n e (λ w h x m px y j py pz pn.
-      let F = ih (drop nameWidth s) x m px in
-      let G = entries-told c (num (take nameWidth s) + 1) (drop m (drop nameWidth s)) y j py in
-      told-as pz refl (record { sized = omega (arith, F .sized, G .sized); inside = omega (arith, simp length-drop at (F .inside), simp (length-drop, length-drop) at (G .inside)) }))
+params-sizes : NamedSizes size Asc no-parameters parameter anyOrder anyOrder sizeParams (λ ps k. Free ps)
+unfolding sizeParams
+params-sizes = record { size-nil = refl; size-cons = λ m t ps. refl; goes-on = λ m. refl; asc-nil = λ k. tt; asc-cons = λ k m t ps h p q. tt }
 
-value-step : {j : ValueKind} (left : ℕ) (s : List ℕ) → Tells sizeVal (readV left) → 0 < length s → (v : Val) (n : ℕ) → NodeV left s j v n → Told sizeVal s v n
+items-sizes : RunSizes sizeVal Free no-items item sizeVals Free
 unfolding sizeVal
-value-step left s ih h v n (nNull c k x) = record { sized = refl; inside = k }
-value-step left s ih h v n (nBoolean c k x) = record { sized = refl; inside = k }
-value-step left s ih h v n (nNumber c k) = record { sized = refl; inside = k }
-value-step left s ih h v n (nString c k) = record { sized = refl; inside = k }
-value-step left s ih h v n (nTemporal c d k) = record { sized = refl; inside = k }
+items-sizes = record { size-nil = refl; size-cons = λ v vs. refl; asc-nil = tt; asc-cons = λ v vs p q. tt }
+
+pub entries-sizes : NamedSizes sizeVal Free no-entries entry ascending suc sizeEntries Above
+unfolding sizeVal
+entries-sizes = record {
+  size-nil = refl;
+  size-cons = λ m v es. refl;
+  goes-on = add-one;
+  asc-nil = from-none;
+  asc-cons = λ k m v es h p q. from-entry k m v es h (from-less (suc m) k es (omega arith) q);
+}
+
+value-step : {j : ValueKind} (left : ℕ) (s : List ℕ) → Tells sizeVal Free (readV left) → 0 < length s → (v : Val) (n : ℕ) → NodeV left s j v n → Told sizeVal Free s v n
+unfolding sizeVal
+value-step left s ih h v n (nNull c k x) = record { sized = refl; ascend = tt; inside = k }
+value-step left s ih h v n (nBoolean c k x) = record { sized = refl; ascend = tt; inside = k }
+value-step left s ih h v n (nNumber c k) = record { sized = refl; ascend = tt; inside = k }
+value-step left s ih h v n (nString c k) = record { sized = refl; ascend = tt; inside = k }
+value-step left s ih h v n (nTemporal c d k) = record { sized = refl; ascend = tt; inside = k }
 value-step left s ih h v n (nRangeV c k x y a m p b j q) =
     let F = ih (drop 3 s) a m p in
     let G = ih (drop m (drop 3 s)) b j q in
-    record { sized = omega (arith, F .sized, G .sized); inside = omega (arith, simp length-drop at (F .inside), simp (length-drop, length-drop) at (G .inside)) }
-value-step left s ih h v n (nListV c k vs m p) = let F = items-told (readV left) ih (numAt 2 1 s) (drop 3 s) vs m p in record
-    { sized = omega (arith, F .sized); inside = omega (arith, simp length-drop at (F .inside)) }
-value-step left s ih h v n (nContextV c k es m p) = let F = entries-told (readV left) ih (numAt 2 1 s) 0 (drop 3 s) es m p in record
-    { sized = omega (arith, F .sized); inside = omega (arith, simp length-drop at (F .inside)) }
+    record { sized = omega (arith, F .sized, G .sized); ascend = tt; inside = omega (arith, simp length-drop at (F .inside), simp (length-drop, length-drop) at (G .inside)) }
+value-step left s ih h v n (nListV c k vs m p) = let F = run-told items-sizes (readV left) ih (numAt 2 1 s) (drop 3 s) vs m p in record
+    { sized = omega (arith, F .sized); ascend = tt; inside = omega (arith, simp length-drop at (F .inside)) }
+value-step left s ih h v n (nContextV c k es m p) = let F = named-told entries-sizes (readV left) ih (numAt 2 1 s) 0 (drop 3 s) es m p in record
+    { sized = omega (arith, F .sized); ascend = tt; inside = omega (arith, simp length-drop at (F .inside)) }
 value-step left s ih h v n (nDefinition c k t m p ps j q) =
     let F = type-told left (drop 4 s) t m p in
-    let G = params-told left (getD s 1 0) 0 (drop m (drop 4 s)) ps j q in
-    record { sized = omega (arith, F .sized, G .sized); inside = omega (arith, simp length-drop at (F .inside), simp (length-drop, length-drop) at (G .inside)) }
-value-step left s ih h v n (nBuiltIn c k x) = record { sized = refl; inside = k }
-value-step left s ih h v n (nType c t m p) = let F = type-told left (drop 1 s) t m p in record { sized = omega (arith, F .sized); inside = omega (arith, simp length-drop at (F .inside)) }
-value-step left s ih h v n (nIrrelevant c) = record { sized = refl; inside = omega arith }
+    let G = named-told params-sizes (readT left) (type-told left) (getD s 1 0) 0 (drop m (drop 4 s)) ps j q in
+    record { sized = omega (arith, F .sized, G .sized); ascend = tt; inside = omega (arith, simp length-drop at (F .inside), simp (length-drop, length-drop) at (G .inside)) }
+value-step left s ih h v n (nBuiltIn c k x) = record { sized = refl; ascend = tt; inside = k }
+value-step left s ih h v n (nType c t m p) = let F = type-told left (drop 1 s) t m p in record { sized = omega (arith, F .sized); ascend = tt; inside = omega (arith, simp length-drop at (F .inside)) }
+value-step left s ih h v n (nIrrelevant c) = record { sized = refl; ascend = tt; inside = omega arith }
 
-pub value-told : (l : ℕ) → Tells sizeVal (readV l)
+pub value-told : (l : ℕ) → Tells sizeVal Free (readV l)
 value-told zero s v n e = absurd (let h = value-read zero s v n e .some-level in omega arith)
 value-told (suc l) s v n e =
     let R = value-read (suc l) s v n e in
@@ -252,13 +257,28 @@ next-item l n s vs e =
       is = sym pz;
     }))
 
+-- the item that stands at `at`, of which n follow
+abbrev pub Nth : (l n at : ℕ) → List ℕ → Vals → Type 0
+Nth l n at s vs = ItemAt sizeVal sizeVals (valueAt l) (itemsAt l) item n at s vs
+
+pub first-item : (l n at : ℕ) (s : List ℕ) (vs : Vals) → at ≤ length s → itemsAt l (suc n) (drop at s) ≡ some vs → Nth l n at s vs
+unfolding itemsAt valueAt
+first-item l n at s vs h e = item-at items-sizes (readV l) (value-told l) n at s vs h e
+
+pub nth : (l i n at : ℕ) (s : List ℕ) (vs : Vals) → i < n → at ≤ length s → itemsAt l (n - i) (drop at s) ≡ some vs → Nth l (n - (i + 1)) at s vs
+nth l i n at s vs h k e = first-item l (n - (i + 1)) at s vs k (ap (λ z. itemsAt l z (drop at s)) (sym (step i n h)) ∙ e)
+
+pub no-nth : (l i n at : ℕ) (s : List ℕ) (vs : Vals) → n ≤ i → itemsAt l (n - i) (drop at s) ≡ some vs → vs ≡ no-items
+unfolding itemsAt seen readRun
+no-nth l i n at s vs h e = none-at no-items vs (λ k. itemsAt l k (drop at s)) i n refl h e
+
 pub no-item : (l : ℕ) (s : List ℕ) (vs : Vals) → itemsAt l 0 s ≡ some vs → vs ≡ no-items
 unfolding itemsAt seen readRun
 no-item l s vs e = cc
 
 pub items-inside : (l n : ℕ) (s : List ℕ) (vs : Vals) → itemsAt l n s ≡ some vs → sizeVals vs ≤ length s
 unfolding itemsAt
-items-inside l n s vs e = seen-got (readVals (readV l) n s) vs e (λ m r. let F = items-told (readV l) (value-told l) n s vs m r in omega (arith, F .sized, F .inside))
+items-inside l n s vs e = seen-got (readVals (readV l) n s) vs e (λ m r. let F = run-told items-sizes (readV l) (value-told l) n s vs m r in omega (arith, F .sized, F .inside))
 
 -- ---- entries
 pub record Entry (l n least : ℕ) (s : List ℕ) (es : Entries) : Type 0 where
@@ -298,7 +318,8 @@ no-entry l least s es e = cc
 
 pub entries-inside : (l n least : ℕ) (s : List ℕ) (es : Entries) → entriesAt l n least s ≡ some es → sizeEntries es ≤ length s
 unfolding entriesAt
-entries-inside l n least s es e = seen-got (readEntries (readV l) n least s) es e (λ m r. let F = entries-told (readV l) (value-told l) n least s es m r in omega (arith, F .sized, F .inside))
+entries-inside l n least s es e =
+    seen-got (readEntries (readV l) n least s) es e (λ m r. let F = named-told entries-sizes (readV l) (value-told l) n least s es m r in omega (arith, F .sized, F .inside))
 
 -- ---- a definition: the result type, and the parameters behind it
 -- n parameters, in any order
@@ -351,6 +372,17 @@ next-parameter l n s ps e =
       is = sym pz;
     }))
 
+-- the parameter that stands at `at`, of which n follow
+abbrev pub ParameterAt : (l n at : ℕ) → List ℕ → Params → Type 0
+ParameterAt l n at s ps = EntryAt size sizeParams (λ ps k. Free ps) (typeAt l) (λ n k r. seen (readParams (readT l) n k r)) parameter anyOrder n at 0 s ps
+
+pub first-parameter : (l n at : ℕ) (s : List ℕ) (ps : Params) → paramsAt l (suc n) (drop at s) ≡ some ps → ParameterAt l n at s ps
+unfolding paramsAt typeAt
+first-parameter l n at s ps e = entry-at params-sizes (readT l) (type-told l) n at 0 s ps e
+
+pub parameter-at : (l i n at : ℕ) (s : List ℕ) (ps : Params) → i < n → paramsAt l (n - i) (drop at s) ≡ some ps → ParameterAt l (n - (i + 1)) at s ps
+parameter-at l i n at s ps h e = first-parameter l (n - (i + 1)) at s ps (ap (λ z. paramsAt l z (drop at s)) (sym (step i n h)) ∙ e)
+
 pub no-parameter : (l : ℕ) (s : List ℕ) (ps : Params) → paramsAt l 0 s ≡ some ps → ps ≡ no-parameters
 unfolding paramsAt seen readNamed
 no-parameter l s ps e = cc
@@ -361,7 +393,7 @@ definition-inside l n s d e =
     seen-got (andThen definition 0 s (readParams (readT l) n 0) (readT l s)) d e (λ m r.
     then-parts definition 0 s (readParams (readT l) n 0) (readT l s) d m r (λ t k pt ps j pp pz pn.
     let F = type-told l s t k pt in
-    let G = params-told l n 0 (drop k s) ps j pp in
+    let G = named-told params-sizes (readT l) (type-told l) n 0 (drop k s) ps j pp in
     subst (λ d. sizeDefinition d ≤ length s) pz (omega (arith, F .sized, F .inside, G .sized, simp length-drop at (G .inside)))))
 
 -- ---- what `skip` answers

@@ -34,7 +34,7 @@ use Rattle.types.proofs.Short.{Passed, passed, not-passed}
 use Rattle.types.proofs.Pairs.{mapO, both, taken, yes-of, no-when, mapped, met-yes, met-no, met-as, Readable, Sized, Pair}
 use Rattle.values.specs.At.{valueAt, itemsAt, entriesAt, sizeAtV}
 use Rattle.values.specs.Held.{heldBy, held, leafConforms, heldItems, entriesConform, heldEntries}
-use Rattle.values.proofs.Reading.{value-told, some-byte, some-level, v-inside, size-got, next-item, no-item}
+use Rattle.values.proofs.Reading.{value-told, some-byte, some-level, v-inside, size-got, nth, no-nth}
 use Rattle.values.proofs.Forward.{rangeOf, node-range, no-range, node-list, node-context}
 use Rattle.values.proofs.ByKind.{kind, kindAt, kind-plain, kind-other, kind-is, leaf-is, long-is, small-is, kinds-differ, to-any, leaf-null, leaf-same, simple-is, simple-cmd}
 
@@ -290,10 +290,10 @@ met-plain l m v t mp there h k d n room w = go (eqb n 0) refl
 -- ---- ranges, lists, contexts
 two-of : (l : ℕ) (s : List ℕ) (vs : Vals) → itemsAt l 2 s ≡ some vs → (a : Val) × (b : Val) × (vs ≡ item a (item b no-items))
 two-of l s vs e =
-    let A = next-item l 1 s vs e in
-    let B = next-item l 0 (drop (sizeVal (A .v)) s) (A .more) (A .second) in
-    let C = no-item l (drop (sizeVal (B .v)) (drop (sizeVal (A .v)) s)) (B .more) (B .second) in
-    (A .v, B .v, A .is ∙ ap (item (A .v)) (B .is ∙ ap (item (B .v)) C))
+    let A = nth l 0 2 0 s vs (omega arith) (omega arith) e in
+    let B = nth l 1 2 (0 + sizeVal (A .x)) s (A .more) (omega arith) (A .fits) (A .second) in
+    let C = no-nth l 2 2 (0 + sizeVal (A .x) + sizeVal (B .x)) s (B .more) (omega arith) (B .second) in
+    (A .x, B .x, cc)
 
 module _ (l m : ℕ) (v t : List ℕ) (lp : 0 < l) (mp : 0 < m) (three : 3 ≤ length v) (some-t : 0 < length t) (r u : ℕ) where
   pub met-range : getD v 0 0 ≡ 9 → getD t 0 0 ≡ 43 → getD v 1 0 ≤ 3 → getD v 2 0 ≤ 3

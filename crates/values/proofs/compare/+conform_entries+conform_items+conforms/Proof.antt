@@ -43,7 +43,8 @@ use Rattle.values.proofs.ValueConformance.{readable-value, sized-value,
 use Rattle.values.proofs.ValueConformance.{met-any, no-level, no-type, range-apart, list-apart, context-apart, no-interval, no-fields-there}
 use Rattle.values.proofs.ValueConformance.{met-range, met-list, met-context}
 use Rattle.values.proofs.Items.{ItemsGo, items-start, items-apart, items-fit, items-turn, items-done, items-unread, items-none}
-use Rattle.values.proofs.Entries.{Above, entries-run, entries-tests, entries-left, entries-none, entries-low}
+use Rattle.values.proofs.Reading.{Above}
+use Rattle.values.proofs.Entries.{entries-run, entries-tests, entries-left, entries-none, entries-low}
 use borrow.Author.Needs.{needs}
 
 abbrev μ-conform-entries : Measures 3 conform-entries-kinds.ps ℕ
