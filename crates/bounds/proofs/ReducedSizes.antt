@@ -22,10 +22,11 @@ use Rattle.order.specs.Size.{size, sizeFields}
 use Rattle.order.proofs.Size.{size-reduce}
 use Rattle.types.specs.At.{typeAt, fieldsAt, Sig, sig, cons, funOf, sizeSig, sigAt, Ok, sizeAt}
 use Rattle.types.proofs.Reading.{is-ok, ok-got, cmd-is, some-byte, some-level, is-list, is-range, is-ctx, is-fun, t-good, size-fun, size-cons, last-cmd, size-list, size-range, size-ctx}
+use Rattle.types.proofs.ChildAt.{item-behind, entry-behind, entry-ok}
 use Rattle.types.proofs.Entries.{Here, here, gone, size-got, size-field, size-none}
-use Rattle.lattice.proofs.BoundTrees.{countSig, sig-count}
+use Rattle.types.proofs.ByCommand.{count-sig, sig-count}
 use Rattle.lattice.proofs.Branches.{leaf-of}
-use Rattle.types.proofs.Signatures.{Next, next, Last, last}
+use Rattle.types.proofs.Signatures.{Param, param-at, Last, last}
 use Rattle.types.proofs.Reading.{size-result}
 use Rattle.bounds.specs.Measured.{reduceSig, Measured, Roomy}
 
@@ -55,13 +56,13 @@ reduce-context : (fs : Fields) → reduce fixed (built (context fs)) ≡ built (
 unfolding reduce
 reduce-context fs = refl
 
-reduce-none : (f : Sig) → countSig f ≡ 0 → size (reduce fixed (funOf f)) ≡ 3
-unfolding reduce size countSig countTys
+reduce-none : (f : Sig) → count-sig f ≡ 0 → size (reduce fixed (funOf f)) ≡ 3
+unfolding reduce size countTys
 reduce-none (sig no-params r) h = refl
 reduce-none (sig (param t ps) r) h = absurd (omega arith)
 
-reduce-fun : (f : Sig) → (countSig f ≡ 0 → ⊥) → reduce fixed (funOf f) ≡ funOf (reduceSig f)
-unfolding reduce reduceSig countSig countTys
+reduce-fun : (f : Sig) → (count-sig f ≡ 0 → ⊥) → reduce fixed (funOf f) ≡ funOf (reduceSig f)
+unfolding reduce reduceSig countTys
 reduce-fun (sig no-params r) h = absurd (h refl)
 reduce-fun (sig (param t ps) r) h = refl
 
@@ -114,7 +115,7 @@ pub record FunctionAt (l : ℕ) (a : List ℕ) : Type 0 where
   pub two : 2 ≤ length a
   pub read : typeAt l a ≡ some (funOf f)
   pub inner : sigAt (l - 1) (getD a 1 0) (drop 2 a) ≡ some f
-  pub count : countSig f ≡ getD a 1 0
+  pub count : count-sig f ≡ getD a 1 0
 
 module _ (l : ℕ) (a : List ℕ) (p : Ok (typeAt l a)) where
   abbrev K : (t : Ty) × (typeAt l a ≡ some t)
@@ -227,15 +228,12 @@ module _ {l : ℕ} {a : List ℕ} {n at to i : ℕ} (v : EntriesInv l a n at to 
     pub entry-name : at + nameWidth ≤ length a
     entry-name = A .two
 
-    entry-part : typeAt l (behind (at + nameWidth) a) ≡ some (A .x)
-    entry-part = ap (typeAt l) (rest a (at + nameWidth)) ∙ A .first
-
     pub entry-there : Ok (typeAt l (behind (at + nameWidth) a))
-    entry-there = is-ok (typeAt l (behind (at + nameWidth) a)) (A .x) entry-part
+    entry-there = entry-ok A
 
     module _ (r s : ℕ) (m : Measured (reduce fixed) size (typeAt l (behind (at + nameWidth) a)) r s) where
       entry-is : (r ≡ size (A .x)) × (s ≡ size (reduce fixed (A .x)))
-      entry-is = measured-is (reduce fixed) size (typeAt l (behind (at + nameWidth) a)) (A .x) r s entry-part m
+      entry-is = measured-is (reduce fixed) size (typeAt l (behind (at + nameWidth) a)) (A .x) r s (entry-behind A) m
 
       pub entry-ends : (at + nameWidth + r ≤ length a) × (to + nameWidth + s ≤ length a)
       entry-ends = let g = entry-is in (omega (arith, g .0, A .fits), omega (arith, g .1, A .fits, v .low, size-reduce fixed (A .x)))
@@ -298,30 +296,30 @@ parameters-start l a n p = go (ok-got (sigAt l n a) p)
 
 module _ {l : ℕ} {a : List ℕ} {n at to i : ℕ} (v : ParametersInv l a n at to i) where
   module _ (h : i < n) where
-    abbrev N : Next l (n - (i + 1)) at a (v .f)
-    N = next l i n at a (v .f) h (v .within) (v .read)
+    abbrev N : Param l (n - (i + 1)) at a (v .f)
+    N = param-at l i n at a (v .f) h (v .within) (v .read)
 
     pub parameter-there : Ok (typeAt l (behind at a))
-    parameter-there = is-ok (typeAt l (behind at a)) (N .t) (N .first)
+    parameter-there = is-ok (typeAt l (behind at a)) (N .x) (item-behind N)
 
     module _ (r s : ℕ) (m : Measured (reduce fixed) size (typeAt l (behind at a)) r s) where
-      parameter-is : (r ≡ size (N .t)) × (s ≡ size (reduce fixed (N .t)))
-      parameter-is = measured-is (reduce fixed) size (typeAt l (behind at a)) (N .t) r s (N .first) m
+      parameter-is : (r ≡ size (N .x)) × (s ≡ size (reduce fixed (N .x)))
+      parameter-is = measured-is (reduce fixed) size (typeAt l (behind at a)) (N .x) r s (item-behind N) m
 
       pub parameter-ends : (at + r ≤ length a) × (to + s ≤ length a)
-      parameter-ends = let g = parameter-is in (omega (arith, g .0, N .fits), omega (arith, g .1, N .fits, v .low, size-reduce fixed (N .t)))
+      parameter-ends = let g = parameter-is in (omega (arith, g .0, N .fits), omega (arith, g .1, N .fits, v .low, size-reduce fixed (N .x)))
 
       pub parameter-next : ParametersInv l a n (at + r) (to + s) (i + 1)
       parameter-next =
           let g = parameter-is in
-          let shorter = ap (λ (z : Sig). sizeSig (reduceSig z)) (N .is) ∙ ap sizeSig (reduce-cons (N .t) (N .y)) ∙ size-cons (reduce fixed (N .t)) (reduceSig (N .y)) in
+          let shorter = ap (λ (z : Sig). sizeSig (reduceSig z)) (N .is) ∙ ap sizeSig (reduce-cons (N .x) (N .more)) ∙ size-cons (reduce fixed (N .x)) (reduceSig (N .more)) in
           record {
             all = v .all;
-            f = N .y;
+            f = N .more;
             whole = v .whole;
             below = omega arith;
             within = omega (arith, g .0, N .fits);
-            low = omega (arith, g .0, g .1, v .low, size-reduce fixed (N .t));
+            low = omega (arith, g .0, g .1, v .low, size-reduce fixed (N .x));
             read = ap (λ (z : ℕ). sigAt l (n - (i + 1)) (drop (at + z) a)) (g .0) ∙ N .second;
             sizes = omega (arith, v .sizes, N .sized, g .0);
             short = omega (arith, v .short, shorter, g .1);

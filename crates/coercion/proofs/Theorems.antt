@@ -10,7 +10,9 @@ use Rattle.order.specs.Types.{cmp}
 use Rattle.order.specs.Values.{conforms, isDataBy, areData}
 use Rattle.order.specs.Dmn.{dmnConformsTo}
 use Rattle.order.specs.Inferred.{valueConformsTo, isData, leastType}
+use Rattle.order.proofs.Bools.{or-right}
 use Rattle.order.proofs.DataDmn.{data-is-dmn}
+use Rattle.order.proofs.Simple.{and-left}
 use Rattle.ranges.specs.Ranges.{bifType}
 use Rattle.order.specs.Document.{conformsTo}
 use Rattle.coercion.specs.Coerce.{failed, single, unchanged, soleItemConforms, firstItem, innerConforms, converted, coerced}
@@ -123,10 +125,6 @@ again-by : (v w : Val) (t : Ty) (q : Bool) → unchanged v t ≡ q → coerced w
 again-by v w t true e h = again v t e
 again-by v w t false e h = h
 
-or-right : (a b : Bool) → b ≡ true → a || b ≡ true
-or-right true b h = refl
-or-right false b h = h
-
 or-left : (a b : Bool) → a ≡ true → a || b ≡ true
 or-left a b h = ap (λ q. q || b) h
 
@@ -155,11 +153,7 @@ dmn-to-is v (built (function ps r)) h = refl
 dmn-from-is : (vs : Vals) (t : Ty) → areData fixed vs ≡ true → cond (soleItemConforms vs t) (firstItem vs) failed ≡ dmnFrom vs t
 unfolding isDataBy
 dmn-from-is no-items t h = refl
-dmn-from-is (item v no-items) t h = ap (λ q. cond q v failed) (data-is-dmn v t (first-true (isData v) true h))
-  where
-    first-true : (a b : Bool) → a && b ≡ true → a ≡ true
-    first-true true b e = refl
-    first-true false b e = e
+dmn-from-is (item v no-items) t h = ap (λ q. cond q v failed) (data-is-dmn v t (and-left (isData v) true h))
 dmn-from-is (item v (item w vs)) t h = refl
 
 dmn-is : (v : Val) (t : Ty) → isData v ≡ true → converted v t ≡ dmnConverted v t

@@ -6,7 +6,7 @@
 -- `without-short`, `without-done`, `remove-copy`, `remove-done` (remove); `move-copy`, `move-done`, `cut-is`, `cut-ok` (move);
 -- `Deep`, `deep`, `open-value`, `open-other`, `open-level` (`check_context`).
 -- Assumes nothing.
-use Prim.Native.Nat.{ℕ, zero, suc, _+_, _-_, _<_, _≤_, max, min}
+use Prim.Native.Nat.{ℕ, _+_, _-_, _<_, _≤_, max, min}
 use native.Mathlib.Omega.{arith}
 use mathlib.Core.Path.{_≡_, refl, sym, ap, ap₂, subst, _∙_}
 use mathlib.Core.Bool.{Bool, true, false, _&&_}
@@ -30,6 +30,7 @@ use Rattle.form.specs.ByteForm.{Accepted}
 use Rattle.form.proofs.Accepted.{refused-done, level-told, level-refused}
 use Rattle.form.proofs.ExactValues.{enc-readV, read-encV}
 use Rattle.form.proofs.Exact.{bytes-drop}
+use Rattle.form.proofs.Numbers.{bytes-take}
 use Rattle.form.proofs.Values.{read-upV, value-accepted, value-accepts, ValueTold, value-told, encV-same, encV-some}
 use Rattle.order.specs.Size.{sizeVal}
 use Rattle.order.proofs.LeastSize.{length-encV}
@@ -44,7 +45,7 @@ use Rattle.paths.specs.Places.{wholeAt, contextAt, lentCode}
 use Rattle.paths.specs.Calls.{contextOf}
 use Rattle.paths.proofs.Whole.{whole-is, is-whole, of-context, context-read, read-context, Ctx, ctx-of}
 use Rattle.paths.proofs.PathSearch.{at-context, WholeContext, whole-context, whole-other, Hit, hit-whole, hit-inside, hit-start, Miss}
-use Rattle.paths.proofs.CallContracts.{Opened, opened, read-whole}
+use Rattle.paths.proofs.CallContracts.{opened-short, Opened, opened, read-whole}
 use Rattle.paths.proofs.SplitContext.{Around, value-level, well-context, well-entries, text-context, count-context, around-some}
 use Rattle.updates.specs.Update.{create, apply, zip, overwrite, remove, moved, moveEntry, setEntry, setNull, removeEntry}
 use Rattle.updates.specs.Writing.{updated, Wrote, Small, begun, closed, Updates, merged, Merges}
@@ -496,20 +497,6 @@ changed c f room es e = rw e
 
 ctx-same : (l : ℕ) (c : List ℕ) (es fs : Entries) → Ctx l c es → Ctx l c fs → es ≡ fs
 ctx-same l c es fs C D = some-same (sym (C .read) ∙ D .read)
-
-opened-short : (c : List ℕ) (k : ℕ) (es : Entries) → contextOf c k ≡ done es → Bytes c → length c ≤ mostBytes
-unfolding contextOf _>>=_
-opened-short c k es e b = go (readValue c) refl e
-  where
-    go : (o : Outcome Val) → readValue c ≡ o → (do self ← o; check 11 (leb k mostNames); orRefuse 12 (entriesOf self)) ≡ done es → length c ≤ mostBytes
-    go (refused m) r h = absurd (refused-done h)
-    go (done v) r h = value-accepted c b v r .short
-
-bytes-take : (n : ℕ) (s : List ℕ) → Bytes s → Bytes (take n s)
-unfolding Bytes
-bytes-take zero s b = tt
-bytes-take (suc n) [] b = tt
-bytes-take (suc n) (x ∷ s) b = (b .0, bytes-take n s (b .1))
 
 module _ (c old : List ℕ) (n : ℕ) (O : Opened c 0) (bc : Bytes c) where
   pub short : length c ≤ mostBytes

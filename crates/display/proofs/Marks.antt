@@ -16,8 +16,9 @@ use borrow.Author.Tests.{ltb-true, ltb-false, leb-true}
 use Rattle.form.specs.Limits.{mostBytes}
 use Rattle.form.specs.Form.{num, numAt}
 use Rattle.types.specs.At.{Ok}
-use Rattle.types.proofs.Reading.{ok-got, never}
-use Rattle.types.proofs.Entries.{step}
+use Rattle.form.proofs.Options.{none-some}
+use Rattle.form.proofs.Runs.{step}
+use Rattle.types.proofs.Reading.{ok-got}
 use Rattle.names.specs.Reader.{Rule, provided, readTexts}
 use Rattle.names.proofs.Reader.{read-nil, texts-got, text-byte, text-here}
 use Rattle.display.specs.Texts.{nth}
@@ -35,7 +36,7 @@ pub record TextAt (rule : Rule) (c at : ℕ) (a : List ℕ) (ts : List (List ℕ
   pub second : readTexts rule (some (take (getD a at 0) (drop (at + 1) a))) c (drop (at + 1 + getD a at 0) a) ≡ some more
 
 none-left : (rule : Rule) (before : Option (List ℕ)) (c : ℕ) (ts : List (List ℕ)) → readTexts rule before (suc c) [] ≡ some ts → ⊥
-none-left rule before c ts e = never (sym (read-nil rule before c) ∙ e)
+none-left rule before c ts e = none-some (sym (read-nil rule before c) ∙ e)
 
 pub text-there : (rule : Rule) (before : Option (List ℕ)) (c at : ℕ) (a : List ℕ) (ts : List (List ℕ)) → readTexts rule before (suc c) (drop at a) ≡ some ts → TextAt rule c at a ts
 text-there rule before c at a ts e =
@@ -51,8 +52,8 @@ text-there rule before c at a ts e =
 pub texts-counted : (rule : Rule) (before : Option (List ℕ)) (c : ℕ) (s : List ℕ) (ts : List (List ℕ)) → readTexts rule before c s ≡ some ts → length ts ≡ c
 unfolding readTexts
 texts-counted rule before zero [] ts e = let p : ts ≡ [] = cc in ap length p
-texts-counted rule before zero (b ∷ s) ts e = absurd (never e)
-texts-counted rule before (suc c) [] ts e = absurd (never e)
+texts-counted rule before zero (b ∷ s) ts e = absurd (none-some e)
+texts-counted rule before (suc c) [] ts e = absurd (none-some e)
 texts-counted rule before (suc c) (n ∷ s) ts e =
     let F = texts-got rule before c n s ts e in
     ap length (F .is) ∙ ap suc (texts-counted rule (some (take n s)) c (drop n s) (F .more) (F .next))
@@ -66,8 +67,8 @@ beyond (t ∷ ts) (suc n) h = beyond ts n (omega arith)
 all-most : (rule : Rule) (m : ℕ) (before : Option (List ℕ)) (c : ℕ) (s : List ℕ) (ts : List (List ℕ)) → readTexts rule before c s ≡ some ts → length s ≤ m → (n : ℕ) → Most m (nth ts n)
 unfolding readTexts nth
 all-most rule m before zero [] ts e h n = let p : [] ≡ ts = cc in subst (λ (z : List (List ℕ)). Most m (nth z n)) p tt
-all-most rule m before zero (b ∷ s) ts e h n = absurd (never e)
-all-most rule m before (suc c) [] ts e h n = absurd (never e)
+all-most rule m before zero (b ∷ s) ts e h n = absurd (none-some e)
+all-most rule m before (suc c) [] ts e h n = absurd (none-some e)
 all-most rule m before (suc c) (k ∷ s) ts e h n =
     let F = texts-got rule before c k s ts e in
     subst (λ (z : List (List ℕ)). Most m (nth z n)) (sym (F .is)) (go (F .more) (λ i. all-most rule m (some (take k s)) c (drop k s) (F .more) (F .next) (simp length-drop (omega arith)) i) n)
@@ -111,8 +112,8 @@ unfolding num
 num-two a b = omega arith
 
 counted : (a : List ℕ) (ts : List (List ℕ)) → length a ≤ mostBytes → countedTexts a ≡ some ts → Table a ts
-counted [] ts h e = absurd (never e)
-counted (x ∷ []) ts h e = absurd (never e)
+counted [] ts h e = absurd (none-some e)
+counted (x ∷ []) ts h e = absurd (none-some e)
 counted (x ∷ y ∷ s) ts h e = record { two = omega arith; most = h; texts = ap (λ (k : ℕ). readTexts inTable none k s) (num-two x y) ∙ e }
 
 pub table : (a : List ℕ) (ts : List (List ℕ)) → readTable a ≡ some ts → Table a ts
@@ -120,7 +121,7 @@ unfolding readTable
 table a ts e = go (leb (length a) mostBytes) refl e
   where
     go : (q : Bool) → leb (length a) mostBytes ≡ q → provided q (countedTexts a) ≡ some ts → Table a ts
-    go false h f = absurd (never f)
+    go false h f = absurd (none-some f)
     go true h f = counted a ts (leb-true (length a) mostBytes h) f
 
 -- a text of a table

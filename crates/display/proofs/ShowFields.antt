@@ -13,11 +13,11 @@ use borrow.Rule.Slice.PartMut.{putMid}
 use Rattle.form.specs.Limits.{mostBytes, nameWidth}
 use Rattle.form.specs.Form.{numAt}
 use Rattle.form.specs.Trees.{Fields}
-use Rattle.form.proofs.Runs.{rest, behind}
+use Rattle.form.proofs.Runs.{behind}
 use Rattle.order.specs.Size.{size, sizeFields}
 use Rattle.types.specs.At.{typeAt, fieldsAt, Ok}
 use Rattle.types.proofs.Reading.{ok-got}
-use Rattle.types.proofs.ChildAt.{entry-ok}
+use Rattle.types.proofs.ChildAt.{entry-behind, entry-ok}
 use Rattle.types.proofs.Entries.{Here, here, gone, size-none}
 use Rattle.output.proofs.FillLaws.{length-fill, fill-then, put-then}
 use Rattle.names.proofs.Pieces.{fill-none}
@@ -142,7 +142,7 @@ module _ {l : ℕ} {s : List ℕ} {count : ℕ} {tab old out : List ℕ} {at to 
 
           module _ (p : ℕ) (ys : List ℕ) (x : Shown) (T : Shows ofTypes (typeAt l (behind (at + nameWidth) s)) (readTable tab) (behind p one) ys x) where
             gave : Gave ofTypes (Q .ts) (A .x) (behind p one) ys x
-            gave = shows-is ofTypes (typeAt l (behind (at + nameWidth) s)) (readTable tab) (A .x) (Q .ts) (behind p one) ys x (ap (typeAt l) (rest s (at + nameWidth)) ∙ A .first) (Q .tabled) T
+            gave = shows-is ofTypes (typeAt l (behind (at + nameWidth) s)) (readTable tab) (A .x) (Q .ts) (behind p one) ys x (entry-behind A) (Q .tabled) T
 
             pub type-kept : length (putMid p (length one - p) one ys) ≡ length old
             type-kept = back-length p one ys (gave-length ofTypes (Q .ts) (A .x) (behind p one) ys x gave) ∙ ap length one-is ∙ length-fill (Q .done ++ label i name) old

@@ -24,7 +24,8 @@ use Rattle.display.proofs.ShowPieces.{gap-length}
 use Rattle.display.proofs.Texts.{after, sigFrom, sig-all, no-param, one-param, no-result, one-result, text-most}
 use Rattle.display.proofs.Marks.{table-named}
 use Rattle.display.proofs.ShowContract.{shows, shows-is, gave-some, gave-none, Got, gave-yes, gave-no, gave-length}
-use Rattle.types.proofs.Signatures.{Next, next, Last, last}
+use Rattle.types.proofs.ChildAt.{item-behind}
+use Rattle.types.proofs.Signatures.{Param, param-at, Last, last}
 use Rattle.output.specs.Output.{fill, puts}
 use Rattle.output.proofs.OntoLaws.{back-length}
 use Rattle.form.proofs.Runs.{behind}
@@ -81,35 +82,35 @@ module _ {l : ℕ} {s : List ℕ} {count : ℕ} {tab old out : List ℕ} {at to 
 
   -- ---- a parameter, behind its gap
   module _ (h : i < count) where
-    abbrev N : Next l (count - (i + 1)) at s (Q .f)
-    N = next l i count at s (Q .f) h (Q .in-s) (Q .read)
+    abbrev N : Param l (count - (i + 1)) at s (Q .f)
+    N = param-at l i count at s (Q .f) h (Q .in-s) (Q .read)
 
     pub param-there : Ok (typeAt l (behind at s))
-    param-there = is-ok (typeAt l (behind at s)) (N .t) (N .first)
+    param-there = is-ok (typeAt l (behind at s)) (N .x) (item-behind N)
 
     module _ (k : ℕ) (one : List ℕ) (ek : k ≡ to + length (gap i)) (eo : one ≡ puts to (gap i) out) where
       one-is : one ≡ fill (Q .done ++ gap i) old
       one-is = put-then (Q .done) (gap i) old out one to (Q .state) (Q .long) eo
 
       module _ (p : ℕ) (ys : List ℕ) (x : Shown) (T : Shows ofTypes (typeAt l (behind at s)) (readTable tab) (behind p one) ys x) where
-        gave : Gave ofTypes (Q .ts) (N .t) (behind p one) ys x
-        gave = shows-is ofTypes (typeAt l (behind at s)) (readTable tab) (N .t) (Q .ts) (behind p one) ys x (N .first) (Q .tabled) T
+        gave : Gave ofTypes (Q .ts) (N .x) (behind p one) ys x
+        gave = shows-is ofTypes (typeAt l (behind at s)) (readTable tab) (N .x) (Q .ts) (behind p one) ys x (item-behind N) (Q .tabled) T
 
         pub param-kept : length (putMid p (length one - p) one ys) ≡ length old
-        param-kept = back-length p one ys (gave-length ofTypes (Q .ts) (N .t) (behind p one) ys x gave) ∙ ap length one-is ∙ length-fill (Q .done ++ gap i) old
+        param-kept = back-length p one ys (gave-length ofTypes (Q .ts) (N .x) (behind p one) ys x gave) ∙ ap length one-is ∙ length-fill (Q .done ++ gap i) old
 
         pub param-missing : x ≡ No → Shows ofSigs (sigAt l count s) (readTable tab) old (putMid p (length one - p) one ys) No
         param-missing ex =
             failed (putMid p (length one - p) one ys)
-            (ap (sigFrom i (Q .ts)) (N .is) ∙ no-param i (Q .ts) (N .t) (N .y) (gave-no ofTypes (Q .ts) (N .t) (behind p one) ys x gave ex))
+            (ap (sigFrom i (Q .ts)) (N .is) ∙ no-param i (Q .ts) (N .x) (N .more) (gave-no ofTypes (Q .ts) (N .x) (behind p one) ys x gave ex))
             param-kept
 
         module _ (a c : ℕ) (ex : x ≡ Yes a c) where
-          G : Got ofTypes (Q .ts) (N .t) (behind p one) ys a c
-          G = gave-yes ofTypes (Q .ts) (N .t) (behind p one) ys x gave a c ex
+          G : Got ofTypes (Q .ts) (N .x) (behind p one) ys a c
+          G = gave-yes ofTypes (Q .ts) (N .x) (behind p one) ys x gave a c ex
 
           most : c + 2 ≤ mostBytes * a
-          most = omega (arith, G .size, G .long, text-most (Q .ts) (table-named tab (Q .ts) (Q .tabled)) (N .t) (G .bs) (G .is))
+          most = omega (arith, G .size, G .long, text-most (Q .ts) (table-named tab (Q .ts) (Q .tabled)) (N .x) (G .bs) (G .is))
 
           pub param-ends : (at + a ≤ length s) × (k + c ≤ mostBytes * (at + a))
           param-ends = (omega (arith, G .size, N .fits), omega (arith, most, gap-length i, Q .low))
@@ -119,7 +120,7 @@ module _ {l : ℕ} {s : List ℕ} {count : ℕ} {tab old out : List ℕ} {at to 
               let kl : length (Q .done ++ gap i) ≡ k = omega (arith, length-append (Q .done) (gap i), Q .long) in
               record {
                 all = Q .all;
-                f = N .y;
+                f = N .more;
                 ts = Q .ts;
                 done = (Q .done ++ gap i) ++ G .bs;
                 whole = Q .whole;
@@ -131,7 +132,7 @@ module _ {l : ℕ} {s : List ℕ} {count : ℕ} {tab old out : List ℕ} {at to 
                 read = ap (λ (z : ℕ). sigAt l (count - (i + 1)) (drop (at + z) s)) (G .size) ∙ N .second;
                 sizes = omega (arith, Q .sizes, N .sized, G .size);
                 goes =
-                    sym (ap (λ (z : Sig). after (Q .done) (sigFrom i (Q .ts) z)) (N .is) ∙ one-param i (Q .done) (Q .ts) (N .t) (N .y) (G .bs) (G .is))
+                    sym (ap (λ (z : Sig). after (Q .done) (sigFrom i (Q .ts) z)) (N .is) ∙ one-param i (Q .done) (Q .ts) (N .x) (N .more) (G .bs) (G .is))
                     ∙ Q .goes;
                 long = omega (arith, length-append (Q .done ++ gap i) (G .bs), kl, G .long);
                 state = fill-then (Q .done ++ gap i) (G .bs) old one ys k p one-is kl ep (G .out);

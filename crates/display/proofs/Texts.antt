@@ -14,7 +14,7 @@ use Rattle.form.specs.Limits.{mostBytes}
 use Rattle.form.specs.Trees.{Simple, any, boolean, number, string, date, time, dateTime, daysAndTime, yearsAndMonths, null, Ty, leaf, built, Built, list, range, context, function}
 use Rattle.form.specs.Trees.{Fields, no-fields, field, Tys, no-params, param}
 use Rattle.order.specs.Size.{size, sizeBuilt, sizeFields, sizeTys}
-use Rattle.types.proofs.Reading.{never}
+use Rattle.form.proofs.Options.{none-some, map-twice}
 use Rattle.types.specs.At.{Sig, sig, cons, funOf, sizeSig}
 use Rattle.names.specs.BuiltInNames.{nameOf}
 use Rattle.display.specs.Texts.{nth, join, close, comma, colon, arrow, listOpen, rangeOpen, contextOpen, functionOpen}
@@ -163,13 +163,9 @@ pub text-range : (ts : List (List ℕ)) (t : Ty) → text ts (built (range t)) �
 unfolding text
 text-range ts t = refl
 
-mapped-twice : {X Y Z : Type 0} (f : Y → Z) (g : X → Y) (o : Option X) → map (λ x. f (g x)) o ≡ map f (map g o)
-mapped-twice f g none = refl
-mapped-twice f g (some x) = refl
-
 pub text-context : (ts : List (List ℕ)) (fs : Fields) → text ts (built (context fs)) ≡ map (within contextOpen) (textFields ts fs)
 unfolding text textFields
-text-context ts fs = mapped-twice (within contextOpen) join (textsOfFields ts fs)
+text-context ts fs = sym (map-twice (within contextOpen) join (textsOfFields ts fs))
 
 pub text-function : (ts : List (List ℕ)) (f : Sig) → text ts (funOf f) ≡ map (λ s. functionOpen ++ s) (textSig ts f)
 unfolding text textSig
@@ -272,7 +268,7 @@ module _ (ts : List (List ℕ)) (named : (n : ℕ) → Most mostBytes (nth ts n)
   text-most t bs e = subst (λ (o : Option (List ℕ)). Short (mostBytes * size t) o) e (text-short t)
 
   fields-of : (n : ℕ) (o : Option (List (List ℕ))) (bs : List ℕ) → Shorts n o → map join o ≡ some bs → length bs ≤ n
-  fields-of n none bs h e = absurd (never e)
+  fields-of n none bs h e = absurd (none-some e)
   fields-of n (some xs) bs h e = let p : join xs ≡ bs = cc in omega (arith, ap length p, join-short xs)
 
   pub fields-most : (fs : Fields) (bs : List ℕ) → textFields ts fs ≡ some bs → length bs ≤ mostBytes * sizeFields fs
@@ -280,8 +276,8 @@ module _ (ts : List (List ℕ)) (named : (n : ℕ) → Most mostBytes (nth ts n)
   fields-most fs bs e = fields-of (mostBytes * sizeFields fs) (textsOfFields ts fs) bs (fields-short fs) e
 
   sig-of : (n m : ℕ) (o : Option (List (List ℕ))) (p : Option (List ℕ)) (bs : List ℕ) → Shorts n o → Short m p → both signatureText o p ≡ some bs → length bs ≤ n + m + 1
-  sig-of n m none p bs h k e = absurd (never e)
-  sig-of n m (some xs) none bs h k e = absurd (never e)
+  sig-of n m none p bs h k e = absurd (none-some e)
+  sig-of n m (some xs) none bs h k e = absurd (none-some e)
   sig-of n m (some xs) (some r) bs h k e =
       let p : join xs ++ (arrow ++ r) ≡ bs = cc in
       omega (arith, ap length p, join-short xs, length-append (join xs) (arrow ++ r), length-append arrow r)

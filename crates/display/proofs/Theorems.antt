@@ -19,10 +19,10 @@ use Rattle.form.specs.Limits.{mostBytes}
 use Rattle.form.specs.Outcome.{done, _>>=_, _>>_}
 use Rattle.form.specs.Read.{front, andThen, orElse, operand, readRun, named, readNamed, counted, readFunction, stepType, stepT, readT, numberOf, all, readWhole}
 use Rattle.order.proofs.Simple.{and-right}
-use Rattle.types.proofs.Reading.{never}
+use Rattle.form.proofs.Options.{none-some, some-same}
 use Rattle.names.specs.BuiltInNames.{nameOf}
 use Rattle.names.specs.Reader.{readTexts}
-use Rattle.names.proofs.Reader.{some-same, provided-got, end-none, read-zero, read-nil, texts-got}
+use Rattle.names.proofs.Reader.{provided-got, end-none, read-zero, read-nil, texts-got}
 use Rattle.display.specs.Texts.{nth, join, text, textBuilt, textsOfFields, textsOfTys}
 use Rattle.display.specs.Tables.{printable, tidy, lessText, inTable, countedTexts, readTable}
 use Rattle.display.specs.Calls.{displayCall}
@@ -68,7 +68,7 @@ less-self (a ∷ s) e = ⊎-elim (λ h. omega arith) (λ h. less-self s (h .1)) 
 -- ---- a table keeps it
 nth-none : (n : ℕ) (b : List ℕ) → nth [] n ≡ some b → ⊥
 unfolding nth
-nth-none n b e = never e
+nth-none n b e = none-some e
 
 nth-first : (t b : List ℕ) (ts : List (List ℕ)) → nth (t ∷ ts) 0 ≡ some b → t ≡ b
 unfolding nth
@@ -80,7 +80,7 @@ none-left before s ts n b e p = nth-none n b (sym (ap (λ x. nth x n) (end-none 
 -- all texts behind one are above it
 above-all : (c : ℕ) (a s : List ℕ) (ts : List (List ℕ)) → readTexts inTable (some a) c s ≡ some ts → (n : ℕ) (b : List ℕ) → nth ts n ≡ some b → lessText a b ≡ true
 above-all zero a s ts e n b p = absurd (none-left (some a) s ts n b e p)
-above-all (suc c) a [] ts e n b p = absurd (never (sym (read-nil inTable (some a) c) ∙ e))
+above-all (suc c) a [] ts e n b p = absurd (none-some (sym (read-nil inTable (some a) c) ∙ e))
 above-all (suc c) a (m ∷ s) ts e n b p =
     let T = texts-got inTable (some a) c m s ts e in
     go n (T .more) (λ k. above-all c (take m s) (drop m s) (T .more) (T .next) k b) (and-right (tidy (take m s)) (lessText a (take m s)) (T .ruled)) (sym (ap (λ x. nth x n) (T .is)) ∙ p)
@@ -92,7 +92,7 @@ above-all (suc c) a (m ∷ s) ts e n b p =
 in-order : (c : ℕ) (before : Option (List ℕ)) (s : List ℕ) (ts : List (List ℕ)) → readTexts inTable before c s ≡ some ts
     → (i j : ℕ) (a b : List ℕ) → i < j → nth ts i ≡ some a → nth ts j ≡ some b → lessText a b ≡ true
 in-order zero before s ts e i j a b h p q = absurd (none-left before s ts i a e p)
-in-order (suc c) before [] ts e i j a b h p q = absurd (never (sym (read-nil inTable before c) ∙ e))
+in-order (suc c) before [] ts e i j a b h p q = absurd (none-some (sym (read-nil inTable before c) ∙ e))
 in-order (suc c) before (m ∷ s) ts e i j a b h p q =
     let T = texts-got inTable before c m s ts e in
     go i j (T .more) h (above-all c (take m s) (drop m s) (T .more) (T .next)) (λ k l. in-order c (some (take m s)) (drop m s) (T .more) (T .next) k l a b)
@@ -110,8 +110,8 @@ unfolding readTable
 table-ordered s ts e = go s (provided-got (leb (length s) mostBytes) (countedTexts s) ts e .1)
   where
     go : (s : List ℕ) → countedTexts s ≡ some ts → (i j : ℕ) (a b : List ℕ) → i < j → nth ts i ≡ some a → nth ts j ≡ some b → lessText a b ≡ true
-    go [] z = absurd (never z)
-    go (x ∷ []) z = absurd (never z)
+    go [] z = absurd (none-some z)
+    go (x ∷ []) z = absurd (none-some z)
     go (x ∷ y ∷ s) z = in-order _ none s ts z
 
 table-distinct : (s : List ℕ) (ts : List (List ℕ)) → readTable s ≡ some ts → (i j : ℕ) (a b : List ℕ) → (i ≡ j → ⊥) → nth ts i ≡ some a → nth ts j ≡ some b → a ≡ b → ⊥

@@ -30,7 +30,7 @@ use Rattle.order.proofs.Size.{length-enc, size-sup, size-sub, size-reduce}
 use Rattle.order.proofs.LeastSize.{length-encV, size-least}
 use Rattle.order.proofs.TypeOf.{size-type-of}
 use Rattle.order.proofs.WellFormed.{asc-of}
-use Rattle.types.proofs.Reading.{never}
+use Rattle.form.proofs.Options.{none-some}
 use Rattle.bounds.specs.Calls.{combined, reducedCall}
 use Rattle.infer.specs.Calls.{leastTypeCall, typeOfCall}
 use Rattle.retrieval.specs.Calls.{getValueCheckedCall, getConformantValueCall}
@@ -158,7 +158,7 @@ total (p ∷ ps) = suc (length p) + total ps
 
 parts-total : (before : Option (List ℕ)) (c : ℕ) (s : List ℕ) (ps : List (List ℕ)) → readTexts inParts before c s ≡ some ps → total ps ≤ length s
 parts-total before zero s ps e = omega (arith, ap total (end-none s ps (sym (read-zero inParts before s) ∙ e)))
-parts-total before (suc c) [] ps e = absurd (never (sym (read-nil inParts before c) ∙ e))
+parts-total before (suc c) [] ps e = absurd (none-some (sym (read-nil inParts before c) ∙ e))
 parts-total before (suc c) (n ∷ s) ps e =
     let T = texts-got inParts before c n s ps e in
     omega (arith, ap total (T .is), length-take-le n s (T .fits), T .fits, length-drop n s, parts-total (some (take n s)) c (drop n s) (T .more) (T .next))
@@ -180,7 +180,7 @@ unfolding readParts
 name-long s ps e = let G = provided-got (leb (length s) mostBytes) (countedParts s) ps e in go s (leb-true (length s) mostBytes (G .0)) (G .1)
   where
     go : (s : List ℕ) → length s ≤ mostBytes → countedParts s ≡ some ps → length (nameNew ps) ≤ mostBytes
-    go [] k z = absurd (never z)
+    go [] k z = absurd (none-some z)
     go (a ∷ s) k z = omega (arith, pushed-long 0 false [] ps, parts-total none a s ps z)
 
 -- ---- texts

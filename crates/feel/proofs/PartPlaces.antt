@@ -7,33 +7,20 @@ use mathlib.Core.Path.{_≡_, refl, sym, ap, subst, _∙_}
 use mathlib.Core.Option.{Option, none, some}
 use mathlib.Core.List.{List, [], _∷_}
 use lib.ListN.{length}
-use lib.Dec.{leb}
-use Rattle.form.specs.Limits.{nameWidth, mostBytes, mostNames}
-use Rattle.form.specs.Trees.{Val, Entries}
+use Rattle.form.specs.Limits.{nameWidth, mostBytes}
+use Rattle.form.specs.Trees.{Entries}
 use Rattle.form.specs.Form.{Bytes}
-use Rattle.form.specs.Outcome.{Outcome, done, refused, _>>=_, _>>_, check, orRefuse}
-use Rattle.form.specs.Read.{readValue}
-use Rattle.form.proofs.Accepted.{refused-done}
-use Rattle.form.proofs.Values.{value-accepted}
-use Rattle.paths.specs.Paths.{entriesOf, getFirst}
+use Rattle.form.specs.Outcome.{Outcome, done, refused, _>>=_}
+use Rattle.paths.specs.Paths.{getFirst}
 use Rattle.paths.specs.Places.{Spot, spot, Piece, found, extentOf, spotIn, Within}
 use Rattle.paths.specs.Calls.{contextOf, searchDeepCall, getEntryCall, getFirstCall}
 use Rattle.paths.specs.declared.Found.{Found}
 use Rattle.paths.specs.declared.Found.the-variants as found-is
-use Rattle.paths.proofs.CallContracts.{entry-call, stand-deep, stand-first, lend-within}
+use Rattle.paths.proofs.CallContracts.{opened-short, entry-call, stand-deep, stand-first, lend-within}
 use Rattle.feel.specs.Numbers.{Halves}
 use Rattle.form.specs.Options.{map}
 
--- a context that was accepted is short
-short : (c : List ℕ) (k : ℕ) (es : Entries) → Bytes c → contextOf c k ≡ done es → length c ≤ mostBytes
-unfolding contextOf _>>=_
-short c k es bs e = go (readValue c) refl e
-  where
-    go : (o : Outcome Val) → readValue c ≡ o → (do self ← o; check 11 (leb k mostNames); orRefuse 12 (entriesOf self)) ≡ done es → length c ≤ mostBytes
-    go (done v) r h = value-accepted c bs v r .short
-    go (refused n) r h = absurd (refused-done h)
-
--- so a part within it has its halves
+-- an accepted context is short, so a part within it has its halves
 halves : (c : List ℕ) (k : ℕ) (f : Entries → Option Spot) → Bytes c → Within (extentOf (do es ← contextOf c k; done (f es))) c → Halves (extentOf (do es ← contextOf c k; done (f es)))
 unfolding extentOf _>>=_
 halves c k f bs h = go (contextOf c k) refl h
@@ -43,7 +30,7 @@ halves c k f bs h = go (contextOf c k) refl h
     part (some (spot p v)) m w = (omega arith, omega arith)
 
     go : (o : Outcome Entries) → contextOf c k ≡ o → Within (extentOf (do es ← o; done (f es))) c → Halves (extentOf (do es ← o; done (f es)))
-    go (done es) e w = part (f es) (short c k es bs e) w
+    go (done es) e w = part (f es) (opened-short c k es e bs) w
     go (refused n) e w = tt
 
 -- ---- the calls

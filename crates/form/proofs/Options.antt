@@ -1,5 +1,5 @@
 -- What may be missing: none is not some, and what a function on it gives.
--- Index: `none-some`, `some-same`; `map-is` (a function on one), `both-is` (a function on two).
+-- Index: `none-some`, `some-same`; `map-is`, `map-twice` (a function on one), `both-is` (a function on two).
 -- Assumes nothing.
 use Prim.Native.Nat.{ℕ}
 use native.Mathlib.Omega.{arith}
@@ -16,6 +16,10 @@ some-same e = cc
 pub map-is : {X Y : Type 0} (f : X → Y) (o : Option X) (y : Y) → map f o ≡ some y → (x : X) × (o ≡ some x) × (y ≡ f x)
 map-is f none y e = absurd (none-some e)
 map-is f (some x) y e = (x, refl, sym (some-same e))
+
+pub map-twice : {X Y Z : Type 0} (f : Y → Z) (g : X → Y) (o : Option X) → map f (map g o) ≡ map (λ x. f (g x)) o
+map-twice f g none = refl
+map-twice f g (some x) = refl
 
 pub both-is : {X Y Z : Type 0} (f : X → Y → Z) (o : Option X) (p : Option Y) (z : Z) → both f o p ≡ some z → (x : X) × (y : Y) × (o ≡ some x) × (p ≡ some y) × (z ≡ f x y)
 both-is f none p z e = absurd (none-some e)

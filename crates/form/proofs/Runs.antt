@@ -87,8 +87,8 @@ pub record RunInv {X : Type 0} (lv : X → ℕ) (whole : Walk) (now : ℕ → Li
   pub shallow : deep ≤ at
   pub goes : whole ≡ walkBy lv at deep (now (count - i) (drop at s))
 
-more : (i n : ℕ) → i < n → n - i ≡ suc (n - (i + 1))
-more i n h = omega arith
+pub step : (i n : ℕ) → i < n → n - i ≡ suc (n - (i + 1))
+step i n h = omega arith
 
 pub run-start : {X : Type 0} (lv : X → ℕ) (now : ℕ → List ℕ → Got X) (s : List ℕ) (count at deep : ℕ) → at ≤ length s → deep ≤ at
     → RunInv lv (walkBy lv at deep (now count (drop at s))) now s count at deep 0
@@ -102,7 +102,7 @@ module _ {X : Type 0} {lv : X → ℕ} {whole : Walk} {now : ℕ → List ℕ �
       sym (v .goes ∙ rw (e, h (drop at s)) (end-is (omega arith) (omega arith)))
 
   pub run-fault : (f : Fault) → i < count → ((n : ℕ) → walkBy lv at deep (now (suc n) (drop at s)) ≡ walk.Stop f) → walk.Stop f ≡ whole
-  run-fault f q h = sym (v .goes ∙ rw (more i count q) (h (count - (i + 1))))
+  run-fault f q h = sym (v .goes ∙ rw (step i count q) (h (count - (i + 1))))
 
   pub run-turn : (next : ℕ → List ℕ → Got X) (to d size l : ℕ) → i < count → d ≡ max deep l → (size ≤ length s - to) × (l ≤ size) → at ≤ to → to ≤ length s
       → ((n : ℕ) → walkBy lv at deep (now (suc n) (drop at s)) ≡ walkBy lv (to + size) (max deep l) (next n (drop (to + size) s))) → RunInv lv whole next s count (to + size) d (i + 1)
@@ -110,7 +110,7 @@ module _ {X : Type 0} {lv : X → ℕ} {whole : Walk} {now : ℕ → List ℕ �
     below = omega arith;
     inside = omega arith;
     shallow = omega arith;
-    goes = rw de (v .goes ∙ rw (more i count q) (h (count - (i + 1))));
+    goes = rw de (v .goes ∙ rw (step i count q) (h (count - (i + 1))));
   }
 
 -- ---- a run, one turn

@@ -16,12 +16,13 @@ use Rattle.form.specs.Trees.{Entries, no-entries}
 use Rattle.form.specs.Form.{bytes, numAt, Bytes, encFields, WfV}
 use Rattle.form.proofs.Exact.{bytes-drop}
 use Rattle.form.proofs.Numbers.{length-bytes}
-use Rattle.form.proofs.Runs.{rest, length-rest}
+use Rattle.form.proofs.Runs.{length-rest}
 use Rattle.order.specs.Order.{fixed}
 use Rattle.order.specs.Size.{sizeVal, sizeEntries}
 use Rattle.order.specs.Values.{holdData}
 use Rattle.order.specs.Inferred.{isData}
 use Rattle.order.proofs.Size.{length-enc}
+use Rattle.types.proofs.ChildAt.{entry-behind}
 use Rattle.types.proofs.Entries.{enc-field, enc-none}
 use Rattle.values.specs.At.{valueAt, entriesAt}
 use Rattle.values.proofs.Reading.{some-byte, encoded}
@@ -31,7 +32,7 @@ use Rattle.infer.proofs.Trees.{fine, fields-none, fields-entry, data-en
 use Rattle.infer.proofs.OutputFront.{starts, lent-starts, over-starts, open-fit, fit, typed, typed-is, behind}
 use Rattle.infer.proofs.ByCommand.{plain-free, plain-put, plain-byte, plain-told}
 use Rattle.output.specs.Output.{over}
-use Rattle.values.proofs.EntriesAt.{This, this, none-left}
+use Rattle.values.proofs.EntriesAt.{This, this, none-left, size-none}
 
 pub record EntriesInv (m : Bool) (l : ℕ) (v : List ℕ) (n : ℕ) (old spare₀ out spare : List ℕ) (at to i : ℕ) : Type 0 where
   -- all, what is left of them, and what was written
@@ -81,18 +82,11 @@ entries-start m l v n old spare₀ p =
       state = starts [] old old refl;
     }
 
-size-no-entries : sizeEntries no-entries ≡ 0
-unfolding sizeEntries
-size-no-entries = refl
-
 module _ {m : Bool} {l : ℕ} {s : List ℕ} {n : ℕ} {old spare₀ out spare : List ℕ} {at to i : ℕ} (Q : EntriesInv m l s n old spare₀ out spare at to i) (bs : Bytes s) where
   module _ (h : i < n) where
     -- the entry that stands at `at`
     abbrev H : This l (n - (i + 1)) at (Q .name) s (Q .left)
     H = this l i n at (Q .name) s (Q .left) h (Q .read)
-
-    first : valueAt l (behind (at + nameWidth) s) ≡ some (H .x)
-    first = ap (valueAt l) (rest s (at + nameWidth)) ∙ H .first
 
     well : WfV (H .x)
     well = encoded l (drop (at + nameWidth) s) (H .x) (bytes-drop (at + nameWidth) s bs) (H .first) .well
@@ -111,7 +105,7 @@ module _ {m : Bool} {l : ℕ} {s : List ℕ} {n : ℕ} {old spare₀ out spare :
 
     pub entry-fits : (xs : List ℕ) → length xs ≡ length out → FitVal m (valueAt l (behind (at + nameWidth) s)) (length (behind (to + nameWidth) xs)) (length spare)
     entry-fits xs e =
-        fit (valueAt l (behind (at + nameWidth) s)) (H .x) (length (behind (to + nameWidth) xs)) (length spare) first
+        fit (valueAt l (behind (at + nameWidth) s)) (H .x) (length (behind (to + nameWidth) xs)) (length spare) (entry-behind H)
         (record {
           well = well;
           apt = apt .0;
@@ -127,7 +121,7 @@ module _ {m : Bool} {l : ℕ} {s : List ℕ} {n : ℕ} {old spare₀ out spare :
     module _ (xs ys : List ℕ) (e w : ℕ) (named : xs ≡ over to (bytes nameWidth (numAt nameWidth at s)) out)
         (T : Typed sizeVal (typeText m) (valueAt l (behind (at + nameWidth) s)) (behind (to + nameWidth) xs) ys e w) where
       abbrev W : Wrote sizeVal (typeText m) (H .x) (behind (to + nameWidth) xs) ys e w
-      W = typed-is (valueAt l (behind (at + nameWidth) s)) (H .x) (behind (to + nameWidth) xs) ys e w first T
+      W = typed-is (valueAt l (behind (at + nameWidth) s)) (H .x) (behind (to + nameWidth) xs) ys e w (entry-behind H) T
 
       pub entry-read : at + nameWidth + e ≤ length s
       entry-read = omega (arith, H .fits, W .all)
@@ -172,7 +166,7 @@ module _ {m : Bool} {l : ℕ} {s : List ℕ} {n : ℕ} {old spare₀ out spare :
 
     -- the short way past a leaf
     pub entry-some : 0 < length (behind (at + nameWidth) s)
-    entry-some = some-byte l (behind (at + nameWidth) s) (H .x) first
+    entry-some = some-byte l (behind (at + nameWidth) s) (H .x) (entry-behind H)
 
     pub entry-byte : at + nameWidth < length s
     entry-byte = omega (arith, entry-some, length-rest s (at + nameWidth))
@@ -211,7 +205,7 @@ module _ {m : Bool} {l : ℕ} {s : List ℕ} {n : ℕ} {old spare₀ out spare :
       sym (append-nil (Q .done)) ∙ ap (λ (k : List ℕ). Q .done ++ k) (sym (ap (fieldsText m) e ∙ ap encFields (fields-none m) ∙ enc-none)) ∙ Q .text in
       typed (entriesAt l n 0 s) (Q .whole) old out at to (Q .read-all)
       (record {
-        all = omega (arith, Q .sized, ap sizeEntries e, size-no-entries);
+        all = omega (arith, Q .sized, ap sizeEntries e, size-none);
         long = sym (Q .long) ∙ ap length t;
         out = subst (λ (k : List ℕ). Starts k out) t (Q .state);
         kept = Q .out-len;

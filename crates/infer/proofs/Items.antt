@@ -15,7 +15,7 @@ use Rattle.form.specs.Limits.{mostBytes, valueLevels, typeLevels}
 use Rattle.form.specs.Trees.{null, Ty, leaf, Val, Vals, no-items, item}
 use Rattle.form.specs.Form.{Bytes, enc, encV, level, levelV, Wf, WfV, WfVals}
 use Rattle.form.proofs.Exact.{Found, bytes-drop}
-use Rattle.form.proofs.Runs.{rest, length-rest}
+use Rattle.form.proofs.Runs.{length-rest}
 use Rattle.order.specs.Order.{fixed}
 use Rattle.order.specs.Types.{reduce}
 use Rattle.order.specs.Size.{size, sizeVal, sizeVals}
@@ -23,8 +23,9 @@ use Rattle.order.specs.Values.{areData}
 use Rattle.order.specs.Inferred.{isData}
 use Rattle.order.proofs.Size.{length-enc}
 use Rattle.types.specs.At.{typeAt}
+use Rattle.types.proofs.ChildAt.{item-behind}
 use Rattle.values.specs.At.{valueAt, itemsAt}
-use Rattle.values.proofs.Reading.{some-byte, Nth, nth, no-nth, no-item, encoded}
+use Rattle.values.proofs.Reading.{items-sizes, some-byte, Nth, nth, no-nth, no-item, encoded}
 use Rattle.output.proofs.OntoLaws.{onto-first}
 use Rattle.infer.specs.Typing.{typeBy, joined, taken, inner, FitVal, FitItems, Plain, Starts, Wrote, Typed, typeText, innerText, Sides, Reduced, Joined}
 use Rattle.infer.proofs.Trees.{Fine, fine, Sound, sound, type-reduced, joined-reduced, data-item}
@@ -54,10 +55,6 @@ pub record ItemsInv (m equal : Bool) (l : ℕ) (v : List ℕ) (n : ℕ) (old spa
   pub out-len : length out ≡ length old
   pub spare-len : length spare ≡ length spare₀
   pub state : Starts (enc t) out
-
-size-no-items : sizeVals no-items ≡ 0
-unfolding sizeVals
-size-no-items = refl
 
 leaf-text : enc (leaf null) ≡ 41 ∷ []
 unfolding enc
@@ -92,7 +89,7 @@ module _ (m equal : Bool) (l : ℕ) (s : List ℕ) (n : ℕ) (old spare₀ : Lis
       let t : innerText m equal (K .x) ≡ 41 ∷ [] = ap (innerText m equal) e ∙ ap enc (inner-none m equal) ∙ leaf-text in
       typed (itemsAt l n s) (K .x) old (set old 0 41) 0 1 (K .read)
       (record {
-        all = sym (ap sizeVals e ∙ size-no-items);
+        all = sym (ap sizeVals e ∙ items-sizes .size-nil);
         long = sym (ap length t);
         out = subst (λ (k : List ℕ). Starts k (set old 0 41)) (sym t) (starts-onto (41 ∷ []) old (set old 0 41) (onto-first old 41 items-one));
         kept = length-set old 0 41;
@@ -167,12 +164,9 @@ module _ {m equal : Bool} {l : ℕ} {s : List ℕ} {n : ℕ} {old spare₀ out s
     apt : (m ≡ true → isData (N .x) ≡ true) × (m ≡ true → areData fixed (N .more) ≡ true)
     apt = data-item m (N .x) (N .more) (λ q. ap (areData fixed) (sym (N .is)) ∙ Q .apt q)
 
-    first-behind : valueAt l (behind at s) ≡ some (N .x)
-    first-behind = ap (valueAt l) (rest s at) ∙ N .first
-
     pub item-fits : FitVal m (valueAt l (behind at s)) (length (behind to out)) (length spare)
     item-fits =
-        fit (valueAt l (behind at s)) (N .x) (length (behind to out)) (length spare) first-behind
+        fit (valueAt l (behind at s)) (N .x) (length (behind to out)) (length spare) (item-behind N)
         (record {
           well = text .well;
           apt = apt .0;
@@ -183,7 +177,7 @@ module _ {m equal : Bool} {l : ℕ} {s : List ℕ} {n : ℕ} {old spare₀ out s
 
     module _ (levels : l ≤ valueLevels) (ys sp : List ℕ) (e w : ℕ) (T : Typed sizeVal (typeText m) (valueAt l (behind at s)) (behind to out) ys e w) (k : length sp ≡ length spare) where
       abbrev W : Wrote sizeVal (typeText m) (N .x) (behind to out) ys e w
-      W = typed-is (valueAt l (behind at s)) (N .x) (behind to out) ys e w first-behind T
+      W = typed-is (valueAt l (behind at s)) (N .x) (behind to out) ys e w (item-behind N) T
 
       abbrev xs : List ℕ
       xs = putMid to (length out - to) out ys
@@ -262,7 +256,7 @@ module _ {m equal : Bool} {l : ℕ} {s : List ℕ} {n : ℕ} {old spare₀ out s
 
     -- the short way past a leaf
     pub item-some : 0 < length (behind at s)
-    item-some = some-byte l (behind at s) (N .x) first-behind
+    item-some = some-byte l (behind at s) (N .x) (item-behind N)
 
     pub item-byte : at < length s
     item-byte = omega (arith, item-some, length-rest s at)
@@ -306,7 +300,7 @@ module _ {m equal : Bool} {l : ℕ} {s : List ℕ} {n : ℕ} {old spare₀ out s
       let t : Q .t ≡ inner m equal (Q .whole) = sym (ap (taken m equal (Q .t)) e ∙ taken-none m equal (Q .t)) ∙ Q .type in
       typed (itemsAt l n s) (Q .whole) first out at to (Q .read-all)
       (record {
-        all = omega (arith, Q .sized, ap sizeVals e, size-no-items);
+        all = omega (arith, Q .sized, ap sizeVals e, items-sizes .size-nil);
         long = sym (Q .long) ∙ sym (length-enc (Q .t)) ∙ ap (λ x. length (enc x)) t;
         out = subst (λ x. Starts (enc x) out) t (Q .state);
         kept = Q .out-len ∙ k;

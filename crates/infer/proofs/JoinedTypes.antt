@@ -133,7 +133,15 @@ module _ (s : List ℕ) (n m spare : ℕ) (h : Sides (typeAt typeLevels s) (type
   pub keeps-ask : Sides (typeAt typeLevels s) (typeAt typeLevels (drop n s)) s n m (n + m)
   keeps-ask =
       sides (typeAt typeLevels s) (typeAt typeLevels (drop n s)) (T .t) (T .u) s n m (n + m) (T .read-t) (T .read-u)
-      (record { first = T .side .first; second = T .side .second; inside = T .side .inside; spared = omega arith; small = T .side .small; wf-first = T .side .wf-first; wf-second = T .side .wf-second })
+      (record {
+        first = T .side .first;
+        second = T .side .second;
+        inside = T .side .inside;
+        spared = omega arith;
+        small = T .side .small;
+        wf-first = T .side .wf-first;
+        wf-second = T .side .wf-second;
+      })
 
   sup-size : size (supertype (T .t) (T .u)) ≤ n + m
   sup-size = omega (arith, size-sup fixed (T .t) (T .u) (asc-of (T .t) (T .side .wf-first)), T .side .first, T .side .second)

@@ -2,29 +2,28 @@
 -- Index: `least`, `least-right`, `other`, `leaves`, `self` (by the commands); `lists`, `ranges`, `contexts`, `functions`, `functions-none`, `functions-other` (built types);
 -- `fields-none`, `fields-both`, `answer-cons`, `answer-result`, `count-answer`, `sig-count` (entries and parameters); `enc-ctx`, `enc-fun`, `enc-cons`, `enc-result`, `length-sig` (bytes).
 -- Assumes nothing.
-use Prim.Native.Nat.{ℕ, zero, suc, _+_, _/_, _%_, _<_, _≤_}
+use Prim.Native.Nat.{ℕ, suc, _+_, _/_, _%_, _<_}
 use mathlib.Core.Path.{_≡_, refl, sym, ap, _∙_}
 use mathlib.Core.Bool.{Bool, true, false, cond}
-use mathlib.Core.Option.{some}
-use mathlib.Core.List.{List, _∷_, _++_, append-assoc}
+use mathlib.Core.List.{_∷_, _++_, append-assoc}
 use native.Mathlib.Omega.{arith}
-use lib.ListN.{length, length-append, drop}
+use lib.ListN.{length, length-append}
 use borrow.Author.Tests.{ne-eqb}
-use Rattle.form.specs.Trees.{Simple, any, null, code, decode, Ty, leaf, built, Built, list, range, context, function, Fields, no-fields, field, Tys, no-params, param}
+use Rattle.form.specs.Trees.{Simple, any, null, code, Ty, leaf, built, Built, list, range, context, function, Fields, no-fields, field, Tys, no-params, param}
 use Rattle.form.specs.Form.{bytes, enc, encFields, encTys, countFields, countTys}
 use Rattle.order.specs.Order.{Dir, up, down, flip, top, bottom, fixed, same}
 use Rattle.order.specs.Types.{sameCount, reduce, reduceTys, bound, bounds, sup, sub}
 use Rattle.order.specs.Ascending.{Asc, AscFields}
-use Rattle.order.specs.Size.{size, sizeFields}
-use Rattle.form.proofs.ExactTypes.{decode-code}
+use Rattle.order.specs.Size.{size}
 use Rattle.order.proofs.Simple.{fixed-laws, same-eq}
 use Rattle.order.proofs.Sentences.{sup-simple-built, sup-built-simple, sub-simple-built, sub-built-simple, sup-functions, sub-functions, sup-functions-other, sub-functions-other}
 use Rattle.order.proofs.Sentences.{sup-fields-both, sub-fields-both}
 use Rattle.order.proofs.Laws.{le-refl, mutual-reduce, sup-left, sup-least, sup-reduced, sub-left, sub-greatest, sub-reduced}
 use Rattle.order.proofs.Answers.{asc-sup, asc-sub}
 use Rattle.order.proofs.Size.{length-enc, length-tys}
-use Rattle.types.specs.At.{Sig, sig, cons, funOf, sizeSig, sigAt}
-use Rattle.types.proofs.Reading.{cmd, parameter, result}
+use Rattle.types.specs.At.{Sig, sig, cons, funOf, sizeSig}
+use Rattle.types.proofs.ByCommand.{same-simple, count-sig}
+use Rattle.types.proofs.Reading.{cmd}
 use Rattle.lattice.specs.Writing.{answer, answerFields, answerSig, encSig}
 
 -- ---- the bytes of trees
@@ -38,17 +37,9 @@ pub count-none : countFields no-fields ≡ 0
 unfolding countFields
 count-none = refl
 
-pub count-size : (fs : Fields) → countFields fs ≤ sizeFields fs
-unfolding countFields size
-count-size no-fields = omega arith
-count-size (field n t fs) = omega (arith, count-size fs)
-
 -- ---- signatures
-unfoldable pub countSig : Sig → ℕ
-countSig (sig ps r) = countTys ps
-
-pub enc-fun : (f : Sig) → enc (funOf f) ≡ 45 ∷ countSig f ∷ encSig f
-unfolding enc encSig countSig
+pub enc-fun : (f : Sig) → enc (funOf f) ≡ 45 ∷ count-sig f ∷ encSig f
+unfolding enc encSig
 enc-fun (sig ps r) = refl
 
 pub enc-cons : (t : Ty) (f : Sig) → encSig (cons t f) ≡ enc t ++ encSig f
@@ -71,21 +62,6 @@ pub answer-result : (d : Dir) (r s : Ty) → answerSig d (sig no-params r) (sig 
 unfolding answerSig bound reduce
 answer-result d r s = refl
 
-count-cons : (t : Ty) (f : Sig) → countSig (cons t f) ≡ suc (countSig f)
-unfolding countSig countTys
-count-cons t (sig ps r) = refl
-
--- as many parameters as were read
-pub sig-count : (l n : ℕ) (s : List ℕ) (f : Sig) → sigAt l n s ≡ some f → countSig f ≡ n
-unfolding countSig countTys
-sig-count l zero s f e = go (result l s f e)
-  where
-    go : (r : Ty) × (Rattle.types.specs.At.typeAt l s ≡ some r) × (f ≡ sig no-params r) → countSig f ≡ 0
-    go g = ap countSig (g .2)
-sig-count l (suc n) s f e =
-    let T = parameter l n s f e in
-    ap countSig (T .is) ∙ count-cons (T .t) (T .y) ∙ ap suc (sig-count l n (drop (size (T .t)) s) (T .y) (T .second))
-
 equal-counts : (ps qs : Tys) → countTys ps ≡ countTys qs → sameCount ps qs ≡ true
 unfolding sameCount countTys
 equal-counts no-params no-params e = refl
@@ -107,25 +83,24 @@ count-bounds d no-params (param b qs) e = refl
 count-bounds d (param a ps) no-params e = absurd (omega arith)
 count-bounds d (param a ps) (param b qs) e = ap suc (count-bounds d ps qs (omega arith))
 
-pub count-answer : (d : Dir) (f g : Sig) → countSig f ≡ countSig g → countSig (answerSig d f g) ≡ countSig f
-unfolding answerSig countSig
+pub count-answer : (d : Dir) (f g : Sig) → count-sig f ≡ count-sig g → count-sig (answerSig d f g) ≡ count-sig f
+unfolding answerSig
 count-answer d (sig ps r) (sig qs s) e = count-bounds (flip d) ps qs e
 
 -- equal counts above 0; equal counts of 0; other counts
-pub functions : (d : Dir) (f g : Sig) → countSig f ≡ countSig g → (countSig f ≡ 0 → ⊥) → answer d (funOf f) (funOf g) ≡ funOf (answerSig d f g)
-unfolding answerSig countSig countTys
+pub functions : (d : Dir) (f g : Sig) → count-sig f ≡ count-sig g → (count-sig f ≡ 0 → ⊥) → answer d (funOf f) (funOf g) ≡ funOf (answerSig d f g)
+unfolding answerSig countTys
 functions d (sig no-params r) g e h = absurd (h refl)
 functions up (sig (param t ps) r) (sig qs s) e h = sup-functions fixed (param t ps) qs r s (equal-counts (param t ps) qs e)
 functions down (sig (param t ps) r) (sig qs s) e h = sub-functions fixed (param t ps) qs r s (equal-counts (param t ps) qs e)
 
-pub functions-none : (d : Dir) (f g : Sig) → countSig f ≡ countSig g → countSig f ≡ 0 → answer d (funOf f) (funOf g) ≡ built (function no-params (leaf any))
-unfolding countSig countTys bound reduce sameCount
+pub functions-none : (d : Dir) (f g : Sig) → count-sig f ≡ count-sig g → count-sig f ≡ 0 → answer d (funOf f) (funOf g) ≡ built (function no-params (leaf any))
+unfolding countTys bound reduce sameCount
 functions-none d (sig no-params r) (sig no-params s) e h = refl
 functions-none d (sig no-params r) (sig (param u qs) s) e h = absurd (omega arith)
 functions-none d (sig (param t ps) r) g e h = absurd (omega arith)
 
-pub functions-other : (d : Dir) (f g : Sig) → (countSig f ≡ countSig g → ⊥) → answer d (funOf f) (funOf g) ≡ leaf (top d)
-unfolding countSig
+pub functions-other : (d : Dir) (f g : Sig) → (count-sig f ≡ count-sig g → ⊥) → answer d (funOf f) (funOf g) ≡ leaf (top d)
 functions-other up (sig ps r) (sig qs s) h = sup-functions-other fixed ps qs r s (other-counts ps qs h)
 functions-other down (sig ps r) (sig qs s) h = sub-functions-other fixed ps qs r s (other-counts ps qs h)
 
@@ -163,9 +138,6 @@ self down t w =
     (sub-left fixed fixed-laws t t v, sub-greatest fixed fixed-laws t t t (le-refl fixed fixed-laws t w) (le-refl fixed fixed-laws t w))
 
 -- ---- by the command bytes
-pub same-simple : (s t : Simple) → 32 + code s ≡ 32 + code t → s ≡ t
-same-simple s t e = let f : code s ≡ code t = omega arith in sym (decode-code s) ∙ ap decode f ∙ decode-code t
-
 -- the least in the direction with u: the reduced u
 least-simple : (d : Dir) (t : Simple) → answer d (leaf (bottom d)) (leaf t) ≡ leaf t
 unfolding bound reduce

@@ -18,13 +18,15 @@ use Rattle.form.proofs.Runs.{rest, length-rest, behind}
 use Rattle.order.specs.Order.{Dir, top, bottom, up, down}
 use Rattle.order.specs.Size.{size}
 use Rattle.order.proofs.Size.{size-positive}
+use Rattle.order.proofs.WellFormed.{count-size}
+use Rattle.types.proofs.ByCommand.{same-simple, count-sig, sig-count}
 use Rattle.types.specs.At.{typeAt, fieldsAt, Sig, funOf, sigAt, sizeAt}
 use Rattle.types.proofs.Reading.{cmd, cmd-is, some-byte, some-level, is-list, is-range, is-ctx, is-fun, t-good, size-fun, last-cmd, size-list, size-range, size-ctx}
 use Rattle.types.proofs.Entries.{size-got}
 use Rattle.lattice.specs.Writing.{answer, answerFields, answerSig, encSig, Joining, ofTypes, ofFields, ofSigs, mostAnswer, Ready, Wrote, Combined, Counted, toward}
 use Rattle.output.proofs.OntoLaws.{onto-first, onto-two, onto-three, late-three, back}
-use Rattle.lattice.proofs.BoundTrees.{enc-ctx, enc-fun, count-size, countSig, sig-count, count-answer, functions, functions-none, functions-other, lists, ranges, contexts}
-use Rattle.lattice.proofs.BoundTrees.{self, same-simple, least}
+use Rattle.lattice.proofs.BoundTrees.{enc-ctx, enc-fun, count-answer, functions, functions-none, functions-other, lists, ranges, contexts}
+use Rattle.lattice.proofs.BoundTrees.{self, least}
 use Rattle.lattice.proofs.BoundTrees.{least-right, other, leaves}
 use mathlib.Core.Bool.{Bool, true, false}
 
@@ -211,8 +213,8 @@ pub record Functions (d : Dir) (l : ℕ) (a b : List ℕ) (n : ℕ) : Type 0 whe
   pub read-b : typeAt l b ≡ some (funOf g)
   pub inner-a : sigAt (l - 1) (getD a 1 0) (drop 2 a) ≡ some f
   pub inner-b : sigAt (l - 1) (getD b 1 0) (drop 2 b) ≡ some g
-  pub count-a : countSig f ≡ getD a 1 0
-  pub count-b : countSig g ≡ getD b 1 0
+  pub count-a : count-sig f ≡ getD a 1 0
+  pub count-b : count-sig g ≡ getD b 1 0
   pub room : size (answer d (funOf f) (funOf g)) ≤ n
   pub cap : size (answer d (funOf f) (funOf g)) ≤ mostAnswer
 
@@ -398,7 +400,7 @@ module _ {d : Dir} {l : ℕ} {a b : List ℕ} {n : ℕ} (F : Functions d l a b n
       fun-known (leaf (top d)) (functions-other d (F .f) (F .g) (λ e. h (sym (F .count-a) ∙ e ∙ F .count-b))) old _ (onto-first old (32 + code (top d)) (omega arith)) x y 1 ex ey refl
 
   module _ (e : getD a 1 0 ≡ getD b 1 0) where
-    pub counts : countSig (F .f) ≡ countSig (F .g)
+    pub counts : count-sig (F .f) ≡ count-sig (F .g)
     counts = F .count-a ∙ e ∙ sym (F .count-b)
 
     none-size : (size (built (function no-params (leaf any))) ≡ 3) × (enc (built (function no-params (leaf any))) ≡ 45 ∷ 0 ∷ 32 ∷ [])

@@ -22,7 +22,8 @@ use Rattle.lattice.specs.Writing.{answer, answerSig, encSig, ofTypes, of
 use Rattle.output.proofs.OntoLaws.{onto-nil, back, back-length}
 use Rattle.lattice.proofs.BoundTrees.{enc-cons, enc-result, length-sig, answer-cons, answer-result}
 use Rattle.lattice.proofs.Branches.{both, Both, ready, is-combined, combined-is}
-use Rattle.types.proofs.Signatures.{Next, next, Last, last}
+use Rattle.types.proofs.ChildAt.{item-behind}
+use Rattle.types.proofs.Signatures.{Param, param-at, Last, last}
 
 pub record SigInv (d : Dir) (l : ℕ) (a b : List ℕ) (n : ℕ) (old out : List ℕ) (at bt to i : ℕ) : Type 0 where
   -- both, and what is left of them
@@ -98,24 +99,24 @@ module _ {d : Dir} {l : ℕ} {a b : List ℕ} {n : ℕ} {old out : List ℕ} {at
 
   -- ---- a parameter
   module _ (h : i < n) where
-    abbrev A : Next l (n - (i + 1)) at a (v .f)
-    A = next l i n at a (v .f) h (v .in-a) (v .read-a)
+    abbrev A : Param l (n - (i + 1)) at a (v .f)
+    A = param-at l i n at a (v .f) h (v .in-a) (v .read-a)
 
-    abbrev B : Next l (n - (i + 1)) bt b (v .g)
-    B = next l i n bt b (v .g) h (v .in-b) (v .read-b)
+    abbrev B : Param l (n - (i + 1)) bt b (v .g)
+    B = param-at l i n bt b (v .g) h (v .in-b) (v .read-b)
 
-    now : answerSig d (v .f) (v .g) ≡ cons (answer (flip d) (A .t) (B .t)) (answerSig d (A .y) (B .y))
-    now = ap₂ (answerSig d) (A .is) (B .is) ∙ answer-cons d (A .t) (B .t) (A .y) (B .y)
+    now : answerSig d (v .f) (v .g) ≡ cons (answer (flip d) (A .x) (B .x)) (answerSig d (A .more) (B .more))
+    now = ap₂ (answerSig d) (A .is) (B .is) ∙ answer-cons d (A .x) (B .x) (A .more) (B .more)
 
-    now-size : sizeSig (answerSig d (v .f) (v .g)) ≡ size (answer (flip d) (A .t) (B .t)) + sizeSig (answerSig d (A .y) (B .y))
-    now-size = ap sizeSig now ∙ size-cons (answer (flip d) (A .t) (B .t)) (answerSig d (A .y) (B .y))
+    now-size : sizeSig (answerSig d (v .f) (v .g)) ≡ size (answer (flip d) (A .x) (B .x)) + sizeSig (answerSig d (A .more) (B .more))
+    now-size = ap sizeSig now ∙ size-cons (answer (flip d) (A .x) (B .x)) (answerSig d (A .more) (B .more))
 
     pub param-ready : Ready (ofTypes (flip d)) (typeAt l (behind at a)) (typeAt l (behind bt b)) (length (behind to out))
-    param-ready = ready (ofTypes (flip d)) _ _ (A .t) (B .t) _ (A .first) (B .first) (omega (arith, v .room, v .out-len, now-size, length-rest out to)) (omega (arith, left, now-size))
+    param-ready = ready (ofTypes (flip d)) _ _ (A .x) (B .x) _ (item-behind A) (item-behind B) (omega (arith, v .room, v .out-len, now-size, length-rest out to)) (omega (arith, left, now-size))
 
     module _ (ns : List ℕ) (e f w : ℕ) (c : Combined (ofTypes (flip d)) (typeAt l (behind at a)) (typeAt l (behind bt b)) (behind to out) ns e f w) where
-      param-wrote : Wrote (ofTypes (flip d)) (A .t) (B .t) (behind to out) ns e f w
-      param-wrote = combined-is (ofTypes (flip d)) _ _ (A .t) (B .t) (behind to out) ns e f w (A .first) (B .first) c
+      param-wrote : Wrote (ofTypes (flip d)) (A .x) (B .x) (behind to out) ns e f w
+      param-wrote = combined-is (ofTypes (flip d)) _ _ (A .x) (B .x) (behind to out) ns e f w (item-behind A) (item-behind B) c
 
       pub param-ends : (at + e ≤ length a) × (bt + f ≤ length b) × (to + w ≤ length out)
       param-ends = let g = param-wrote in (omega (arith, g .one, A .fits), omega (arith, g .two, B .fits), omega (arith, g .long, v .room, v .out-len, now-size))
@@ -123,14 +124,14 @@ module _ {d : Dir} {l : ℕ} {a b : List ℕ} {n : ℕ} {old out : List ℕ} {at
       pub param-next : length ns ≡ length (behind to out) → SigInv d l a b n old (putMid to (length out - to) out ns) (at + e) (bt + f) (to + w) (i + 1)
       param-next el =
           let g = param-wrote in
-          let U = answer (flip d) (A .t) (B .t) in
-          let R = answerSig d (A .y) (B .y) in
+          let U = answer (flip d) (A .x) (B .x) in
+          let R = answerSig d (A .more) (B .more) in
           let s = now-size in
           record {
             all-a = v .all-a;
             all-b = v .all-b;
-            f = A .y;
-            g = B .y;
+            f = A .more;
+            g = B .more;
             done = v .done ++ enc U;
             whole-a = v .whole-a;
             whole-b = v .whole-b;

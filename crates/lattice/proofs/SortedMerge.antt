@@ -22,13 +22,15 @@ use Rattle.order.specs.Order.{Dir, up, down, fixed}
 use Rattle.order.specs.Ascending.{AscFields}
 use Rattle.order.specs.Size.{size, sizeFields}
 use Rattle.order.proofs.Size.{length-enc, length-fields}
+use Rattle.order.proofs.WellFormed.{count-size}
 use Rattle.order.proofs.Sentences.{sup-fields-first, sup-fields-second, sub-fields-first, sub-fields-second}
 use Rattle.types.specs.At.{typeAt, fieldsAt, sizeAt}
 use Rattle.types.proofs.Reading.{t-good}
+use Rattle.types.proofs.ChildAt.{entry-behind}
 use Rattle.types.proofs.Entries.{Here, here, gone, ahead, next-is, size-got, enc-field, enc-none, size-field, size-none, count-field}
 use Rattle.lattice.specs.Writing.{answer, answerFields, ofTypes, ofFields, mostAnswer, Ready, Combined, Counted}
 use Rattle.output.proofs.OntoLaws.{onto-nil, back, back-length, over-onto, length-over}
-use Rattle.lattice.proofs.BoundTrees.{count-none, count-size, fields-none, fields-both, self}
+use Rattle.lattice.proofs.BoundTrees.{count-none, fields-none, fields-both, self}
 use Rattle.lattice.proofs.Branches.{both, Both, ready, is-combined, combined-is, is-counted}
 use Rattle.output.specs.Output.{over}
 
@@ -335,12 +337,6 @@ module _ {d : Dir} {l : ℕ} {a : List ℕ} {n : ℕ} {b : List ℕ} {m : ℕ} {
       pub both-room : to + nameWidth ≤ length out
       both-room = omega (arith, entry-room (A .name) (answer d (A .x) (B .x)) (A .more) (B .more) now)
 
-      part-a : typeAt l (behind (at + nameWidth) a) ≡ some (A .x)
-      part-a = ap (typeAt l) (rest a (at + nameWidth)) ∙ A .first
-
-      part-b : typeAt l (behind (bt + nameWidth) b) ≡ some (B .x)
-      part-b = ap (typeAt l) (rest b (bt + nameWidth)) ∙ B .first
-
       module _ (T : List ℕ) (et : T ≡ over to (bytes nameWidth (numAt nameWidth at a)) out) where
         copied : T ≡ over to (bytes nameWidth (A .name)) out
         copied = et ∙ ap (λ (z : ℕ). over to (bytes nameWidth z) out) (sym (A .named))
@@ -349,11 +345,11 @@ module _ {d : Dir} {l : ℕ} {a : List ℕ} {n : ℕ} {b : List ℕ} {m : ℕ} {
         both-length = entry-length (A .name) (answer d (A .x) (B .x)) (A .more) (B .more) now T copied
 
         pub both-ready : Ready (ofTypes d) (typeAt l (behind (at + nameWidth) a)) (typeAt l (behind (bt + nameWidth) b)) (length (behind (to + nameWidth) T))
-        both-ready = entry-ready (A .name) (answer d (A .x) (B .x)) (A .more) (B .more) now T copied _ _ (A .x) (B .x) part-a part-b refl
+        both-ready = entry-ready (A .name) (answer d (A .x) (B .x)) (A .more) (B .more) now T copied _ _ (A .x) (B .x) (entry-behind A) (entry-behind B) refl
 
         module _ (ns : List ℕ) (e f w : ℕ) (h : Combined (ofTypes d) (typeAt l (behind (at + nameWidth) a)) (typeAt l (behind (bt + nameWidth) b)) (behind (to + nameWidth) T) ns e f w) where
           both-wrote : (e ≡ size (A .x)) × (f ≡ size (B .x)) × (w ≡ size (answer d (A .x) (B .x))) × (ns ≡ onto (enc (answer d (A .x) (B .x))) (behind (to + nameWidth) T))
-          both-wrote = written (A .name) (answer d (A .x) (B .x)) (A .more) (B .more) now T copied _ _ (A .x) (B .x) part-a part-b refl ns e f w h
+          both-wrote = written (A .name) (answer d (A .x) (B .x)) (A .more) (B .more) now T copied _ _ (A .x) (B .x) (entry-behind A) (entry-behind B) refl ns e f w h
 
           pub both-ends : (at + nameWidth + e ≤ length a) × (bt + nameWidth + f ≤ length b) × (to + nameWidth + w ≤ length out)
           both-ends = (
@@ -421,9 +417,6 @@ module _ {l : ℕ} {a : List ℕ} {n : ℕ} {b : List ℕ} {m : ℕ} {old out : 
     pub a-room : to + nameWidth ≤ length out
     a-room = omega (arith, entry-room v (OA .name) (answer down (OA .x) (OA .x)) (OA .more) (v .gs) (only-a OA))
 
-    piece-a : typeAt l (behind (at + nameWidth) a) ≡ some (OA .x)
-    piece-a = ap (typeAt l) (rest a (at + nameWidth)) ∙ OA .first
-
     module _ (T : List ℕ) (et : T ≡ over to (bytes nameWidth (numAt nameWidth at a)) out) where
       copied-a : T ≡ over to (bytes nameWidth (OA .name)) out
       copied-a = et ∙ ap (λ (z : ℕ). over to (bytes nameWidth z) out) (sym (OA .named))
@@ -432,11 +425,11 @@ module _ {l : ℕ} {a : List ℕ} {n : ℕ} {b : List ℕ} {m : ℕ} {old out : 
       a-length = entry-length v (OA .name) (answer down (OA .x) (OA .x)) (OA .more) (v .gs) (only-a OA) T copied-a
 
       pub a-ready : Ready (ofTypes down) (typeAt l (behind (at + nameWidth) a)) (typeAt l (behind (at + nameWidth) a)) (length (behind (to + nameWidth) T))
-      a-ready = entry-ready v (OA .name) (answer down (OA .x) (OA .x)) (OA .more) (v .gs) (only-a OA) T copied-a _ _ (OA .x) (OA .x) piece-a piece-a refl
+      a-ready = entry-ready v (OA .name) (answer down (OA .x) (OA .x)) (OA .more) (v .gs) (only-a OA) T copied-a _ _ (OA .x) (OA .x) (entry-behind OA) (entry-behind OA) refl
 
       module _ (ns : List ℕ) (e f w : ℕ) (h : Combined (ofTypes down) (typeAt l (behind (at + nameWidth) a)) (typeAt l (behind (at + nameWidth) a)) (behind (to + nameWidth) T) ns e f w) where
         a-wrote : (e ≡ size (OA .x)) × (f ≡ size (OA .x)) × (w ≡ size (answer down (OA .x) (OA .x))) × (ns ≡ onto (enc (answer down (OA .x) (OA .x))) (behind (to + nameWidth) T))
-        a-wrote = written v (OA .name) (answer down (OA .x) (OA .x)) (OA .more) (v .gs) (only-a OA) T copied-a _ _ (OA .x) (OA .x) piece-a piece-a refl ns e f w h
+        a-wrote = written v (OA .name) (answer down (OA .x) (OA .x)) (OA .more) (v .gs) (only-a OA) T copied-a _ _ (OA .x) (OA .x) (entry-behind OA) (entry-behind OA) refl ns e f w h
 
         pub a-ends : (at + nameWidth + e ≤ length a) × (to + nameWidth + w ≤ length out)
         a-ends = (omega (arith, a-wrote .0, OA .fits), omega (arith, a-wrote .2, entry-room v (OA .name) (answer down (OA .x) (OA .x)) (OA .more) (v .gs) (only-a OA)))
@@ -459,9 +452,6 @@ module _ {l : ℕ} {a : List ℕ} {n : ℕ} {b : List ℕ} {m : ℕ} {old out : 
     pub b-room : to + nameWidth ≤ length out
     b-room = omega (arith, entry-room v (OB .name) (answer down (OB .x) (OB .x)) (v .fs) (OB .more) (only-b OB))
 
-    piece-b : typeAt l (behind (bt + nameWidth) b) ≡ some (OB .x)
-    piece-b = ap (typeAt l) (rest b (bt + nameWidth)) ∙ OB .first
-
     module _ (T : List ℕ) (et : T ≡ over to (bytes nameWidth (numAt nameWidth bt b)) out) where
       copied-b : T ≡ over to (bytes nameWidth (OB .name)) out
       copied-b = et ∙ ap (λ (z : ℕ). over to (bytes nameWidth z) out) (sym (OB .named))
@@ -470,11 +460,11 @@ module _ {l : ℕ} {a : List ℕ} {n : ℕ} {b : List ℕ} {m : ℕ} {old out : 
       b-length = entry-length v (OB .name) (answer down (OB .x) (OB .x)) (v .fs) (OB .more) (only-b OB) T copied-b
 
       pub b-ready : Ready (ofTypes down) (typeAt l (behind (bt + nameWidth) b)) (typeAt l (behind (bt + nameWidth) b)) (length (behind (to + nameWidth) T))
-      b-ready = entry-ready v (OB .name) (answer down (OB .x) (OB .x)) (v .fs) (OB .more) (only-b OB) T copied-b _ _ (OB .x) (OB .x) piece-b piece-b refl
+      b-ready = entry-ready v (OB .name) (answer down (OB .x) (OB .x)) (v .fs) (OB .more) (only-b OB) T copied-b _ _ (OB .x) (OB .x) (entry-behind OB) (entry-behind OB) refl
 
       module _ (ns : List ℕ) (e f w : ℕ) (h : Combined (ofTypes down) (typeAt l (behind (bt + nameWidth) b)) (typeAt l (behind (bt + nameWidth) b)) (behind (to + nameWidth) T) ns e f w) where
         b-wrote : (e ≡ size (OB .x)) × (f ≡ size (OB .x)) × (w ≡ size (answer down (OB .x) (OB .x))) × (ns ≡ onto (enc (answer down (OB .x) (OB .x))) (behind (to + nameWidth) T))
-        b-wrote = written v (OB .name) (answer down (OB .x) (OB .x)) (v .fs) (OB .more) (only-b OB) T copied-b _ _ (OB .x) (OB .x) piece-b piece-b refl ns e f w h
+        b-wrote = written v (OB .name) (answer down (OB .x) (OB .x)) (v .fs) (OB .more) (only-b OB) T copied-b _ _ (OB .x) (OB .x) (entry-behind OB) (entry-behind OB) refl ns e f w h
 
         pub b-ends : (bt + nameWidth + e ≤ length b) × (to + nameWidth + w ≤ length out)
         b-ends = (omega (arith, b-wrote .0, OB .fits), omega (arith, b-wrote .2, entry-room v (OB .name) (answer down (OB .x) (OB .x)) (v .fs) (OB .more) (only-b OB)))

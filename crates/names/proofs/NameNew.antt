@@ -19,7 +19,8 @@ use Rattle.form.specs.Answers.{Built}
 use Rattle.form.specs.declared.Written.{Written}
 use Rattle.form.specs.declared.Written.the-variants as written-is
 use Rattle.types.specs.At.{Ok}
-use Rattle.types.proofs.Reading.{never, is-ok, ok-got}
+use Rattle.form.proofs.Options.{none-some}
+use Rattle.types.proofs.Reading.{is-ok, ok-got}
 use Rattle.output.proofs.Outcomes.{built-refused}
 use Rattle.output.proofs.FillLaws.{length-fill, put-then, handed}
 use Rattle.names.specs.Names.{blank, trimStart, keep, trimEnd, trim, isMark, parted, space, added, pushed, nameNew, Writes}
@@ -88,7 +89,7 @@ module _ (part trimmed : List ℕ) (e : trimmed ≡ trim part) where
 
 -- ---- parts that were read
 counted-got : (s : List ℕ) (ps : List (List ℕ)) → countedParts s ≡ some ps → 0 < length s
-counted-got [] ps e = absurd (never e)
+counted-got [] ps e = absurd (none-some e)
 counted-got (b ∷ s) ps e = omega arith
 
 module _ (s : List ℕ) (ps : List (List ℕ)) (e : readParts s ≡ some ps) where

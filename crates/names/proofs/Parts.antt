@@ -14,6 +14,7 @@ use lib.Seq.{drop-cons}
 use lib.Dec.{leb}
 use borrow.Author.Tests.{le-leb, lt-leb, not-true, not-false, leb-true}
 use Rattle.form.specs.Limits.{mostBytes}
+use Rattle.order.proofs.Bools.{and-false, and-true}
 use Rattle.names.specs.Reader.{provided, readTexts, isRead}
 use Rattle.names.specs.Parts.{plain, inParts, countedParts, readParts}
 use Rattle.names.proofs.Reader.{cut-is, Left, left-bad, left-next}
@@ -27,17 +28,9 @@ plain-cons : (b : ℕ) (s : List ℕ) → plain (b ∷ s) ≡ leb b 0x7F && plai
 unfolding plain
 plain-cons b s = refl
 
-none-both : (q : Bool) → q && false ≡ false
-none-both true = refl
-none-both false = refl
-
 -- the largest byte so far, and the bytes that are left
 pub plain-ended : (s : List ℕ) (m i : ℕ) → plain s ≡ leb m 0x7F && plain (drop i s) → length s ≤ i → leb m 0x7F ≡ plain s
-plain-ended s m i e h = sym (e ∙ ap (λ q. leb m 0x7F && q) (ap plain (drop-of-length-le s h) ∙ plain-nil) ∙ go (leb m 0x7F))
-  where
-    go : (q : Bool) → q && true ≡ q
-    go true = refl
-    go false = refl
+plain-ended s m i e h = sym (e ∙ ap (λ q. leb m 0x7F && q) (ap plain (drop-of-length-le s h) ∙ plain-nil) ∙ and-true (leb m 0x7F))
 
 module _ (s : List ℕ) (m i : ℕ) (e : plain s ≡ leb m 0x7F && plain (drop i s)) (h : i < length s) where
   plain-byte : plain s ≡ leb m 0x7F && (leb (getD s i 0) 0x7F && plain (drop (i + 1) s))
@@ -48,7 +41,7 @@ module _ (s : List ℕ) (m i : ℕ) (e : plain s ≡ leb m 0x7F && plain (drop i
     where
       go : (q : Bool) → leb (getD s i 0) 0x7F ≡ q → leb m 0x7F && (q && plain (drop (i + 1) s)) ≡ q && plain (drop (i + 1) s)
       go true t = rw (le-leb m 0x7F (omega (arith, leb-true (getD s i 0) 0x7F t)))
-      go false t = none-both (leb m 0x7F)
+      go false t = and-false (leb m 0x7F)
 
   pub plain-min : getD s i 0 ≤ m → (n : ℕ) → n ≡ m → plain s ≡ leb n 0x7F && plain (drop (i + 1) s)
   plain-min k n z = plain-byte ∙ go (leb m 0x7F) refl ∙ ap (λ (x : ℕ). leb x 0x7F && plain (drop (i + 1) s)) (sym z)

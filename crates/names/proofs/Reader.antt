@@ -14,21 +14,18 @@ use lib.ListN.{length, take, drop, getD, length-drop, drop-of-length-le}
 use lib.Seq.{drop-cons, drop-drop}
 use lib.Dec.{leb, eqb}
 use borrow.Author.Tests.{le-leb, lt-leb, eq-eqb, ne-eqb, leb-true}
-use Rattle.types.proofs.Reading.{never}
+use Rattle.form.proofs.Options.{none-some, some-same}
 use Rattle.names.specs.Reader.{Rule, atEnd, provided, readTexts, isRead}
 use Rattle.form.specs.Options.{map}
 
 -- ---- results taken apart
-pub some-same : {X : Type 0} {x y : X} → some x ≡ some y → x ≡ y
-some-same e = cc
-
 pub provided-got : {X : Type 0} (q : Bool) (o : Option X) (x : X) → provided q o ≡ some x → (q ≡ true) × (o ≡ some x)
 provided-got true o x e = (refl, e)
-provided-got false o x e = absurd (never e)
+provided-got false o x e = absurd (none-some e)
 
 pub end-none : (s : List ℕ) (ts : List (List ℕ)) → atEnd s ≡ some ts → ts ≡ []
 end-none [] ts e = sym (some-same e)
-end-none (b ∷ s) ts e = absurd (never e)
+end-none (b ∷ s) ts e = absurd (none-some e)
 
 pub read-some : {X : Type 0} (o : Option X) → isRead o ≡ true → (x : X) × (o ≡ some x)
 read-some none e = absurd (false≢true e)
@@ -108,16 +105,16 @@ texts-got rule before c n s ts e = go (leb n (length s)) (rule before (take n s)
     go : (p q : Bool) (o : Option (List (List ℕ))) → leb n (length s) ≡ p → rule before (take n s) ≡ q → readTexts rule (some (take n s)) c (drop n s) ≡ o
         → provided (p && q) (map (λ r. take n s ∷ r) o) ≡ some ts → Text rule before c n s ts
     go true true (some more) ep eq eo z = record { fits = leb-true n (length s) ep; ruled = eq; more = more; next = eo; is = cc }
-    go true true none ep eq eo z = absurd (never z)
-    go true false o ep eq eo z = absurd (never z)
-    go false q o ep eq eo z = absurd (never z)
+    go true true none ep eq eo z = absurd (none-some z)
+    go true false o ep eq eo z = absurd (none-some z)
+    go false q o ep eq eo z = absurd (none-some z)
 
 module _ (rule : Rule) (before : Option (List ℕ)) (c at : ℕ) (s : List ℕ) (ts : List (List ℕ)) (e : readTexts rule before (suc c) (drop at s) ≡ some ts) where
   pub text-byte : at < length s
   text-byte = go (drop at s) (length-drop at s) e
     where
       go : (r : List ℕ) → length r ≡ length s - at → readTexts rule before (suc c) r ≡ some ts → at < length s
-      go [] l z = absurd (never (sym (read-nil rule before c) ∙ z))
+      go [] l z = absurd (none-some (sym (read-nil rule before c) ∙ z))
       go (b ∷ r) l z = omega arith
 
   pub text-here : Text rule before c (getD s at 0) (drop (at + 1) s) ts

@@ -7,7 +7,7 @@ use mathlib.Core.Option.{some}
 use mathlib.Core.List.{List, [], _∷_}
 use Prim.Native.Nat.{ℕ}
 use Rattle.form.specs.Trees.{Simple, any, boolean, number, string, date, time, dateTime, daysAndTime, yearsAndMonths, null}
-use Rattle.types.proofs.Reading.{never}
+use Rattle.form.proofs.Options.{none-some}
 use Rattle.names.specs.BuiltInNames.{nameOf, simples, sameText, oneNamed, fromStr, isBuiltInTypeName}
 use Rattle.names.specs.Reader.{isRead}
 use Rattle.names.proofs.BuiltInNames.{same-text, named-cons, named-read}
@@ -27,7 +27,7 @@ known-name null = refl
 
 only-named : (s : List ℕ) (x : Simple) (xs : List Simple) → oneNamed s xs ≡ some x → s ≡ nameOf x
 unfolding oneNamed
-only-named s x [] e = absurd (never e)
+only-named s x [] e = absurd (none-some e)
 only-named s x (y ∷ xs) e = go (sameText s (nameOf y)) refl (only-named s x xs) (sym (named-cons s y xs) ∙ e)
   where
     go : (q : Bool) → sameText s (nameOf y) ≡ q → (oneNamed s xs ≡ some x → s ≡ nameOf x) → cond q (some y) (oneNamed s xs) ≡ some x → s ≡ nameOf x

@@ -1,5 +1,5 @@
 -- Plain facts about tests.
--- Index: `and-assoc`, `and-comm`, `and-swap`, `and-mix`, `and-implied`, `not-both` (and); `or-trans`, `or-cases` (or); `function-tests` (two function types);
+-- Index: `and-assoc`, `and-comm`, `and-swap`, `and-mix`, `and-implied`, `not-both` (and); `or-right`, `or-trans`, `or-cases` (or); `function-tests` (two function types);
 -- `found-ext`, `found-and`, `found-some`, `found-none` (a name that is found or not).
 -- Assumes nothing.
 use mathlib.Core.Path.{_≡_, refl, sym, ap}
@@ -10,6 +10,10 @@ use Rattle.order.specs.Types.{found}
 pub and-false : (a : Bool) → a && false ≡ false
 and-false true = refl
 and-false false = refl
+
+pub or-right : (a b : Bool) → b ≡ true → a || b ≡ true
+or-right true b h = refl
+or-right false b h = h
 
 pub and-true : (a : Bool) → a && true ≡ a
 and-true true = refl

@@ -16,7 +16,7 @@ use Rattle.order.proofs.Simple.{and-left, and-right, and-both, scmp-ref
 use Rattle.form.specs.Trees.{Ty, leaf, built, Built, list, range, context, function, Fields, no-fields, field, Tys, no-params, param}
 use Rattle.order.specs.Types.{lookup, found, allFields, empty, ignores, cmp, cmpBuilt, has, within, cmps, reduce, reduceBuilt, reduceFields, reduceTys}
 use Rattle.order.specs.Ascending.{Asc, AscBuilt, AscFields, AscTys}
-use Rattle.order.proofs.Bools.{or-trans, found-cond, found-ext, cond-up}
+use Rattle.order.proofs.Bools.{or-right, or-trans, found-cond, found-ext, cond-up}
 
 pub all-ext : (f g : ℕ → Ty → Bool) (gs : Fields) → ((n : ℕ) (t : Ty) → f n t ≡ g n t) → allFields f gs ≡ allFields g gs
 unfolding allFields
@@ -261,10 +261,6 @@ module _ (O : Order) (L : Laws O) where
   refl-context up fs h = h
   refl-context down fs h = sym (all-within O fs fs (λ n t. flip-has O fs n t)) ∙ h
 
-  refl-result : (q x : Bool) → x ≡ true → q || x ≡ true
-  refl-result true x h = refl
-  refl-result false x h = h
-
   mutual
     unfolding cmp allFields Asc
 
@@ -278,7 +274,7 @@ module _ (O : Order) (L : Laws O) where
     cmp-refl-built d (context fs) w = refl-context d fs (has-refl fs 0 w)
     cmp-refl-built d (function ps r) w =
         and-both (cmps O (flip d) ps ps) (ignores O ps || cmp O d r r) (cmps-refl (flip d) ps (w .0))
-        (refl-result (ignores O ps) (cmp O d r r) (cmp-refl d r (w .1)))
+        (or-right (ignores O ps) (cmp O d r r) (cmp-refl d r (w .1)))
 
     has-refl : (fs : Fields) (k : ℕ) → AscFields fs k → allFields (λ n t. has O fs n t) fs ≡ true
     has-refl no-fields k w = refl

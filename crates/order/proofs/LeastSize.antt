@@ -59,7 +59,7 @@ mutual
   length-vals no-items = refl
   length-vals (item v vs) = omega (arith, length-encV v, length-vals vs, length-append (encV v) (encVals vs))
 
-  length-entries : (es : Entries) → length (encEntries es) ≡ sizeEntries es
+  pub length-entries : (es : Entries) → length (encEntries es) ≡ sizeEntries es
   length-entries no-entries = refl
   length-entries (entry m v es) =
       omega (arith, length-encV v, length-entries es, length-append (encV v) (encEntries es), length-front nameWidth m (encV v ++ encEntries es))

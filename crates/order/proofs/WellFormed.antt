@@ -14,7 +14,7 @@ use Rattle.order.specs.Ascending.{Asc, AscBuilt, AscFields, AscTys}
 use Rattle.order.specs.Size.{size, sizeBuilt, sizeFields, sizeTys}
 use Rattle.order.proofs.Answers.{asc-sup, asc-sub}
 use Rattle.order.proofs.Holds.{Holds, HoldsBuilt, HoldsFields, HoldsTys, holds-sup, holds-sub}
-use Rattle.order.proofs.Size.{size-positive, size-sup, size-sub}
+use Rattle.order.proofs.Size.{size-sup, size-sub}
 
 mutual
   unfolding Wf Asc
@@ -63,10 +63,10 @@ mutual
   fits-tys (param t ts) w = (fits-of t (w .0), fits-tys ts (w .1))
 
 -- a context has fewer names than bytes
-count-size : (fs : Fields) → countFields fs ≤ sizeFields fs
+pub count-size : (fs : Fields) → countFields fs ≤ sizeFields fs
 unfolding size countFields
 count-size no-fields = omega arith
-count-size (field m t fs) = omega (arith, count-size fs, size-positive t)
+count-size (field m t fs) = omega (arith, count-size fs)
 
 mutual
   unfolding Wf Asc Holds size

@@ -1,7 +1,8 @@
 -- The calls: refusals in their order, then the answer.
--- Index: `Opened`, `opened`, `opened-ok`, `is-refused`, `code-refused`, `read-whole` (the context of a call); `refused-value`, `refused-names`, `refused-other`, `refused-not` (`refusal`);
--- `searched`, `entry-call`, `first-none`, `first-done`, `part-refused`, `call-refused` (calls that find a part); `AllStand`, `stand-deep`, `stand-entry`, `stand-first`, `lend-within`, `lent`
--- (a part that is lent); `found-deep`, `found-entry`, `len-done`, `empty-yes`, `empty-no`, `Entered`, `entered`, `context-yes`, `context-no` (questions).
+-- Index: `Opened`, `opened`, `opened-ok`, `opened-short`, `is-refused`, `code-refused`, `read-whole` (the context of a call);
+-- `refused-value`, `refused-names`, `refused-other`, `refused-not` (`refusal`); `searched`, `entry-call`, `first-none`, `first-done`, `part-refused`, `call-refused` (calls that find a part);
+-- `AllStand`, `stand-deep`, `stand-entry`, `stand-first`, `lend-within`, `lent` (a part that is lent);
+-- `found-deep`, `found-entry`, `len-done`, `empty-yes`, `empty-no`, `Entered`, `entered`, `context-yes`, `context-no` (questions).
 -- Assumes nothing.
 use Prim.Native.Nat.{ℕ, _+_, _-_, _<_, _≤_, _^_}
 use native.Mathlib.Omega.{arith}
@@ -21,6 +22,7 @@ use Rattle.form.specs.Read.{Got, got, bad, readV, numberOf, all, readWhole, rea
 use Rattle.form.specs.Faults.{Shape, Names, Level}
 use Rattle.form.specs.Parts.{LiesAt}
 use Rattle.form.proofs.Accepted.{refused-done, whole-got}
+use Rattle.form.proofs.Values.{value-accepted}
 use Rattle.order.specs.Size.{sizeEntries}
 use Rattle.order.proofs.LeastSize.{length-encV}
 use Rattle.types.specs.At.{Ok}
@@ -109,6 +111,15 @@ context-done c k es e = go (readValue c) refl e
     go : (o : Outcome Val) → readValue c ≡ o → (do self ← o; check 11 (leb k mostNames); orRefuse 12 (entriesOf self)) ≡ done es → Ctx valueLevels c es
     go (refused m) r h = absurd (refused-done h)
     go (done v) r h = named v r (leb k mostNames) (entriesOf v) refl h
+
+-- it was accepted, so it is short
+pub opened-short : (c : List ℕ) (k : ℕ) (es : Entries) → contextOf c k ≡ done es → Bytes c → length c ≤ mostBytes
+unfolding contextOf _>>=_
+opened-short c k es e b = go (readValue c) refl e
+  where
+    go : (o : Outcome Val) → readValue c ≡ o → (do self ← o; check 11 (leb k mostNames); orRefuse 12 (entriesOf self)) ≡ done es → length c ≤ mostBytes
+    go (refused m) r h = absurd (refused-done h)
+    go (done v) r h = value-accepted c b v r .short
 
 pub record Opened (c : List ℕ) (k : ℕ) : Type 0 where
   pub es : Entries

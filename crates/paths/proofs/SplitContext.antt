@@ -1,6 +1,6 @@
 -- A context split at a name: the entries below it, its own, and those above it; on trees and in the bytes.
 -- Index: `split-some`, `split-none`, `enc-joined`, `count-joined`, `value-well`, `value-level`, `from-well` (on trees); `Around`, `around-some`, `around-none`, `part-some`, `child-whole`
--- (in the bytes); `text-context`, `text-entries`, `well-context`, `well-entries`, `count-context`, `length-entries` (a context that was read).
+-- (in the bytes); `text-context`, `text-entries`, `well-context`, `well-entries`, `count-context` (a context that was read).
 -- Assumes nothing.
 use Prim.Native.Nat.{ℕ, suc, _+_, _-_, _<_, _≤_}
 use native.Mathlib.Omega.{arith}
@@ -22,13 +22,12 @@ use Rattle.form.proofs.Exact.{Found}
 use Rattle.form.proofs.ExactValues.{enc-readV, read-encV}
 use Rattle.form.proofs.Numbers.{length-bytes, num-bytes}
 use Rattle.order.specs.Size.{sizeVal, sizeEntries}
-use Rattle.order.proofs.LeastSize.{length-encV}
+use Rattle.order.proofs.LeastSize.{length-encV, length-entries}
 use Rattle.paths.specs.Paths.{valueOf, below, above, entryPlace}
 use Rattle.paths.specs.Places.{wholeAt}
 use Rattle.paths.proofs.Whole.{is-whole, context-read, Ctx}
 use Rattle.paths.proofs.FindLoops.{value-first, value-later, value-absent, below-more, below-none}
 use Rattle.values.proofs.Reading.{From, from-none, from-entry, from-less}
-use Rattle.values.proofs.EntriesAt.{size-context}
 use Rattle.form.proofs.Options.{none-some, some-same}
 
 -- ---- on trees
@@ -106,10 +105,6 @@ pub count-joined : (a b : Entries) → countEntries (joined a b) ≡ countEntrie
 unfolding joined countEntries
 count-joined no-entries b = omega arith
 count-joined (entry m v a) b = omega (arith, count-joined a b)
-
-pub length-entries : (es : Entries) → length (encEntries es) ≡ sizeEntries es
-unfolding encV
-length-entries es = omega (arith, length-encV (v-context es), length-front 2 (countEntries es) (encEntries es), size-context es)
 
 -- a value of a well-formed context is well-formed, and lower than the context
 pub value-well : (n k : ℕ) (x : Val) (es : Entries) → WfEntries es k → valueOf n es ≡ some x → WfV x

@@ -23,7 +23,7 @@ use Rattle.order.specs.Size.{size, sizeFields, sizeVal, sizeEntries}
 use Rattle.types.specs.At.{typeAt, fieldsAt, sizeAt, Ok}
 use Rattle.types.proofs.Reading as types
 use Rattle.types.proofs.Reading.{is-ok, ok-got}
-use Rattle.types.proofs.ChildAt.{entry-ok}
+use Rattle.types.proofs.ChildAt.{entry-behind, entry-ok}
 use Rattle.types.proofs.Entries.{size-got, Here, here, gone, ahead, next-is, at-end}
 use Rattle.values.specs.At.{valueAt, entriesAt, sizeAtV}
 use Rattle.values.proofs.Reading as values
@@ -315,7 +315,7 @@ module _ {l : ℕ} {t : List ℕ} {m : ℕ} {v : List ℕ} {n : ℕ} {mid out : 
         module _ (u : ℕ) (ys : List ℕ) (r : Retrieved) (T : Retrieves (typeAt (l - 1) (behind (bt + nameWidth) t)) (valueAt (l - 1) (behind (at + nameWidth) v)) (behind u mine) ys r) where
           gave : Gave (B2 .x) (A2 .x) (behind u mine) ys r
           gave = retrieves-is (typeAt (l - 1) (behind (bt + nameWidth) t)) (valueAt (l - 1) (behind (at + nameWidth) v)) (B2 .x) (A2 .x) (behind u mine) ys r
-              (ap (typeAt (l - 1)) (rest t (bt + nameWidth)) ∙ B2 .first) (ap (valueAt (l - 1)) (rest v (at + nameWidth)) ∙ A2 .first) T
+              (entry-behind B2) (entry-behind A2) T
 
           pub back-kept : length (putMid u (length mine - u) mine ys) ≡ length mid
           back-kept = back-length u mine ys (gave-length (B2 .x) (A2 .x) (behind u mine) ys r gave) ∙ mine-kept ∙ context-kept

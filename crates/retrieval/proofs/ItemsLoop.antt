@@ -17,11 +17,12 @@ use Rattle.order.specs.Size.{size, sizeVal, sizeVals}
 use Rattle.types.specs.At.{typeAt, sizeAt, Ok}
 use Rattle.types.proofs.Reading as types
 use Rattle.types.proofs.Reading.{is-ok, ok-got}
+use Rattle.types.proofs.ChildAt.{item-behind}
 use Rattle.types.proofs.Entries.{size-got}
 use Rattle.values.specs.At.{valueAt, itemsAt}
 use Rattle.values.proofs.Reading.{v-inside, IsVal, is-list, as-list}
 use Rattle.values.proofs.Reading.{some-level, Item, next-item, no-item, encoded, size-item}
-use Rattle.values.proofs.Reading.{Nth, nth, no-nth}
+use Rattle.values.proofs.Reading.{items-sizes, Nth, nth, no-nth}
 use Rattle.retrieval.specs.declared.builder.Retrieved.{Retrieved}
 use Rattle.retrieval.specs.declared.builder.Retrieved.the-variants.{Yes, No}
 use Rattle.retrieval.specs.Retrieve.{retrieve, retrieveItems}
@@ -87,17 +88,9 @@ size-list : (vs : Vals) → sizeVal (v-list vs) ≡ 3 + sizeVals vs
 unfolding sizeVal
 size-list vs = refl
 
-size-none : sizeVals no-items ≡ 0
-unfolding sizeVal
-size-none = refl
-
 text-none : encVals no-items ≡ []
 unfolding encVals
 text-none = refl
-
-size-list-type : (u : Ty) → size (built (list u)) ≡ size u + 1
-unfolding size
-size-list-type u = omega arith
 
 -- `mid` is the output before the loop
 pub record ListInv (l : ℕ) (t v : List ℕ) (n : ℕ) (mid out : List ℕ) (at to bt i : ℕ) : Type 0 where
@@ -150,15 +143,12 @@ module _ {l : ℕ} {t v : List ℕ} {n : ℕ} {mid out : List ℕ} {at to bt i :
     abbrev N : Nth (l - 1) (n - (i + 1)) at v (Q .left)
     N = nth (l - 1) i n at v (Q .left) h (Q .in-v) (Q .read)
 
-    first-behind : valueAt (l - 1) (behind at v) ≡ some (N .x)
-    first-behind = ap (valueAt (l - 1)) (rest v at) ∙ N .first
-
     pub item-ok : Ok (valueAt (l - 1) (behind at v))
-    item-ok = is-ok (valueAt (l - 1) (behind at v)) (N .x) first-behind
+    item-ok = is-ok (valueAt (l - 1) (behind at v)) (N .x) (item-behind N)
 
     module _ (p : ℕ) (ys : List ℕ) (r : Retrieved) (T : Retrieves (typeAt (l - 1) (behind 1 t)) (valueAt (l - 1) (behind at v)) (behind p out) ys r) where
       gave : Gave (Q .both .u) (N .x) (behind p out) ys r
-      gave = retrieves-is (typeAt (l - 1) (behind 1 t)) (valueAt (l - 1) (behind at v)) (Q .both .u) (N .x) (behind p out) ys r (ap (typeAt (l - 1)) (rest t 1) ∙ Q .both .read-u) first-behind T
+      gave = retrieves-is (typeAt (l - 1) (behind 1 t)) (valueAt (l - 1) (behind at v)) (Q .both .u) (N .x) (behind p out) ys r (ap (typeAt (l - 1)) (rest t 1) ∙ Q .both .read-u) (item-behind N) T
 
       pub back-kept : length (putMid p (length out - p) out ys) ≡ length out
       back-kept = back-length p out ys (gave-length (Q .both .u) (N .x) (behind p out) ys r gave)
@@ -209,7 +199,7 @@ module _ {l : ℕ} {t v : List ℕ} {n : ℕ} {mid out : List ℕ} {at to bt i :
       sym (Q .goes) ∙ ap (map (λ ws. Q .done ++ encVals ws)) (ap (λ j. retrieveItems j (Q .both .u)) e ∙ items-none (Q .both .u))
       ∙ ap some (ap (λ (j : List ℕ). Q .done ++ j) text-none ∙ append-nil (Q .done)) in
       retrieves (typeAt l t) (valueAt l v) T W old out (Yes k at to) (Q .both .read-t) (Q .both .read-v)
-      (gave-some T W old out (Q .done) k at to g ek (omega (arith, Q .sized, ap sizeVals e, size-none)) (sym (Q .long))
+      (gave-some T W old out (Q .done) k at to g ek (omega (arith, Q .sized, ap sizeVals e, items-sizes .size-nil)) (sym (Q .long))
       (Q .state ∙ ap (fill (Q .done)) m ∙ fill-over (take 3 v) (Q .done) old (omega (arith, Q .long, Q .head))))
 
   -- there was none
@@ -217,7 +207,7 @@ module _ {l : ℕ} {t v : List ℕ} {n : ℕ} {mid out : List ℕ} {at to bt i :
   list-none h k ek = ended h k (ek ∙ size-got (typeAt l t) (built (list (Q .both .u))) (Q .both .read-t))
 
   pub list-done : n ≤ i → 0 < i → (old : List ℕ) → mid ≡ fill (take 3 v) old → Retrieves (typeAt l t) (valueAt l v) old out (Yes (bt + 1) at to)
-  list-done h k = ended h (bt + 1) (omega (arith, Q .known k, size-list-type (Q .both .u)))
+  list-done h k = ended h (bt + 1) (omega (arith, Q .known k, types.size-list (Q .both .u) .0))
 
   pub list-type : 0 < i → bt + 1 ≤ length t
-  list-type k = omega (arith, Q .known k, size-list-type (Q .both .u), types.t-good l t (built (list (Q .both .u))) (Q .both .read-t) .1)
+  list-type k = omega (arith, Q .known k, types.size-list (Q .both .u) .0, types.t-good l t (built (list (Q .both .u))) (Q .both .read-t) .1)

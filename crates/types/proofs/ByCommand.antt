@@ -1,5 +1,5 @@
 -- Conformance of two types by their command bytes, and of two functions by their counts.
--- Index: `le-null`, `le-any`, `le-other`, `le-leaves` (by the commands); `simple-leaf`, `simple-small`, `same-simple` (a simple type); `le-funs`, `le-counts`, `sig-count` (functions);
+-- Index: `le-null`, `le-any`, `le-other`, `le-leaves` (by the commands); `simple-leaf`, `simple-small`, `same-simple` (a simple type); `le-funs`, `le-counts`, `le-cons`, `sig-count` (functions);
 -- `eq-false`.
 -- Assumes nothing.
 use Prim.Native.Nat.{ℕ, zero, suc, _+_, _≤_}
@@ -18,12 +18,14 @@ use Rattle.order.specs.Order.{fixed, flat}
 use Rattle.order.specs.Types.{le, les, cmp, empty}
 use Rattle.order.specs.Size.{size}
 use Rattle.order.specs.Document.{eqTy}
+use Rattle.order.proofs.Bools.{and-assoc}
 use Rattle.order.proofs.Equal.{eq-ty-same}
-use Rattle.order.proofs.Simple.{fixed-laws}
+use Rattle.order.proofs.Simple.{and-right, fixed-laws}
 use Rattle.order.proofs.Sentences.{le-functions}
 use Rattle.types.specs.At.{Sig, sig, cons, funOf, sigAt}
 use Rattle.types.specs.Conform.{leSig}
-use Rattle.types.proofs.Reading.{cmd, parameter, result}
+use Rattle.types.proofs.Reading.{cmd, result}
+use Rattle.types.proofs.Signatures.{first-param}
 
 -- ---- by the command bytes
 pub same-simple : (s t : Simple) → 32 + code s ≡ 32 + code t → s ≡ t
@@ -95,11 +97,7 @@ unfolding cmp countTys
 les-count no-params no-params e = refl
 les-count no-params (param t ps) e = absurd (true≢false (sym e))
 les-count (param u qs) no-params e = absurd (true≢false (sym e))
-les-count (param u qs) (param t ps) e = ap suc (les-count qs ps (step (le fixed u t) (les fixed qs ps) e))
-  where
-    step : (x y : Bool) → x && y ≡ true → y ≡ true
-    step true y h = h
-    step false y h = absurd (true≢false (sym h))
+les-count (param u qs) (param t ps) e = ap suc (les-count qs ps (and-right (le fixed u t) (les fixed qs ps) e))
 
 abbrev pub count-sig : Sig → ℕ
 count-sig (sig ps r) = countTys ps
@@ -112,8 +110,8 @@ pub sig-count : (l n : ℕ) (s : List ℕ) (f : Sig) → sigAt l n s ≡ some f 
 unfolding countTys
 sig-count l zero s f e = let g = result l s f e in ap count-sig (g .2)
 sig-count l (suc n) s f e =
-    let g = parameter l n s f e in
-    ap count-sig (g .is) ∙ count-cons (g .t) (g .y) ∙ ap suc (sig-count l n (drop (size (g .t)) s) (g .y) (g .second))
+    let g = first-param l n 0 s f (omega arith) e in
+    ap count-sig (g .is) ∙ count-cons (g .x) (g .more) ∙ ap suc (sig-count l n (drop (0 + size (g .x)) s) (g .more) (g .second))
 
 empty-count : (ps : Tys) → empty ps ≡ eqb (countTys ps) 0
 unfolding countTys
@@ -129,3 +127,7 @@ le-counts (sig ps r) (sig qs s) d = le-functions fixed ps qs r s ∙ go (les fix
     go : (q : Bool) → les fixed qs ps ≡ q → q && (empty ps || le fixed r s) ≡ false
     go true e = absurd (d (sym (les-count qs ps e)))
     go false e = refl
+
+pub le-cons : (ig : Bool) (t u : Ty) (f g : Sig) → leSig ig (cons t f) (cons u g) ≡ le fixed u t && leSig ig f g
+unfolding cmp
+le-cons ig t u (sig ps r) (sig qs s) = and-assoc (le fixed u t) (les fixed qs ps) (ig || le fixed r s)

@@ -1,19 +1,19 @@
 -- The child that stands at a place of a run, and what is left behind it, whatever the children are and in whatever order their names stand.
 -- Idea: the reader tells each child's size, so that the rest of the run stands as many bytes behind it.
--- Index: `ItemAt`, `item-at` (without names); `EntryAt`, `entry-at`, `entry-ok` (with names); `none-at` (none is left).
+-- Index: `ItemAt`, `item-at`, `item-behind` (without names); `EntryAt`, `entry-at`, `entry-behind`, `entry-ok` (with names); `none-at` (none is left).
 -- Assumes nothing.
 use Prim.Native.Nat.{ℕ, suc, _+_, _-_, _≤_}
 use mathlib.Core.Path.{_≡_, refl, sym, ap, ap₂, subst, _∙_}
 use mathlib.Core.Option.{Option, some}
 use mathlib.Core.List.{List}
 use native.Mathlib.Omega.{arith}
-use lib.ListN.{length, take, drop, length-drop}
+use lib.ListN.{length, drop, length-drop}
 use lib.Seq.{drop-drop}
 use Rattle.form.specs.Limits.{nameWidth}
 use Rattle.form.specs.Form.{numAt}
 use Rattle.form.specs.Read.{Got, readRun, readNamed}
 use Rattle.form.proofs.Nodes.{item-parts, named-parts}
-use Rattle.form.proofs.Runs.{rest}
+use Rattle.form.proofs.Runs.{rest, behind}
 use Rattle.types.specs.At.{seen, Ok}
 use Rattle.types.proofs.Reading.{is-ok, seen-got, got-seen, Tells, RunSizes, NamedSizes, named-told}
 
@@ -87,10 +87,18 @@ entry-at {sz = sz} {nil = nil} {cons = cons} {next = next} {after = after} {szs 
       asc = subst (ascs y) (A .goes-on m) (named-told A child ih c (next m) (drop k (drop nameWidth (drop at s))) y j py .ascend);
     }))
 
--- what a callee asks that is lent the bytes behind the name
-pub entry-ok : {X R : Type 0} {sz : X → ℕ} {szs : R → ℕ} {ascs : R → ℕ → Type 0} {one : List ℕ → Option X} {many : ℕ → ℕ → List ℕ → Option R} {cons : ℕ → X → R → R} {after : ℕ → ℕ}
-    {n at least : ℕ} {s : List ℕ} {xs : R} → EntryAt sz szs ascs one many cons after n at least s xs → Ok (one (take (length s - (at + nameWidth)) (drop (at + nameWidth) s)))
-entry-ok {one = one} {at = at} {s = s} E = rw (rest s (at + nameWidth)) (is-ok (one (drop (at + nameWidth) s)) (E .x) (E .first))
+-- ---- read from the bytes that are lent to a callee
+pub item-behind : {X R : Type 0} {sz : X → ℕ} {szs : R → ℕ} {one : List ℕ → Option X} {many : ℕ → List ℕ → Option R} {cons : X → R → R} {n at : ℕ} {s : List ℕ} {xs : R}
+    (I : ItemAt sz szs one many cons n at s xs) → one (behind at s) ≡ some (I .x)
+item-behind {one = one} {at = at} {s = s} I = ap one (rest s at) ∙ I .first
+
+module _ {X R : Type 0} {sz : X → ℕ} {szs : R → ℕ} {ascs : R → ℕ → Type 0} {one : List ℕ → Option X} {many : ℕ → ℕ → List ℕ → Option R} {cons : ℕ → X → R → R} {after : ℕ → ℕ} {n at least : ℕ}
+    {s : List ℕ} {xs : R} (E : EntryAt sz szs ascs one many cons after n at least s xs) where
+  pub entry-behind : one (behind (at + nameWidth) s) ≡ some (E .x)
+  entry-behind = ap one (rest s (at + nameWidth)) ∙ E .first
+
+  pub entry-ok : Ok (one (behind (at + nameWidth) s))
+  entry-ok = is-ok (one (behind (at + nameWidth) s)) (E .x) entry-behind
 
 -- none is left where none stands
 pub none-at : {R : Type 0} (nil xs : R) (many : ℕ → Option R) (i n : ℕ) → many 0 ≡ some nil → n ≤ i → many (n - i) ≡ some xs → xs ≡ nil

@@ -14,7 +14,7 @@ use borrow.Author.Tests.{ltb-true, ltb-false}
 use Rattle.form.specs.Trees.{Ty, Fields, no-fields, field, simple}
 use Rattle.form.specs.Limits.{nameWidth, nameEnd}
 use Rattle.form.specs.Form.{numAt, bytes, enc, encFields, countFields}
-use Rattle.form.specs.Read.{Got, got, bad, readT, readNamed}
+use Rattle.form.specs.Read.{readT, readNamed}
 use Rattle.form.specs.Walks.{walkOf, sizeIn, Short}
 use Rattle.form.specs.Form.{level}
 use Rattle.form.proofs.WalkAnswers.{short-end}
@@ -22,21 +22,14 @@ use Rattle.form.proofs.TypeLaws.{simple-level}
 use Rattle.order.specs.Ascending.{Asc, AscFields}
 use Rattle.order.specs.Size.{size, sizeFields}
 use Rattle.types.specs.At.{seen, typeAt, fieldsAt, sizeAt}
-use Rattle.types.proofs.Reading.{type-told, t-good, fields-sizes}
+use Rattle.types.proofs.Reading.{walk-size, type-told, t-good, fields-sizes}
+pub use Rattle.form.proofs.Runs.{step}
 use Rattle.types.proofs.ChildAt.{EntryAt, entry-at, none-at}
 
-pub step : (i n : ℕ) → i < n → n - i ≡ suc (n - (i + 1))
-step i n h = omega arith
-
 -- ---- what `skip` answers
-skip-got : (l : ℕ) (s : List ℕ) (r : Got Ty) → readT l s ≡ r → sizeIn (walkOf level r) ≡ sizeAt (seen r)
-unfolding walkOf seen sizeAt
-skip-got l s (got t m) e = type-told l s t m e .sized
-skip-got l s (bad f) e = refl
-
 pub skip-is : (l : ℕ) (s : List ℕ) → sizeIn (walkOf level (readT l s)) ≡ sizeAt (typeAt l s)
-unfolding typeAt
-skip-is l s = skip-got l s (readT l s) refl
+unfolding typeAt sizeAt
+skip-is l s = walk-size level sizeAt (λ t. refl) refl (readT l) (type-told l) s (readT l s) refl
 
 pub skip-short : (l : ℕ) (s : List ℕ) (n room : ℕ) → Short simple (readT l s) n room → (n ≡ 0 → ⊥) → n ≡ sizeAt (typeAt l s)
 skip-short l s n room h z = ap sizeIn (sym (short-end level simple simple-level (readT l s) n room h z)) ∙ skip-is l s

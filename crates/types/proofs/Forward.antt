@@ -15,11 +15,11 @@ use Rattle.form.specs.Form.{numAt}
 use Rattle.form.specs.Layout.{kindOf}
 use Rattle.form.specs.Read.{Got, got, bad, front, andThen, orElse, operand, readRun, counted, readFunction, stepType, stepT, readT, readTys, readFields}
 use Rattle.form.proofs.CommandKinds.{kind-simple}
+use Rattle.form.proofs.Runs.{step}
 use Rattle.form.proofs.TypeLaws.{t-step}
 use Rattle.order.specs.Size.{size}
 use Rattle.types.specs.At.{seen, typeAt, fieldsAt, sig, cons, funOf, sigAt}
 use Rattle.types.proofs.Reading.{seen-got, got-seen, type-told}
-use Rattle.types.proofs.Entries.{step}
 use Rattle.types.proofs.Pairs.{mapO, seen-front}
 
 -- ---- nodes

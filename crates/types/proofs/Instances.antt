@@ -121,10 +121,6 @@ self-entries no-fields k w = refl
 self-entries (field n a fs) k w =
     common nullOrSame n a a fs fs (w .2)
     ∙ and-both (nullOrSame a a) (entries nullOrSame fs fs) (ap (λ (z : Bool). eqTy a (leaf null) || z) (eq-ty-self a) ∙ or-true (eqTy a (leaf null))) (self-entries fs (suc n) (w .2))
-  where
-    or-true : (v : Bool) → v || true ≡ true
-    or-true true = refl
-    or-true false = refl
 
 context-entries : (fs gs : Fields) → AscFields fs 0 → eqFields fs gs || entries nullOrSame fs gs ≡ entries nullOrSame fs gs
 context-entries fs gs w = go (eqFields fs gs) refl

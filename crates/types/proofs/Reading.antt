@@ -1,7 +1,7 @@
 -- What stands at the front of the bytes says of its parts, and that its names ascend and that it ends within the bytes.
 -- Idea: one induction on the reader (`type-told`); the parts by the command byte.
--- Index: `Tells`, `run-told`, `named-told` (runs, from `RunSizes` and `NamedSizes`); `type-told`, `t-good`, `fields-good` (size, names, end);
--- `cmd`, `cmd-is`, `is-leaf`, `is-list`, `is-range`, `is-ctx`, `is-fun`, `last-cmd` (a type by its command); `parameter`, `result` (parameters);
+-- Index: `Tells`, `walk-size`, `run-told`, `named-told` (runs, from `RunSizes` and `NamedSizes`); `type-told`, `t-good`, `fields-good` (size, names, end);
+-- `cmd`, `cmd-is`, `is-leaf`, `is-list`, `is-range`, `is-ctx`, `is-fun`, `last-cmd` (a type by its command); `result` (no parameters);
 -- `size-list`, `size-range`, `size-ctx`, `size-fun`, `size-cons`, `size-result` (sizes); `ok-got`, `seen-got`, `got-seen`.
 -- Assumes nothing.
 use Prim.Native.Nat.{ℕ, zero, suc, _+_, _-_, _<_, _≤_}
@@ -11,11 +11,12 @@ use mathlib.Core.List.{List, _∷_}
 use native.Mathlib.Omega.{arith}
 use native.Mathlib.Numerals.{add-one}
 use lib.ListN.{length, getD, take, drop, length-drop}
-use lib.Seq.{drop-drop}
 use Rattle.form.specs.Trees.{Ty, leaf, built, list, range, context, function, Fields, no-fields, field, Tys, no-params, param, code, decode}
 use Rattle.form.specs.Limits.{nameWidth}
 use Rattle.form.specs.Form.{num, numAt, enc}
+use Rattle.form.specs.Walks.{walkOf, sizeIn}
 use Rattle.form.specs.Read.{Got, got, bad, andThen, readRun, readNamed, readT, readTys, readFields, ascending}
+use Rattle.form.proofs.Options.{none-some}
 use Rattle.form.proofs.Exact.{got-parts, then-parts}
 use Rattle.form.proofs.ExactTypes.{code-decode, code-small}
 use Rattle.form.proofs.Nodes.{item-parts, named-parts, NodeT, nSimple, nList, nRange, nContext, nFunction, type-read}
@@ -34,13 +35,10 @@ unfolding Ok
 ok-got (some x) h = (x, refl)
 ok-got none h = absurd h
 
-pub never : {X : Type 0} {x : X} → none ≡ some x → ⊥
-never p = let z : _≡_ {A = ℕ} 0 1 = cc in omega arith
-
 pub seen-got : {X : Type 0} {P : Type 0} (r : Got X) (x : X) → seen r ≡ some x → ((n : ℕ) → r ≡ got x n → P) → P
 unfolding seen
 seen-got (got y n) x e k = let p : y ≡ x = cc in k n (ap (λ z. got z n) p)
-seen-got (bad f) x e k = absurd (never e)
+seen-got (bad f) x e k = absurd (none-some e)
 
 pub got-seen : {X : Type 0} (r : Got X) (x : X) (n : ℕ) → r ≡ got x n → seen r ≡ some x
 unfolding seen
@@ -57,6 +55,13 @@ told-as p q f = rw (← p, ← q) f
 
 abbrev pub Tells : {X : Type 0} → (X → ℕ) → (X → Type 0) → (List ℕ → Got X) → Type 0
 Tells {X} sz asc read = (s : List ℕ) (x : X) (n : ℕ) → read s ≡ got x n → Told sz asc s x n
+
+-- what a walk over it answers: its size, which is `of` it, 0 where nothing was read
+pub walk-size : {X : Type 0} {sz : X → ℕ} {asc : X → Type 0} (lx : X → ℕ) (of : Option X → ℕ) → ((x : X) → of (some x) ≡ sz x) → of none ≡ 0 → (read : List ℕ → Got X) → Tells sz asc read
+    → (s : List ℕ) (r : Got X) → read s ≡ r → sizeIn (walkOf lx r) ≡ of (seen r)
+unfolding walkOf seen
+walk-size lx of p q read ih s (got x m) e = ih s x m e .sized ∙ sym (p x)
+walk-size lx of p q read ih s (bad f) e = sym q
 
 -- what the sizes and the names of a run say of its children: without names
 pub record RunSizes {X R : Type 0} (sz : X → ℕ) (asc : X → Type 0) (nil : R) (cons : X → R → R) (szs : R → ℕ) (ascs : R → Type 0) : Type 0 where
@@ -245,33 +250,7 @@ unfolding fieldsAt
 fields-good l n least s fs e =
     seen-got (readFields (readT l) n least s) fs e (λ m r. let F = named-told fields-sizes (readT l) (type-told l) n least s fs m r in (F .ascend, omega (arith, F .sized, F .inside)))
 
--- ---- parameters
-pub record Then (l n : ℕ) (s : List ℕ) (f : Sig) : Type 0 where
-  pub t : Ty
-  pub y : Sig
-  pub first : typeAt l s ≡ some t
-  pub second : sigAt l n (drop (size t) s) ≡ some y
-  pub is : f ≡ cons t y
-
-pub parameter : (l n : ℕ) (s : List ℕ) (f : Sig) → sigAt l (suc n) s ≡ some f → Then l n s f
-unfolding sigAt typeAt
-parameter l n s f e =
-    seen-got (andThen sig 0 s (readT l) (readTys (readT l) (suc n) s)) f e (λ m r.
-    then-parts sig 0 s (readT l) (readTys (readT l) (suc n) s) f m r (λ ts k pt u j pu pz pn.
-    item-parts no-params param (readT l) n s ts k pt (λ x i px y v py qz qn.
-    let F = type-told l s x i px in
-    let iv : i + v ≡ k = omega arith in
-    let d : drop v (drop i s) ≡ drop k s = drop-drop v i s ∙ ap (λ (z : ℕ). drop z s) iv in
-    record {
-      t = x;
-      y = sig y u;
-      first = got-seen (readT l s) x i px;
-      second = subst (λ (z : ℕ). seen (andThen sig 0 (drop z s) (readT l) (readTys (readT l) n (drop z s))) ≡ some (sig y u)) (F .sized)
-          (got-seen (andThen sig 0 (drop i s) (readT l) (readTys (readT l) n (drop i s))) (sig y u) (0 + v + j)
-          (then-got sig (drop i s) (readT l) (readTys (readT l) n (drop i s)) y v u j py (ap (readT l) d ∙ pu)));
-      is = sym pz ∙ ap (λ (z : Tys). sig z u) (sym qz);
-    })))
-
+-- ---- a function type without parameters
 pub result : (l : ℕ) (s : List ℕ) (f : Sig) → sigAt l 0 s ≡ some f → (r : Ty) × (typeAt l s ≡ some r) × (f ≡ sig no-params r)
 unfolding sigAt typeAt readRun
 result l s f e =

@@ -21,12 +21,13 @@ use Rattle.form.specs.Form.{num, numAt}
 use Rattle.form.specs.Read.{Got, got, orElse, operand, named, andThen, readNamed, readT, ascending}
 use Rattle.order.specs.Ascending.{AscFields}
 use Rattle.order.specs.Size.{size, sizeFields}
+use Rattle.form.proofs.Runs.{step}
 use Rattle.order.proofs.Size.{size-positive}
 use Rattle.types.specs.At.{seen, typeAt, fieldsAt}
 use Rattle.types.specs.Conform.{Conform, judge, conformBy, addSizes, Met}
 use Rattle.types.proofs.Reading.{seen-got, type-told, t-good, fields-good}
 use Rattle.types.proofs.ChildAt.{EntryAt}
-use Rattle.types.proofs.Entries.{step, Here, here, ahead, next-is}
+use Rattle.types.proofs.Entries.{Here, here, ahead, next-is}
 use Rattle.types.proofs.Pairs.{mapO, mapO-same, seen-front, both, no-when, mapped, met-yes, met-no, grown-on, grown-none, Readable, Sized, sized-in, Pair, MetAt, pair-no, pair-in}
 
 -- a list of names, each with what stands behind it, as it is read

@@ -33,8 +33,8 @@ use Rattle.types.specs.At.{typeAt, fieldsAt, sig, cons, funOf, sizeSig, 
 use Rattle.types.specs.Conform.{Conform, judge, conformBy, typesBy, conformOf, entries, leSig, anyTwo, sameSimple, addSizes, Met}
 use Rattle.types.proofs.Reading.{type-told, cmd, cmd-is, some-byte, some-level, is-ctx, is-fun, fields-good, size-cons, size-fun}
 use Rattle.types.proofs.Entries.{size-got}
-use Rattle.types.proofs.ByCommand.{same-simple, simple-leaf, simple-small, eq-false, le-null, le-any, le-leaves, le-other, sig-count, le-funs, le-counts}
-use Rattle.types.proofs.ParametersInStep.{param-at, le-cons}
+use Rattle.types.proofs.ByCommand.{same-simple, simple-leaf, simple-small, eq-false, le-null, le-any, le-leaves, le-other, sig-count, le-funs, le-counts, le-cons}
+use Rattle.types.proofs.Signatures.{param-at}
 use Rattle.types.proofs.Pairs.{mapO, both, taken, yes-of, no-when, mapped, same-test, grown-on, grown-none, met-yes, met-no, met-as, Sized, Pair, MetAt, met-here, pair-yes, pair-none, pair-no}
 use Rattle.types.proofs.Pairs.{pair-in}
 use Rattle.types.proofs.Forward.{read-simple, node-list, node-range, node-context, node-function, param-on, result-read}
@@ -296,8 +296,8 @@ module _ {l : ℕ} {ig : Bool} {whole : Conform} {a b : List ℕ} {count at bt i
       (λ f g e o.
       let A = param-at l i count at a f h (v .in-a) e in
       let B = param-at l i count bt b g h (v .in-b) o in
-      ap₂ (leSig ig) (A .is) (B .is) ∙ le-cons ig (A .t) (B .t) (A .more) (B .more)
-      ∙ ap (λ x. x && leSig ig (A .more) (B .more)) (pair-no (readable-type l) (readable-type l) (le fixed) b bt a at r s m z (B .t) (A .t) (B .first) (A .first)))))) refl
+      ap₂ (leSig ig) (A .is) (B .is) ∙ le-cons ig (A .x) (B .x) (A .more) (B .more)
+      ∙ ap (λ x. x && leSig ig (A .more) (B .more)) (pair-no (readable-type l) (readable-type l) (le fixed) b bt a at r s m z (B .x) (A .x) (B .first) (A .first)))))) refl
 
   -- behind the last: the results
   last-is : count ≤ i → whole ≡ addSizes at bt (typesBy (λ r s. ig || le fixed r s) (typeAt l (drop at a)) (typeAt l (drop bt b)))

@@ -12,6 +12,7 @@ use borrow.Author.Tests.{lt-ltb, le-ltb, eqb-true, eqb-false, ltb-true, ltb-fals
 use Rattle.form.specs.Limits.{nameWidth}
 use Rattle.form.specs.Trees.{Val, v-context, Entries, no-entries, entry}
 use Rattle.form.specs.Form.{bytes, countEntries, encV, encEntries, WfEntries}
+use Rattle.form.proofs.Options.{map-twice}
 use Rattle.paths.specs.Paths.{valueOf, entriesOf, bind, orEmpty, below, above}
 use Rattle.paths.proofs.SplitContext.{joined, enc-joined, count-joined, split-some, split-none}
 use Rattle.updates.specs.Update.{insert, remove, create, onTheWay, apply}
@@ -23,14 +24,10 @@ abbrev pub or-new : Option Val → Val
 or-new none = v-context no-entries
 or-new (some v) = v
 
-pub mapped-twice : {X Y Z : Type 0} (f : Y → Z) (g : X → Y) (o : Option X) → map f (map g o) ≡ map (λ x. f (g x)) o
-mapped-twice f g none = refl
-mapped-twice f g (some x) = refl
-
 module _ (n m : ℕ) (ns : List ℕ) (x : Val) (es : Entries) where
   strict-some : (o : Option Entries) → bind o (λ fs. map (λ gs. insert n (v-context gs) es) (apply (m ∷ ns) x fs)) ≡ map (λ w. insert n w es) (bind o (λ fs. map v-context (apply (m ∷ ns) x fs)))
   strict-some none = refl
-  strict-some (some fs) = sym (mapped-twice (λ w. insert n w es) v-context (apply (m ∷ ns) x fs))
+  strict-some (some fs) = sym (map-twice (λ w. insert n w es) v-context (apply (m ∷ ns) x fs))
 
   strict-step : (o : Option Val) → bind (onTheWay o) (λ fs. map (λ gs. insert n (v-context gs) es) (apply (m ∷ ns) x fs)) ≡ map (λ w. insert n w es)
       (bind (entriesOf (or-new o)) (λ fs. map v-context (apply (m ∷ ns) x fs)))

@@ -15,6 +15,7 @@ use Rattle.form.specs.Limits.{nameWidth}
 use Rattle.form.specs.Read.{readT}
 use Rattle.form.proofs.AnySize.{Fair}
 use Rattle.form.proofs.MoreLevels.{stays}
+use Rattle.form.proofs.Options.{some-same}
 use Rattle.form.proofs.Runs.{rest}
 use Rattle.order.specs.Order.{up, fixed}
 use Rattle.order.specs.Types.{cmp, cmps, le}
@@ -26,7 +27,7 @@ use Rattle.types.specs.At.{typeAt, Sig, sig, cons, funOf, sizeSig, sigAt, sizeA
 use Rattle.types.specs.Conform.{Conform, judge, conformBy, addSizes, Met}
 use Rattle.types.proofs.Reading.{seen-got, got-seen, ok-got, is-ok, is-fun, t-good, size-cons, size-fun, result}
 use Rattle.types.proofs.Entries.{size-got}
-use Rattle.types.proofs.ParametersInStep.{param-at}
+use Rattle.types.proofs.Signatures.{param-at}
 use Rattle.types.proofs.ByCommand.{sig-count}
 use Rattle.types.proofs.Forward as forward
 use Rattle.types.proofs.Forward.{param-on, result-read}
@@ -37,9 +38,6 @@ use Rattle.values.specs.Held.{held, definitionConforms, heldDefinition}
 use Rattle.values.proofs.Reading.{paramsAt, definition-parts, ParameterAt, parameter-at, no-parameter}
 use Rattle.values.proofs.ByKind.{definition-is, held-function, counts-differ}
 use Rattle.values.proofs.ValueConformance.{fails}
-
-same-tree : {X : Type 0} {x y : X} → some x ≡ some y → x ≡ y
-same-tree e = cc
 
 -- more levels read the same type
 pub type-up : (l m : ℕ) (s : List ℕ) (t : Ty) → l ≤ m → typeAt l s ≡ some t → typeAt m s ≡ some t
@@ -105,8 +103,8 @@ module _ {l m : ℕ} {whole : Conform} {v t : List ℕ} {count at bt i : ℕ} (I
     param-apart w z u = met-no 0 u (ap (addSizes 4 2) (I .goes ∙ ap (addSizes at bt) (no-when sizeParams sizeSig (left-conforms (I .r)) (some (I .ps)) (sigAt m (count - i) (drop bt t)) (λ qs f e g.
         let A = own h in
         let B = param-at m i count bt t f h (I .in-t) g in
-        ap₂ (left-conforms (I .r)) (sym (same-tree e) ∙ A .is) (B .is) ∙ left-cons (I .r) (A .name) (A .x) (A .more) (B .t) (B .more)
-        ∙ ap (λ q. q && left-conforms (I .r) (A .more) (B .more)) (pair-no (readable-type m) (readable-type m) (le fixed) v (at + nameWidth) t bt x y w z (A .x) (B .t) (own-first h)
+        ap₂ (left-conforms (I .r)) (sym (some-same e) ∙ A .is) (B .is) ∙ left-cons (I .r) (A .name) (A .x) (A .more) (B .x) (B .more)
+        ∙ ap (λ q. q && left-conforms (I .r) (A .more) (B .more)) (pair-no (readable-type m) (readable-type m) (le fixed) v (at + nameWidth) t bt x y w z (A .x) (B .x) (own-first h)
         (B .first)))))) refl
 
     module _ (P : Pair (readable-type m) (readable-type m) (le fixed) v (at + nameWidth) t bt x y) where
@@ -118,7 +116,7 @@ module _ {l m : ℕ} {whole : Conform} {v t : List ℕ} {count at bt i : ℕ} (I
       param-turn =
           let A = own h in
           let S = sigAt m (count - (i + 1)) (drop (bt + y) t) in
-          let a : P .x ≡ A .x = same-tree (sym (P .read-a) ∙ own-first h) in
+          let a : P .x ≡ A .x = some-same (sym (P .read-a) ∙ own-first h) in
           let xa : x ≡ size (A .x) = P .size-a ∙ ap size a in
           let e : sigAt m (count - i) (drop bt t) ≡ mapO (cons (P .y)) S = param-on m i count bt t (P .y) h (P .read-b)
           ∙ ap (λ k. mapO (cons (P .y)) (sigAt m (count - (i + 1)) (drop (bt + k) t))) (sym (P .size-b)) in
@@ -152,7 +150,7 @@ module _ {l m : ℕ} {whole : Conform} {v t : List ℕ} {count at bt i : ℕ} (I
     unfolding cmp typesOf
     result-apart z u = met-no 0 u (ap (addSizes 4 2) (I .goes ∙ ap (addSizes at bt) (no-when sizeParams sizeSig (left-conforms (I .r)) (some (I .ps)) (sigAt m (count - i) (drop bt t)) (λ qs f e g.
         let S = result m (drop bt t) f (ap (λ n. sigAt m n (drop bt t)) (sym no-more) ∙ g) in
-        ap₂ (left-conforms (I .r)) (sym (same-tree e) ∙ last) (S .2) ∙ pair-no (readable-type m) (readable-type m) (le fixed) v 0 t bt x y w z (I .r) (S .0) (I .read-r) (S .1))))) refl
+        ap₂ (left-conforms (I .r)) (sym (some-same e) ∙ last) (S .2) ∙ pair-no (readable-type m) (readable-type m) (le fixed) v 0 t bt x y w z (I .r) (S .0) (I .read-r) (S .1))))) refl
 
     module _ (z : x ≡ 0 → ⊥) where
       P : Pair (readable-type m) (readable-type m) (le fixed) v 0 t bt x y
@@ -165,7 +163,7 @@ module _ {l m : ℕ} {whole : Conform} {v t : List ℕ} {count at bt i : ℕ} (I
       unfolding cmp typesOf size sizeParams mapO
       result-yes p q e f =
           let s : sigAt m (count - i) (drop bt t) ≡ some (sig no-params (P .y)) = ap (λ n. sigAt m n (drop bt t)) no-more ∙ result-read m (drop bt t) ∙ ap (mapO (sig no-params)) (P .read-b) in
-          let k : left-conforms (I .r) no-parameters (sig no-params (P .y)) ≡ true = ap (λ r. le fixed r (P .y)) (same-tree (sym (I .read-r) ∙ P .read-a)) ∙ P .holds in
+          let k : left-conforms (I .r) no-parameters (sig no-params (P .y)) ≡ true = ap (λ r. le fixed r (P .y)) (some-same (sym (I .read-r) ∙ P .read-a)) ∙ P .holds in
           met-yes (ap (addSizes 4 2) (I .goes ∙ ap (addSizes at bt)
           (both sizeParams sizeSig (left-conforms (I .r)) (some (I .ps)) (sigAt m (count - i) (drop bt t)) no-parameters (sig no-params (P .y))
           (ap some last) s ∙ ap (λ b. judge b 0 (sizeSig (sig no-params (P .y)))) k))) (omega (arith, e)) (omega (arith, f, P .size-b))

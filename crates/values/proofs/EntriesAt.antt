@@ -14,9 +14,9 @@ use borrow.Author.Tests.{ltb-true, ltb-false}
 use Rattle.form.specs.Limits.{nameWidth, nameEnd}
 use Rattle.form.specs.Form.{numAt, WfV, WfEntries}
 use Rattle.form.specs.Read.{readNamed, readV}
+use Rattle.form.proofs.Runs.{step}
 use Rattle.order.specs.Size.{sizeVal, sizeEntries}
 use Rattle.types.specs.At.{seen}
-use Rattle.types.proofs.Entries.{step}
 use Rattle.types.proofs.ChildAt.{EntryAt, entry-at, none-at}
 use Rattle.values.proofs.Reading.{From, Above, from-none, from-entry, from-less, entries-sizes, value-told}
 use Rattle.values.specs.At.{valueAt, entriesAt}

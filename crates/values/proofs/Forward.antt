@@ -16,10 +16,10 @@ use Rattle.form.specs.Form.{numAt}
 use Rattle.form.specs.Layout.{kindOf}
 use Rattle.form.specs.Faults.{Shape}
 use Rattle.form.specs.Read.{Got, got, bad, front, andThen, orElse, operand, readRun, counted, readRange, stepValue, stepV, readV, readVals, readEntries}
+use Rattle.form.proofs.Runs.{step}
 use Rattle.form.proofs.ValueLaws.{v-step}
 use Rattle.types.specs.At.{seen}
 use Rattle.types.proofs.Reading.{seen-got}
-use Rattle.types.proofs.Entries.{step}
 use Rattle.types.proofs.Pairs.{mapO, seen-front}
 use Rattle.order.specs.Size.{sizeVal}
 use Rattle.values.specs.At.{valueAt, itemsAt, entriesAt}

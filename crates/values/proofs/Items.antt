@@ -17,6 +17,7 @@ use Rattle.order.specs.Inferred.{valueConformsTo}
 use Rattle.types.specs.At.{typeAt, sizeAt}
 use Rattle.types.specs.Conform.{Conform, conformBy, addSizes, Met}
 use Rattle.types.proofs.SortedNames.{readable-type}
+use Rattle.form.proofs.Options.{some-same}
 use Rattle.types.proofs.TypeConformance.{sized-part, unsized-part}
 use Rattle.types.proofs.Pairs.{mapO, mapO-same, both, no-when, mapped, grown-on, grown-none, met-yes, met-no, Sized, Pair, MetAt, pair-no, pair-in}
 use Rattle.values.specs.At.{itemsAt}
@@ -41,9 +42,6 @@ items-start l m v n t =
       goes = ap (λ k. heldItems (itemsAt l k v) (typeAt m t)) e
           ∙ grown-none (heldItems (itemsAt l (n - 0) v) (typeAt m t));
     }
-
-same-tree : {X : Type 0} {x y : X} → some x ≡ some y → x ≡ y
-same-tree e = cc
 
 module _ {l m : ℕ} {whole : Conform} {v : List ℕ} {n : ℕ} {t : List ℕ} {at bt i : ℕ} (I : ItemsGo l m whole v n t at bt i) where
   module _ (h : i < n) (r s : ℕ) where
@@ -72,7 +70,7 @@ module _ {l m : ℕ} {whole : Conform} {v : List ℕ} {n : ℕ} {t : List ℕ} {
             known = λ o. record { x = P .y; read = P .read-b; is = P .size-b };
             goes = I .goes ∙ ap (addSizes at 0) (ap₂ (conformBy sizeVals size (allConform fixed)) e (sym (mapO-same (typeAt m t)))
                 ∙ mapped sizeVals size (allConform fixed) sizeVals size (allConform fixed) (item (P .x)) (λ y. y) r 0 A (typeAt m t)
-                (λ vs y p q. ap (λ b. b && allConform fixed vs y) (ap (conforms fixed (P .x)) (same-tree (sym q ∙ P .read-b)) ∙ P .holds)) (λ vs p. omega arith) (λ y. omega arith))
+                (λ vs y p q. ap (λ b. b && allConform fixed vs y) (ap (conforms fixed (P .x)) (some-same (sym q ∙ P .read-b)) ∙ P .holds)) (λ vs p. omega arith) (λ y. omega arith))
                 ∙ grown-on at 0 r 0 (heldItems A (typeAt m t));
           }
 

@@ -3,7 +3,7 @@
 -- Index: `From`, `Above`, `from-none`, `from-entry`, `from-less` (names); `value-told`, `v-inside`, `items-inside`, `entries-inside`, `definition-inside` (size and end);
 -- `IsVal`, `is-val`, `as-leaf`, `as-null`, `as-range`, `as-list`, `as-context`, `as-definition`, `as-built-in`, `as-type` (by the command); `Nth`, `first-item`, `nth`, `no-nth`,
 -- `next-item`, `no-item`, `next-entry`, `no-entry`, `definition-parts`, `ParameterAt`, `first-parameter`, `parameter-at`, `next-parameter`, `no-parameter` (runs);
--- `skip-is`, `skip-end`, `skip-short`, `size-got` (what `skip` answers); `encoded`, `front-text` (the bytes).
+-- `skip-is`, `skip-short`, `size-got` (what `skip` answers); `encoded`, `front-text` (the bytes).
 -- Assumes nothing.
 use Prim.Native.Nat.{ℕ, zero, suc, _+_, _-_, _<_, _≤_}
 use mathlib.Core.Path.{_≡_, refl, sym, ap, subst, _∙_}
@@ -21,8 +21,8 @@ use Rattle.form.specs.Form.{num, numAt, levelV, Bytes, encV, WfV}
 use Rattle.form.specs.Layout.{ValueKind, kNull, kBoolean, kNumber, kString, kTemporal, kRange, kList, kContext, kDefinition, kBuiltIn, kType, kIrrelevant, ofValue, kindOf, operands}
 use Rattle.form.specs.Layout.{operandsV, widthOf}
 use Rattle.form.specs.Walks.{walkOf, sizeIn, Short}
-use Rattle.form.specs.Walks as walk
-use Rattle.form.specs.Read.{Got, got, bad, andThen, readRun, readNamed, readT, readV, readVals, readEntries, readParams, ascending, anyOrder}
+use Rattle.form.specs.Read.{got, andThen, readRun, readNamed, readT, readV, readVals, readEntries, readParams, ascending, anyOrder}
+use Rattle.form.proofs.Runs.{step}
 use Rattle.form.proofs.WalkAnswers.{short-end}
 use Rattle.form.proofs.CommandKinds.{kind-temporal, width-is}
 use Rattle.form.proofs.ValueLaws.{leaf-level}
@@ -33,8 +33,7 @@ use Rattle.order.specs.Size.{size, sizeParams, sizeVal, sizeVals, sizeEntries}
 use Rattle.order.specs.Values.{leafType}
 use Rattle.order.proofs.Simple.{temporal-code}
 use Rattle.types.specs.At.{seen, typeAt}
-use Rattle.types.proofs.Reading.{seen-got, got-seen, Told, Tells, RunSizes, run-told, NamedSizes, named-told, type-told, then-got}
-use Rattle.types.proofs.Entries.{step}
+use Rattle.types.proofs.Reading.{seen-got, got-seen, Told, Tells, RunSizes, run-told, NamedSizes, named-told, type-told, then-got, walk-size}
 use Rattle.types.proofs.ChildAt.{ItemAt, item-at, EntryAt, entry-at, none-at}
 use Rattle.values.specs.At.{valueAt, itemsAt, entriesAt, Definition, definition, sizeDefinition, definitionAt, sizeAtV}
 use lib.Seq.{take-at}
@@ -71,7 +70,7 @@ params-sizes : NamedSizes size Asc no-parameters parameter anyOrder anyOrder siz
 unfolding sizeParams
 params-sizes = record { size-nil = refl; size-cons = λ m t ps. refl; goes-on = λ m. refl; asc-nil = λ k. tt; asc-cons = λ k m t ps h p q. tt }
 
-items-sizes : RunSizes sizeVal Free no-items item sizeVals Free
+pub items-sizes : RunSizes sizeVal Free no-items item sizeVals Free
 unfolding sizeVal
 items-sizes = record { size-nil = refl; size-cons = λ v vs. refl; asc-nil = tt; asc-cons = λ v vs p q. tt }
 
@@ -397,20 +396,12 @@ definition-inside l n s d e =
     subst (λ d. sizeDefinition d ≤ length s) pz (omega (arith, F .sized, F .inside, G .sized, simp length-drop at (G .inside)))))
 
 -- ---- what `skip` answers
-skip-got : (l : ℕ) (s : List ℕ) (r : Got Val) → readV l s ≡ r → sizeIn (walkOf levelV r) ≡ sizeAtV (seen r)
-unfolding walkOf seen sizeAtV
-skip-got l s (got v m) e = value-told l s v m e .sized
-skip-got l s (bad f) e = refl
-
 pub skip-is : (l : ℕ) (s : List ℕ) → sizeIn (walkOf levelV (readV l s)) ≡ sizeAtV (valueAt l s)
-unfolding valueAt
-skip-is l s = skip-got l s (readV l s) refl
-
-pub skip-end : (l : ℕ) (s : List ℕ) (n d : ℕ) → walkOf levelV (readV l s) ≡ walk.End n d → n ≡ sizeAtV (valueAt l s)
-skip-end l s n d e = ap sizeIn (sym e) ∙ skip-is l s
+unfolding valueAt sizeAtV
+skip-is l s = walk-size levelV sizeAtV (λ v. refl) refl (readV l) (value-told l) s (readV l s) refl
 
 pub skip-short : (l : ℕ) (s : List ℕ) (n room : ℕ) → Short isDataLeaf (readV l s) n room → (n ≡ 0 → ⊥) → n ≡ sizeAtV (valueAt l s)
-skip-short l s n room h z = skip-end l s n 1 (short-end levelV isDataLeaf leaf-level (readV l s) n room h z)
+skip-short l s n room h z = ap sizeIn (sym (short-end levelV isDataLeaf leaf-level (readV l s) n room h z)) ∙ skip-is l s
 
 pub size-got : (r : Option Val) (v : Val) → r ≡ some v → sizeAtV r ≡ sizeVal v
 unfolding sizeAtV

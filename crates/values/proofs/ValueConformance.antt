@@ -16,6 +16,7 @@ use Rattle.form.specs.Trees.{Ty, leaf, decode, built, list, range, context, sim
 use Rattle.form.specs.Form.{numAt}
 use Rattle.form.specs.Read.{readV}
 use Rattle.form.specs.Walks.{Short}
+use Rattle.form.proofs.Options.{none-some}
 use Rattle.form.proofs.Runs.{rest, first-at}
 use Rattle.order.specs.Order.{fixed}
 use Rattle.order.specs.Size.{size, sizeFields, sizeVal, sizeVals, sizeEntries}
@@ -196,7 +197,7 @@ met-any l m v t p h d n e = go (valueAt l v) refl
     go : (r : Option Val) → valueAt l v ≡ r → Met (held (valueAt l v) (typeAt m t)) n 1
     go (some x) r = met-yes (both sizeVal size valueConformsTo (valueAt l v) (typeAt m t) x (leaf (decode (getD t 0 0 - 32))) r T
         ∙ ap (λ q. judge q (sizeVal x) 1) (to-any x (leaf (decode (getD t 0 0 - 32))) (cmd-is m t (leaf (decode (getD t 0 0 - 32))) T ∙ d))) (size-is ∙ ap sizeAtV r) refl
-    go none r = met-no n 1 (no-when sizeVal size valueConformsTo (valueAt l v) (typeAt m t) (λ x y f g. absurd (types.never (sym r ∙ f)))) (size-is ∙ ap sizeAtV r)
+    go none r = met-no n 1 (no-when sizeVal size valueConformsTo (valueAt l v) (typeAt m t) (λ x y f g. absurd (none-some (sym r ∙ f)))) (size-is ∙ ap sizeAtV r)
 
 -- what `conform_other` is asked, and told
 pub other-short : (v : List ℕ) → length v < 3 → 3 ≤ length (take (length v - 0) (drop 0 v)) → 9 ≤ getD (take (length v - 0) (drop 0 v)) 0 0 → 11 < getD (take (length v - 0) (drop 0 v)) 0 0
@@ -251,7 +252,7 @@ module _ (l m : ℕ) (v t : List ℕ) (u : ℕ) where
 
   -- a range's interval bytes
   pub no-interval : 0 < l → 3 ≤ length v → getD v 0 0 ≡ 9 → (getD v 1 0 ≤ 3 → getD v 2 0 ≤ 3 → ⊥) → Met (held (valueAt l v) (typeAt m t)) 0 u
-  no-interval p h c w = never valueConformsTo l m v t u (λ x y f g. types.never (sym (no-range l v p h c w) ∙ f))
+  no-interval p h c w = never valueConformsTo l m v t u (λ x y f g. none-some (sym (no-range l v p h c w) ∙ f))
 
   -- a type that is cut short
   pub no-fields-there : getD t 0 0 ≡ 44 → (3 ≤ length t → ⊥) → Met (held (valueAt l v) (typeAt m t)) 0 u
