@@ -7,10 +7,22 @@ use mathlib.Core.Path.{ap, _∙_}
 use Rattle.paths.specs.Places.{extentOf}
 use Rattle.paths.proofs.CallContracts.{entry-call}
 
+-- at `search_place(c, &path)`
+slice-aggregate-search-place : tie.Need-slice-aggregate-search-place
+slice-aggregate-search-place c = search needs
+
+-- at `search_place(c, &path)`
+search-place-requires : tie.Need-search-place-requires
+search-place-requires c κs = search needs
+
+-- at the end
+returns : tie.Need-returns
+returns c = c .search-place .ensures ∙ ap extentOf (entry-call (c .before .before .before .args .c .now) (c .before .before .before .args .name))
+
 pub entry-place-spec : {M : Type 1} → statement M
 entry-place-spec =
     tie.close
     (tie.spec
-    (λ c. search needs)
-    (λ c κs. search needs)
-    (λ c. c .search-place .ensures ∙ ap extentOf (entry-call (c .before .before .before .args .c .now) (c .before .before .before .args .name))))
+    slice-aggregate-search-place
+    search-place-requires
+    returns)
