@@ -1,17 +1,19 @@
 -- A command byte, told by its kind: which bytes are of a kind, and how many operand bytes a command has.
 -- Idea: one view of every byte (`view`); all else is read off it.
 -- Index: `View`, `ViewV`, `ViewT`, `view` (the view); `kind-simple`, `kind-temporal` (ranges of commands); `width-is`, `there`, `arm` (operands of an arm);
--- `flag-width`, `key-width`, `sized-leaf`, `sized-none`, `leaf-wide`, `leaf-command` (the size of a leaf of data).
+-- `range-width`, `width-other`, `width-none` (widths by the byte); `key-width`, `low-width`, `high-width`, `low-is` (the width of a leaf of data);
+-- `sized-none`, `sized-leaf`, `leaf-wide`, `leaf-command` (its size).
 -- Assumes nothing.
-use Prim.Native.Nat.{ℕ, zero, suc, _+_, _<_, _≤_}
+use Prim.Native.Nat.{ℕ, _+_, _<_, _≤_}
 use mathlib.Core.Path.{_≡_, refl, sym, ap, _∙_}
 use mathlib.Core.Bool.{Bool, true, false}
 use native.Mathlib.Omega.{arith}
-use lib.Dec.{ltb, eqb}
+use lib.Dec.{T, ltb, eqb, eqb→eq, ltb→lt}
 use borrow.Author.Tests.{ltb-false, ltb-true, eqb-true, eqb-false, lt-ltb, le-ltb}
 use Rattle.form.specs.Outcome.{pick}
+use Rattle.form.proofs.Table.{every, steps, between}
 use Rattle.form.specs.Layout.{ValueKind, kNull, kBoolean, kNumber, kString, kTemporal, kRange, kList, kContext, kDefinition, kBuiltIn, kType, kIrrelevant, TypeKind, tSimple, tList, tRange}
-use Rattle.form.specs.Layout.{tContext, tFunction, Kind, ofValue, ofType, noCommand, kindOf, operands, operandsV, slot, widthOf}
+use Rattle.form.specs.Layout.{tContext, tFunction, Kind, ofValue, ofType, noCommand, kindOf, operands, operandsV, operandsT, slot, noWidth, widthOf}
 
 pub data ViewV (b : ℕ) : ValueKind → Type 0 where
   isNull : b ≡ 0x00 → ViewV b kNull
@@ -138,11 +140,11 @@ beyond-view b j (isType k v) h = absurd (omega (arith, type-within b k v))
 beyond-view b j (isGap p q) h = refl
 beyond-view b j (isBeyond p) h = refl
 
-pub width-beyond : (b : ℕ) → 0x2E ≤ b → widthOf b ≡ 255
+pub width-beyond : (b : ℕ) → 0x2E ≤ b → widthOf b ≡ noWidth
 unfolding widthOf operands
 width-beyond b h = rw (beyond-view b (kindOf b) (view b) h)
 
--- the operands that the table says are there
+-- the operands that the width says are there
 pub there : (b n : ℕ) (k : Kind) → kindOf b ≡ k → widthOf b ≤ n → slot (operands k) ≤ n
 unfolding widthOf
 there b n k e h = rw e at h
@@ -151,26 +153,89 @@ pub width-is : (b : ℕ) (k : Kind) → kindOf b ≡ k → widthOf b ≡ slot (o
 unfolding widthOf
 width-is b k e = rw e
 
+-- the n bytes from a on have the width w: the test at each is computed
+pub range-width : (a n w : ℕ) → T (every (λ k x. eqb (widthOf k) w) a (steps n)) → (b : ℕ) → a ≤ b → b < a + n → widthOf b ≡ w
+range-width a n w t b h i = eqb→eq (widthOf b) w (between (λ k. eqb (widthOf k) w) a n t b h i)
+
+-- between the values and the types, and beyond the types, no byte is a command
+pub width-other : (b : ℕ) → 0x10 ≤ b → (0x20 ≤ b → 0x2E ≤ b) → widthOf b ≡ noWidth
+unfolding widthOf kindOf operands
+width-other b h i = go (ltb b 0x20) refl
+  where
+    go : (q : Bool) → ltb b 0x20 ≡ q → widthOf b ≡ noWidth
+    go true e = range-width 0x10 16 255 tt b h (ltb-true b 0x20 e)
+    go false e = width-beyond b (i (ltb-false b 0x20 e))
+
+-- a command has at most 8, so it is not taken for none
+few-v : (k : ValueKind) → operandsV k ≤ 8
+unfolding operandsV
+few-v kNull = omega arith
+few-v kBoolean = omega arith
+few-v kNumber = omega arith
+few-v kString = omega arith
+few-v kTemporal = omega arith
+few-v kRange = omega arith
+few-v kList = omega arith
+few-v kContext = omega arith
+few-v kDefinition = omega arith
+few-v kBuiltIn = omega arith
+few-v kType = omega arith
+few-v kIrrelevant = omega arith
+
+few-t : (k : TypeKind) → operandsT k ≤ 8
+unfolding operandsT
+few-t tSimple = omega arith
+few-t tList = omega arith
+few-t tRange = omega arith
+few-t tContext = omega arith
+few-t tFunction = omega arith
+
+none-of : (k : Kind) → slot (operands k) ≡ noWidth → k ≡ noCommand
+unfolding operands
+none-of (ofValue k) e = absurd (omega (arith, few-v k))
+none-of (ofType k) e = absurd (omega (arith, few-t k))
+none-of noCommand e = refl
+
+pub width-none : (b : ℕ) → widthOf b ≡ noWidth → kindOf b ≡ noCommand
+unfolding widthOf
+width-none b e = none-of (kindOf b) e
+
 -- an arm of a match over the command
 pub arm : (b c n : ℕ) (k : Kind) → b ≡ c → kindOf c ≡ k → widthOf b ≤ n → (kindOf b ≡ k) × (slot (operands k) ≤ n)
 arm b c n k e f h = (ap kindOf e ∙ f, there b n k (ap kindOf e ∙ f) h)
 
--- ---- the size of a leaf of data by its command
-pub flag-width : (c : ℕ) → c < 2 → widthOf c ≡ 1
-unfolding widthOf kindOf operands operandsV
-flag-width zero h = refl
-flag-width (suc zero) h = refl
-flag-width (suc (suc c)) h = absurd (omega arith)
-
+-- ---- the width and the size of a leaf of data by its command
 pub key-width : (c : ℕ) → 4 ≤ c → c < 9 → widthOf c ≡ 8
 unfolding operands operandsV
 key-width c h i = width-is c (ofValue kTemporal) (kind-temporal c h i)
 
-pub sized-leaf : (c n : ℕ) → c < 9 → widthOf c + 1 ≡ n → n ≡ pick (ltb c 9) (widthOf c + 1) 0
-sized-leaf c n h e = rw (lt-ltb c 9 h) (sym e)
+leaf-few : (c : ℕ) → c < 9 → widthOf c < 9
+unfolding widthOf kindOf operands operandsV
+leaf-few c h = ltb→lt (widthOf c) 9 (between (λ k. ltb (widthOf k) 9) 0 9 tt c (omega arith) (omega arith))
 
-pub sized-none : (c : ℕ) → 9 ≤ c → 0 ≡ pick (ltb c 9) (widthOf c + 1) 0
-sized-none c h = rw (le-ltb c 9 h)
+pub low-width : (c n : ℕ) → c < 9 → widthOf c ≡ n → n ≡ pick (ltb c 9) (widthOf c) noWidth
+low-width c n h e = rw (lt-ltb c 9 h) (sym e)
+
+pub high-width : (c : ℕ) → 9 ≤ c → noWidth ≡ pick (ltb c 9) (widthOf c) noWidth
+high-width c h = rw (le-ltb c 9 h)
+
+pub low-is : (c n : ℕ) → n ≡ pick (ltb c 9) (widthOf c) noWidth → c < 9 → n ≡ widthOf c
+low-is c n e h = rw (lt-ltb c 9 h) at e
+
+-- with its command, by its width w
+pub sized-none : (c w : ℕ) → w ≡ pick (ltb c 9) (widthOf c) noWidth → w ≡ noWidth → 0 ≡ pick (ltb c 9) (widthOf c + 1) 0
+sized-none c w e z = go (ltb c 9) refl
+  where
+    go : (t : Bool) → ltb c 9 ≡ t → 0 ≡ pick (ltb c 9) (widthOf c + 1) 0
+    go true q = absurd (let f = rw q at e in omega (arith, leaf-few c (ltb-true c 9 q)))
+    go false q = rw q
+
+pub sized-leaf : (c w : ℕ) → w ≡ pick (ltb c 9) (widthOf c) noWidth → (w ≡ noWidth → ⊥) → (w < 9) × (w + 1 ≡ pick (ltb c 9) (widthOf c + 1) 0)
+sized-leaf c w e n = go (ltb c 9) refl
+  where
+    go : (t : Bool) → ltb c 9 ≡ t → (w < 9) × (w + 1 ≡ pick (ltb c 9) (widthOf c + 1) 0)
+    go true q = let f : w ≡ widthOf c = rw q at e in (omega (arith, leaf-few c (ltb-true c 9 q)), rw q (ap (λ (k : ℕ). k + 1) f))
+    go false q = absurd (n (rw q at e))
 
 pub leaf-wide : (c n : ℕ) → n ≡ pick (ltb c 9) (widthOf c + 1) 0 → c < 9 → n ≡ widthOf c + 1
 leaf-wide c n e h = rw (lt-ltb c 9 h) at e

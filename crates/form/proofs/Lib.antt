@@ -20,6 +20,7 @@ pub mod AnySize
 pub mod MoreLevels
 pub mod Nodes
 pub mod Leaves
+pub mod Widths
 pub mod Encoded
 pub mod ByteForm
 pub mod Options

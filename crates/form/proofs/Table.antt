@@ -1,9 +1,11 @@
--- A rule of a table, proved at all of its entries by one test that is computed, one entry after the other (`every`, `at`).
+-- A rule of a table, proved at all of its entries by one test that is computed, one entry after the other.
+-- Index: `every` (the test), `from`, `at` (what it says of an entry); `steps`, `between` (a rule of all numbers of a range).
 -- Assumes nothing.
-use mathlib.Core.Path.{_∙_, subst, sym}
+use mathlib.Core.Path.{_≡_, refl, _∙_, subst, sym, ap}
 use mathlib.Core.Bool.{Bool, true, false}
 use mathlib.Core.List.{List, [], _∷_}
-use Prim.Native.Nat.{ℕ, zero, suc, _+_, _<_}
+use Prim.Native.Nat.{ℕ, zero, suc, _+_, _-_, _<_, _≤_}
+use native.Mathlib.Omega.{arith}
 use native.Mathlib.Nat.{add-zero, zero-add, add-suc, suc-add, le-of-suc-le-suc, not-suc-le-zero}
 use lib.Dec.{T}
 use lib.ListN.{length, getD}
@@ -25,7 +27,7 @@ abbrev pub every : (ℕ → ℕ → Bool) → ℕ → List ℕ → Bool
 every f i [] = true
 every f i (x ∷ xs) = both (f i x) (every f (suc i) xs)
 
-from : (f : ℕ → ℕ → Bool) (xs : List ℕ) (i : ℕ) → T (every f i xs) → (k : ℕ) → k < length xs → T (f (i + k) (getD xs k 0))
+pub from : (f : ℕ → ℕ → Bool) (xs : List ℕ) (i : ℕ) → T (every f i xs) → (k : ℕ) → k < length xs → T (f (i + k) (getD xs k 0))
 from f [] i t k h = absurd (not-suc-le-zero h)
 from f (x ∷ xs) i t zero h = subst (λ (m : ℕ). T (f m x)) (sym (add-zero i)) (both-left (f i x) (every f (suc i) xs) t)
 from f (x ∷ xs) i t (suc k) h =
@@ -34,3 +36,18 @@ from f (x ∷ xs) i t (suc k) h =
 
 pub at : (f : ℕ → ℕ → Bool) (xs : List ℕ) → T (every f 0 xs) → (k : ℕ) → k < length xs → T (f k (getD xs k 0))
 at f xs t k h = subst (λ (m : ℕ). T (f m (getD xs k 0))) (zero-add k) (from f xs 0 t k h)
+
+-- n entries, of which only the places count
+abbrev pub steps : ℕ → List ℕ
+steps zero = []
+steps (suc n) = n ∷ steps n
+
+length-steps : (n : ℕ) → length (steps n) ≡ n
+length-steps zero = refl
+length-steps (suc n) = ap suc (length-steps n)
+
+-- the test passes at each number from a on, n of them
+pub between : (f : ℕ → Bool) (a n : ℕ) → T (every (λ k x. f k) a (steps n)) → (b : ℕ) → a ≤ b → b < a + n → T (f b)
+between f a n t b h i =
+    let e : a + (b - a) ≡ b = omega arith in
+    subst (λ (m : ℕ). T (f m)) e (from (λ k x. f k) (steps n) a t (b - a) (let l = length-steps n in omega arith))

@@ -1,6 +1,6 @@
 -- The reader of types in the terms of the code: what its walk says by the length, the level that is left and the command.
 -- Idea: one step of `readT`, and the laws of Runs at the kind of the command.
--- Index: `t-none`, `t-level`, `t-step` (the start); `t-simple`, `t-one-run`, `t-context`, `t-function`, `t-short`, `t-other` (by the command); `one-is` (one type as a run of one);
+-- Index: `t-none`, `t-level`, `t-step`, `step-short` (the start); `t-simple`, `t-one-run`, `t-context`, `t-function`, `t-short`, `t-other` (by the command); `one-is` (one type as a run of one);
 -- `fields-law`, `tys-law`, `simple-level` (levels).
 -- Assumes nothing.
 use Prim.Native.Nat.{ℕ, zero, suc, _-_, _<_, _≤_, max}
@@ -72,7 +72,7 @@ type-short child tContext b s h = counted-short (λ fs. built (context fs)) (λ 
 type-short child tFunction b [] h = refl
 type-short child tFunction b (x ∷ s) h = absurd (omega arith)
 
-step-short : (child : List ℕ → Got Ty) (k : Kind) (b : ℕ) (s : List ℕ) → length s < slot (operands k) → stepT child k b s ≡ bad Shape
+pub step-short : (child : List ℕ → Got Ty) (k : Kind) (b : ℕ) (s : List ℕ) → length s < slot (operands k) → stepT child k b s ≡ bad Shape
 unfolding stepT operands
 step-short child (ofValue k) b s h = refl
 step-short child (ofType k) b s h = type-short child k b s h

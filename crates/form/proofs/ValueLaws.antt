@@ -1,6 +1,6 @@
 -- The reader of values in the terms of the code: what its walk says by the length, the level that is left and the command.
 -- Idea: one step of `readV`, and the laws of Runs at the kind of the command.
--- Index: `v-none`, `v-level`, `v-step`, `v-short`, `v-other` (the start); `v-null`, `v-boolean`, `v-key`, `v-built-in-is`, `v-irrelevant-is`, `leaf-is` (leaves);
+-- Index: `v-none`, `v-level`, `v-step`, `step-short`, `v-short`, `v-other` (the start); `v-null`, `v-boolean`, `v-key`, `v-built-in-is`, `v-irrelevant-is`, `leaf-is` (leaves);
 -- `v-range-is`, `v-list-is`, `v-context-is`, `v-definition`, `v-type-is` (parents); `vals-law`, `entries-law`, `params-law`, `value-level`, `leaf-level` (levels).
 -- Assumes nothing.
 use Prim.Native.Nat.{ℕ, zero, suc, _+_, _-_, _<_, _≤_, max}
@@ -193,7 +193,7 @@ value-short child type kBuiltIn b s h = flag-short 85 v-built-in s h
 value-short child type kType b s h = absurd (omega arith)
 value-short child type kIrrelevant b s h = absurd (omega arith)
 
-step-short : (child : List ℕ → Got Val) (type : List ℕ → Got Ty) (k : Kind) (b : ℕ) (s : List ℕ) → length s < slot (operands k) → stepV child type k b s ≡ bad Shape
+pub step-short : (child : List ℕ → Got Val) (type : List ℕ → Got Ty) (k : Kind) (b : ℕ) (s : List ℕ) → length s < slot (operands k) → stepV child type k b s ≡ bad Shape
 unfolding stepV operands
 step-short child type (ofValue k) b s h = value-short child type k b s h
 step-short child type (ofType k) b s h = refl

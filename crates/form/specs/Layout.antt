@@ -69,9 +69,12 @@ operands (ofValue k) = some (operandsV k)
 operands (ofType k) = some (operandsT k)
 operands noCommand = none
 
--- the entry of the width table; 255 stands for no width
+-- stands for no width: no command has so many
+abbrev pub noWidth : ℕ
+noWidth = 255
+
 abbrev pub slot : Option ℕ → ℕ
-slot none = 255
+slot none = noWidth
 slot (some n) = n
 
 unfoldable pub widthOf : ℕ → ℕ

@@ -5,6 +5,7 @@ pub mod Form
 pub mod Layout
 pub mod Faults
 pub mod Read
+pub mod Widths
 pub mod Answers
 pub mod Walks
 pub mod ByteForm

@@ -3,7 +3,7 @@ ghost use mathlib.Core.Path.{_≡_};
 ghost use Prim.Native.Nat.{_+_, _-_, _<_};
 ghost use lib.Dec.{ltb};
 ghost use Rattle.form.specs.Outcome.{pick};
-ghost use Rattle.form.specs.Layout.{widthOf};
+ghost use Rattle.form.specs.Layout.{noWidth, widthOf};
 ghost use Rattle.form.specs.Walks.{operandEnd};
 use crate::limits::NAME_WIDTH;
 
@@ -72,78 +72,54 @@ pub const FUNCTION_TYPE: u8 = 0x2D;
 // The command of a boolean, a number, a string or a temporal value and that of its type differ by this.
 pub const LEAF_TO_TYPE: u8 = 0x20;
 
-// ---- the table of operand widths
+// ---- the widths of operands: each stands here, once; who has to do with any command asks for it
 
-// The operand bytes of each command; 255 for a byte that is no command and has no width.
-const WIDTH: [u8; 46] = [
-    1,
-    1,
-    8,
-    2,
-    8,
-    8,
-    8,
-    8,
-    8,
-    2,
-    2,
-    2,
-    3,
-    1,
-    0,
-    0,
-    255,
-    255,
-    255,
-    255,
-    255,
-    255,
-    255,
-    255,
-    255,
-    255,
-    255,
-    255,
-    255,
-    255,
-    255,
-    255,
-    0,
-    0,
-    0,
-    0,
-    0,
-    0,
-    0,
-    0,
-    0,
-    0,
-    0,
-    0,
-    2,
-    1,
-];
+// What a byte has that is no command.
+const NO_WIDTH: usize = 255;
 
-// The width of a command's operands, 255 for none.
+// How many operand bytes a leaf of data has, by ranges of its command; no width for every other byte. Apart from `width`, since the loops of the walks ask
+// for leaves alone.
+fn leaf_width(c: u8) -> usize
+    ensures { λ r. ⌜ r ≡ pick (ltb c 9) (widthOf c) noWidth ⌝ }
+{
+    match c {
+        NULL..=BOOLEAN => 1,
+        NUMBER | DATE..=YEARS_AND_MONTHS => 8,
+        STRING => NAME_WIDTH,
+        _ => NO_WIDTH,
+    }
+}
+
+// How many operand bytes a command has, by ranges of the command; no width for a byte that is no command. Single commands stand inside a range of their own:
+// so it is a few comparisons, and no table of jumps.
 pub fn width(c: u8) -> usize
     ensures { λ r. ⌜ r ≡ widthOf c ⌝ }
 {
-    let i = c as usize;
-    if i < 46 { WIDTH[i] as usize } else { 255 }
+    match c {
+        NULL..=YEARS_AND_MONTHS => leaf_width(c),
+        RANGE..=CONTEXT => 2,
+        FUNCTION_DEFINITION..=IRRELEVANT => match c {
+            FUNCTION_DEFINITION => 3,
+            BUILT_IN_FUNCTION => 1,
+            _ => 0,
+        },
+        ANY_TYPE..=FUNCTION_TYPE => match c {
+            CONTEXT_TYPE => 2,
+            FUNCTION_TYPE => 1,
+            _ => 0,
+        },
+        _ => NO_WIDTH,
+    }
 }
 
 // ---- leaves
 
 // The size of a leaf of data by its command, 0 for every other command.
-pub(crate) fn leaf_size(c: u8) -> usize
+pub fn leaf_size(c: u8) -> usize
     ensures { λ r. ⌜ r ≡ pick (ltb c 9) (widthOf c + 1) 0 ⌝ }
 {
-    match c {
-        NULL | BOOLEAN => 2,
-        NUMBER | DATE | TIME | DATE_TIME | DAYS_AND_TIME | YEARS_AND_MONTHS => 9,
-        STRING => NAME_WIDTH + 1,
-        _ => 0,
-    }
+    let w = leaf_width(c);
+    if w == NO_WIDTH { 0 } else { w + 1 }
 }
 
 // The largest operand byte of a leaf of data.

@@ -125,9 +125,9 @@ unfolding enc
 leaf-text m x = ap enc (leaf-is m x)
 
 module _ (m : Bool) (l : ℕ) (s : List ℕ) where
-  null-of : {v : Val} → IsVal l s kNull v → (typeText m v ≡ 41 ∷ []) × (2 ≡ sizeVal v)
-  unfolding enc sizeVal
-  null-of (is-null x c) = (ap enc (leaf-is m (l-null x)), refl)
+  null-of : {v : Val} → IsVal l s kNull v → Simply m v 41 (widthOf (getD s 0 0))
+  unfolding enc sizeVal kindOf operands operandsV widthOf
+  null-of (is-null x c) = (ap enc (leaf-is m (l-null x)), ap (λ (z : ℕ). widthOf z + 1) c)
 
   leaf-of : (v : Val) → valueAt l s ≡ some v → (getD s 0 0 ≡ 0 → ⊥) → getD s 0 0 < 9 → Simply m v (getD s 0 0 + 32) (widthOf (getD s 0 0))
   leaf-of v e g h =
@@ -359,14 +359,17 @@ module _ (m : Bool) (l : ℕ) (s old spare : List ℕ) (p : FitVal m (valueAt l 
   pub one-free : 1 ≤ length old
   one-free = one m l s old (length spare) bs (O .x) given
 
-  pub null-done : getD s 0 0 ≡ 0 → Typed sizeVal (typeText m) (valueAt l s) old (set old 0 41) 2 1
-  null-done c = let N = null-of m l s (as-null l s (O .x) (O .read) c) in simple-wrote m l s (O .x) (O .read) 41 (N .0) 2 (N .1) old one-free
-
   simply-ends : (b n : ℕ) → Simply m (O .x) b n → n + 1 ≤ length s
   simply-ends b n N = omega (arith, N .1, v-inside l s (O .x) (O .read))
 
   simply-done : (b n : ℕ) → Simply m (O .x) b n → (k : ℕ) → k ≡ n → Typed sizeVal (typeText m) (valueAt l s) old (set old 0 b) (k + 1) 1
   simply-done b n N k e = simple-wrote m l s (O .x) (O .read) b (N .0) (k + 1) (ap (λ (z : ℕ). z + 1) e ∙ N .1) old one-free
+
+  pub null-ends : getD s 0 0 ≡ 0 → widthOf (getD s 0 0) + 1 ≤ length s
+  null-ends c = simply-ends _ _ (null-of m l s (as-null l s (O .x) (O .read) c))
+
+  pub null-done : getD s 0 0 ≡ 0 → (k : ℕ) → k ≡ widthOf (getD s 0 0) → Typed sizeVal (typeText m) (valueAt l s) old (set old 0 41) (k + 1) 1
+  null-done c = simply-done _ _ (null-of m l s (as-null l s (O .x) (O .read) c))
 
   plain-done : (n : ℕ) → Plain (getD s 0 0) n → Typed sizeVal (typeText m) (valueAt l s) old (set old 0 (getD s 0 0 + 32)) n 1
   plain-done n P =

@@ -1,7 +1,7 @@
 -- Whether a value is data, item by item and entry by entry.
 -- Idea: the answer to all items or entries is the answer to those that are left, behind what was passed.
 -- Index: `ItemsInv`, `items-start`, `items-again`, `items-no`, `items-done`, `items-leaf` (items); `EntriesInv`, `entries-start`, `entries-again`, `entries-no`, `entries-done`, `entries-leaf`
--- (entries); `leaf-done`, `other-done`, `ranges`, `lists`, `contexts`, `run-ok`, `run-done` (a value by its command); `plain-boolean`, `plain-number`, `plain-string`, `plain-temporal` (`leaf`).
+-- (entries); `leaf-done`, `other-done`, `ranges`, `lists`, `contexts`, `run-ok`, `run-done` (a value by its command); `plain`, `same-key` (`leaf`).
 -- Assumes nothing.
 use Prim.Native.Nat.{ℕ, suc, _+_, _-_, _<_, _≤_}
 use mathlib.Core.Path.{_≡_, refl, sym, ap, subst, _∙_}
@@ -11,11 +11,13 @@ use mathlib.Core.List.{List}
 use native.Mathlib.Omega.{arith}
 use lib.ListN.{length, getD, take, drop, length-drop}
 use lib.Seq.{drop-drop}
+use lib.Dec.{ltb}
 use Rattle.form.specs.Trees.{Val, Vals, no-items, item, Entries}
 use Rattle.form.specs.Limits.{nameWidth}
+use Rattle.form.specs.Outcome.{pick}
 use Rattle.form.specs.Form.{numAt}
-use Rattle.form.specs.Layout.{ValueKind, kBoolean, kNumber, kString, kTemporal, kRange, kList, kContext, ofValue, kindOf, operandsV, operands, widthOf}
-use Rattle.form.proofs.CommandKinds.{kind-temporal, width-is}
+use Rattle.form.specs.Layout.{ValueKind, kRange, kList, kContext, widthOf}
+use Rattle.form.proofs.CommandKinds.{key-width, leaf-wide}
 use Rattle.form.proofs.Runs.{rest}
 use Rattle.order.specs.Order.{fixed}
 use Rattle.order.specs.Size.{sizeVal, sizeVals, sizeEntries}
@@ -208,30 +210,12 @@ module _ {l : ℕ} {v : List ℕ} {n at i : ℕ} (I : EntriesInv l v n at i) whe
         }
 
 -- ---- a value by its command
--- a leaf's operands are all that it has
-width-of : (b c n : ℕ) (k : ValueKind) → b ≡ c → kindOf c ≡ ofValue k → operandsV k + 1 ≡ n → widthOf b + 1 ≡ n
-unfolding operands
-width-of b c n k e f h = omega (arith, width-is b (ofValue k) (ap kindOf e ∙ f))
+-- ---- a leaf c, and no null: the size n of the command k, which has the width of c
+pub plain : (c k n : ℕ) → n ≡ pick (ltb k 9) (widthOf k + 1) 0 → widthOf c ≡ widthOf k → k < 9 → 0 < c → c < 9 → (0 < n → Plain c n) × (n ≡ 0 → 0 < c → 9 ≤ c)
+plain c k n e w l z h = let s : n ≡ widthOf k + 1 = leaf-wide k n e l in (λ p. record { some = z; low = h; size = omega (arith, s, w) }, λ p q. absurd (omega (arith, s, p)))
 
--- ---- leaves by their command
-plain : (b c n : ℕ) (k : ValueKind) → b ≡ c → kindOf c ≡ ofValue k → operandsV k + 1 ≡ n → 0 < c → c < 9 → Plain b n
-plain b c n k e f h p q = record { some = omega arith; low = omega arith; size = sym (width-of b c n k e f h) }
-
-pub plain-boolean : (b : ℕ) → b ≡ 1 → Plain b 2
-unfolding kindOf operandsV
-plain-boolean b e = plain b 1 2 kBoolean e refl refl (omega arith) (omega arith)
-
-pub plain-number : (b : ℕ) → b ≡ 2 → Plain b 9
-unfolding kindOf operandsV
-plain-number b e = plain b 2 9 kNumber e refl refl (omega arith) (omega arith)
-
-pub plain-string : (b : ℕ) → b ≡ 3 → Plain b (nameWidth + 1)
-unfolding kindOf operandsV
-plain-string b e = plain b 3 (nameWidth + 1) kString e refl refl (omega arith) (omega arith)
-
-pub plain-temporal : (b : ℕ) → 4 ≤ b → b < 9 → Plain b 9
-unfolding operandsV
-plain-temporal b p q = plain b b 9 kTemporal refl (kind-temporal b p q) refl (omega arith) q
+pub same-key : (c k : ℕ) → 4 ≤ c → c < 9 → 4 ≤ k → k < 9 → widthOf c ≡ widthOf k
+same-key c k p q r t = key-width c p q ∙ sym (key-width k r t)
 
 -- leaves are data, and their size is the width of the command and one
 data-leaf : (l : ℕ) (s : List ℕ) (v : Val) → valueAt l s ≡ some v → getD s 0 0 < 9 → (isData v ≡ true) × (widthOf (getD s 0 0) + 1 ≡ sizeVal v)

@@ -103,7 +103,10 @@ fn write_type(least: bool, v: &[u8], out: &mut [u8], spare: &mut [u8], left: usi
     match c {
         commands::NULL => {
             out[0] = commands::NULL_TYPE;
-            Ends { read: 2, wrote: 1 }
+            Ends {
+                read: commands::width(c) + 1,
+                wrote: 1,
+            }
         }
         commands::BOOLEAN..=commands::YEARS_AND_MONTHS => {
             out[0] = c + commands::LEAF_TO_TYPE;

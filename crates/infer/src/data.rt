@@ -19,15 +19,16 @@ pub(crate) enum Data {
 }
 
 // The size of the value at the front where it is a boolean, a number, a string or a temporal, 0 where it is not: a short way past most values.
+// Each arm asks for the size of a command that is known, so that the loops have it as a constant.
 pub(crate) fn leaf(v: &[u8]) -> usize
     requires { ⌜ 0 < length (now v) ⌝ }
     ensures { λ r. ⌜ (0 < r → Plain (getD (now (v .entry)) 0 0) r) × (r ≡ 0 → 0 < getD (now (v .entry)) 0 0 → 9 ≤ getD (now (v .entry)) 0 0) ⌝ }
 {
     match v[0] {
-        commands::BOOLEAN => 2,
-        commands::NUMBER => 9,
-        commands::STRING => NAME_WIDTH + 1,
-        commands::DATE..=commands::YEARS_AND_MONTHS => 9,
+        commands::BOOLEAN => commands::leaf_size(commands::BOOLEAN),
+        commands::NUMBER => commands::leaf_size(commands::NUMBER),
+        commands::STRING => commands::leaf_size(commands::STRING),
+        commands::DATE..=commands::YEARS_AND_MONTHS => commands::leaf_size(commands::DATE),
         _ => 0,
     }
 }

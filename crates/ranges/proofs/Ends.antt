@@ -1,7 +1,7 @@
 -- The ends of a range that was read, in terms of its bytes, and the answers from them.
 -- Idea: each end is seen once, by its command (`Edge`); the answer is then read off both ends.
 -- Index: `Edge`, `Edges`, `edges` (the ends); `start-three`, `end-three`, `start-off`, `null-null`, `null-other`, `end-null`, `end-other`, `texts-done`, `keys-done` (the answers of `in_order`);
--- `start-inside`, `null-inside`, `end-near`, `end-inside`, `texts-inside`, `keys-inside` (what is read is there).
+-- `start-inside`, `null-near`, `null-inside`, `end-near`, `end-inside`, `texts-inside`, `keys-inside` (what is read is there).
 -- Assumes nothing.
 use Prim.Native.Nat.{ℕ, _+_, _-_, _<_, _≤_}
 use mathlib.Core.Path.{_≡_, refl, sym, ap, ap₂, subst, _∙_}
@@ -16,7 +16,7 @@ use borrow.Author.Tests.{eq-eqb, ne-eqb}
 use Rattle.form.specs.Trees.{Val, v-range, codeTemporal}
 use Rattle.form.specs.Limits.{nameWidth, valueLevels}
 use Rattle.form.specs.Form.{num, numAt}
-use Rattle.form.specs.Layout.{ValueKind, kNumber, kString, kTemporal, ofValue, kindOf, operandsV, operands, widthOf, kRange}
+use Rattle.form.specs.Layout.{ValueKind, kNull, kNumber, kString, kTemporal, kRange, ofValue, kindOf, operandsV, operands, widthOf}
 use Rattle.form.specs.Read.{got, readV}
 use Rattle.form.proofs.CommandKinds.{kind-temporal, width-is}
 use Rattle.form.proofs.ExactValues.{code-small-temporal}
@@ -37,6 +37,10 @@ pub data Edge (s : List ℕ) (at : ℕ) : Point → ℕ → Type 0 where
 width-of : (b c : ℕ) (k : ValueKind) → b ≡ c → kindOf c ≡ ofValue k → widthOf b ≡ operandsV k
 unfolding operands
 width-of b c k e f = width-is b (ofValue k) (ap kindOf e ∙ f)
+
+null-width : (b : ℕ) → b ≡ 0 → widthOf b ≡ 1
+unfolding kindOf operandsV
+null-width b e = width-of b 0 kNull e refl
 
 module _ (s : List ℕ) (at : ℕ) (l : length (drop at s) ≡ length s - at) (b : getD (drop at s) 0 0 ≡ getD s at 0) (h : 0 < length (drop at s)) where
   one-on : (k : ℕ) → numAt k (at + 1) s ≡ numAt k 1 (drop at s)
@@ -198,17 +202,20 @@ module _ {s : List ℕ} (R : Ranged s) where
       start-off g h = answer false (rw (edge-off (E .first) g h))
 
       -- ---- the start is Null
-      module _ (c : C ≡ 0) where
-        second : Edge s 5 (E .q) (E .n)
-        second = subst (λ k. Edge s (3 + k) (E .q) (E .n)) (edge-null (E .first) c .1) (E .second)
+      module _ (c : C ≡ 0) {w : ℕ} (e : w ≡ widthOf C) where
+        pub null-near : w + 4 ≡ 5
+        null-near = omega (arith, e, null-width C c)
 
-        pub null-inside : 5 < length s
+        second : Edge s (w + 4) (E .q) (E .n)
+        second = subst (λ k. Edge s k (E .q) (E .n)) (omega (arith, null-near, edge-null (E .first) c .1)) (E .second)
+
+        pub null-inside : w + 4 < length s
         null-inside = edge-inside second
 
-        pub null-null : getD s 5 0 ≡ 0 → RangeIs s false
+        pub null-null : getD s (w + 4) 0 ≡ 0 → RangeIs s false
         null-null h = answer false (rw (edge-null (E .first) c .0, edge-null second h .0))
 
-        pub null-other : (getD s 5 0 ≡ 0 → ⊥) → RangeIs s (ltb I 2)
+        pub null-other : (getD s (w + 4) 0 ≡ 0 → ⊥) → RangeIs s (ltb I 2)
         null-other h = answer (ltb I 2) (rw (edge-null (E .first) c .0) (from-null I J second h))
 
       -- ---- the start is a text or a key, of this width

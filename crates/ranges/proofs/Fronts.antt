@@ -12,10 +12,11 @@ use Rattle.form.specs.Trees.{Temporal, Leaf, l-null, l-boolean, l-number, l-str
 use Rattle.form.specs.Limits.{nameWidth}
 use Rattle.form.specs.Form.{numAt}
 use Rattle.form.specs.Read.{got, readV}
+use Rattle.form.specs.Widths.{command}
 use Rattle.form.proofs.ExactValues.{code-decode}
 use Rattle.form.proofs.Nodes.{NodeV, nNull, nBoolean, nNumber, nString, nTemporal, nRangeV, nListV, nContextV, nDefinition, nBuiltIn, nType, nIrrelevant, value-read}
-use Rattle.ranges.specs.Ranges.{elsewhere, point, command, ofLeaf}
 use Rattle.form.specs.Layout.{ValueKind}
+use Rattle.ranges.specs.Ranges.{elsewhere, point, ofLeaf}
 
 -- no leaf: its command, no point, and no test of leaves is met
 pub record Other (s : List ℕ) (v : Val) : Type 0 where

@@ -16,6 +16,7 @@ use Rattle.form.specs.Limits.{valueLevels, valueRefusals}
 use Rattle.form.specs.Outcome.{Outcome, done, refused, _>>=_, _>>_, check}
 use Rattle.form.specs.Form.{bit, levelV}
 use Rattle.form.specs.Read.{got, readV, readValue, checkValue}
+use Rattle.form.specs.Widths.{command}
 use Rattle.form.specs.Answers.{checked}
 use Rattle.form.specs.declared.Checked.{Checked}
 use Rattle.form.specs.declared.Checked.the-variants as checked-is
@@ -24,7 +25,7 @@ use Rattle.form.proofs.Nodes.{value-read}
 use Rattle.types.proofs.Reading.{got-seen}
 use Rattle.values.specs.At.{valueAt}
 use Rattle.values.proofs.CallContracts.{value-refused}
-use Rattle.ranges.specs.Ranges.{isValidRange, command, nullWith, theBoolean, ofLeaf}
+use Rattle.ranges.specs.Ranges.{isValidRange, nullWith, theBoolean, ofLeaf}
 use Rattle.ranges.specs.Calls.{asked, ofKind, interval, isValidRangeCall, Ranged, RangeOf, RangeIs}
 use Rattle.ranges.proofs.Fronts.{Front, f-null, f-boolean, f-number, f-string, f-temporal, f-other, front-read, command-is}
 

@@ -14,7 +14,8 @@ use Rattle.form.specs.Trees.{Val}
 use Rattle.form.specs.Form.{enc}
 use Rattle.form.specs.Read.{readValue}
 use Rattle.form.specs.Options.{WhereRead}
-use Rattle.ranges.specs.Ranges.{opened, closed, undefined, isValidRange, command, nullWith, theBoolean, ofLeaf, bifType}
+use Rattle.form.specs.Widths.{command}
+use Rattle.ranges.specs.Ranges.{opened, closed, undefined, isValidRange, nullWith, theBoolean, ofLeaf, bifType}
 
 -- a question that every value answers; 1 to 5
 abbrev pub asked : (Val → Bool) → List ℕ → Outcome Bool

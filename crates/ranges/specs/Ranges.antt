@@ -79,24 +79,7 @@ isValidRange (v-built-in b) = false
 isValidRange (v-type t) = false
 isValidRange v-irrelevant = false
 
--- ---- the small questions: the command of a value, and the byte behind it of a null (its trace) and of a Boolean
-abbrev pub leafCommand : Leaf → ℕ
-leafCommand (l-null x) = 0x00
-leafCommand (l-boolean x) = 0x01
-leafCommand (l-number x) = 0x02
-leafCommand (l-string x) = 0x03
-leafCommand (l-temporal k x) = 0x04 + codeTemporal k
-
-abbrev pub command : Val → ℕ
-command (v-leaf l) = leafCommand l
-command (v-range i j v w) = 0x09
-command (v-list vs) = 0x0A
-command (v-context es) = 0x0B
-command (v-function ps b r) = 0x0C
-command (v-built-in b) = 0x0D
-command (v-type t) = 0x0E
-command v-irrelevant = 0x0F
-
+-- ---- the small questions: the byte behind the command of a null (its trace) and of a Boolean
 -- a null with this trace
 abbrev pub nullWith : ℕ → Leaf → Bool
 nullWith n (l-null x) = eqb x n

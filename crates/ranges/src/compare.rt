@@ -55,7 +55,8 @@ pub(crate) fn in_order(v: &[u8]) -> bool
     let c = v[3];
     match c {
         commands::NULL => {
-            if v[5] == commands::NULL {
+            let e = commands::width(c) + 4;
+            if v[e] == commands::NULL {
                 return false;
             }
             i < 2

@@ -1,31 +1,22 @@
--- `form::commands::leaf_size` meets its contract: the arms below 9 have the width of their command and one byte more, every other arm is beyond them.
+-- `form::commands::leaf_size` meets its contract: one byte more than the width of a leaf, and no leaf has so many that it is taken for none.
 -- Assumes nothing.
 use borrow.Author.Needs.{needs}
-use mathlib.Core.Path.{ap}
-use Prim.Native.Nat.{ℕ, _+_}
-use native.Mathlib.Omega.{arith}
-use Rattle.form.specs.Layout.{kindOf, operands, operandsV, widthOf}
-use Rattle.form.proofs.CommandKinds.{flag-width, key-width, sized-leaf, sized-none}
 use Rattle.form.proofs.commands.leaf_size.Statement.{statement}
 use Rattle.form.proofs.commands.leaf_size.Tie as tie
+use native.Mathlib.Omega.{arith}
+use Rattle.form.proofs.CommandKinds.{sized-leaf, sized-none}
 
 pub leaf-size-spec : {M : Type 1} → statement M
 leaf-size-spec =
     tie.close
     (tie.spec
-    (λ c. search needs)
+    (λ c κs. search needs)
     (λ c.
-    unfold widthOf kindOf operands operandsV in
-    let e = c .match .keys2 in
-    sized-leaf (c .before .args .c) 3 (omega (arith, e)) (ap (λ (n : ℕ). widthOf n + 1) e))
+    let w = c .before .leaf-width in
+    omega (arith, sized-leaf (c .before .before .args .c) (w .result) (w .ensures) (c .if1 .left)))
     (λ c.
-    sized-leaf (c .before .before .args .c) 2 (omega arith)
-    (ap (λ (n : ℕ). n + 1) (flag-width (c .before .before .args .c) (omega arith))))
-    (λ c. sized-none (c .before .before .before .args .c) (omega arith))
+    let w = c .before .leaf-width in
+    sized-none (c .before .before .args .c) (w .result) (w .ensures) (c .if1 .taken))
     (λ c.
-    unfold widthOf kindOf operands operandsV in
-    let e = c .match .keys1 in
-    sized-leaf (c .before .args .c) 9 (omega (arith, e)) (ap (λ (n : ℕ). widthOf n + 1) e))
-    (λ c.
-    sized-leaf (c .before .before .before .args .c) 9 (omega arith)
-    (ap (λ (n : ℕ). n + 1) (key-width (c .before .before .before .args .c) (omega arith) (omega arith)))))
+    let w = c .before .leaf-width in
+    sized-leaf (c .before .before .args .c) (w .result) (w .ensures) (c .if1 .left) .1))

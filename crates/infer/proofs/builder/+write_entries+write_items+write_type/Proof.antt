@@ -35,7 +35,7 @@ use Rattle.infer.proofs.Entries.{entry-leaf, entries-done}
 use Rattle.infer.proofs.Items.{ItemsInv, items-one, items-none, items-first, items-kept, items-start, item-room, item-fits}
 use Rattle.infer.proofs.Items.{item-read, item-sides, item-reduced, item-next, item-some, item-byte, item-free, item-low, leaf-read}
 use Rattle.infer.proofs.Items.{leaf-sides, leaf-reduced, leaf-next, items-done}
-use Rattle.infer.proofs.ByCommand.{first-byte, level-left, one-free, null-done, leaf-ends, leaf-done, other-ends, other-done}
+use Rattle.infer.proofs.ByCommand.{first-byte, level-left, one-free, null-ends, null-done, leaf-ends, leaf-done, other-ends, other-done}
 use Rattle.infer.proofs.ByCommand.{in-range, in-list, in-context, in-definition, definition-fits, in-type, type-end, type-room}
 use Rattle.infer.proofs.ByCommand.{type-done, part-fits, under-head, under-room, under-free, under-read, under-wrote, under-kept}
 use Rattle.infer.proofs.ByCommand.{under-done, still}
@@ -521,6 +521,8 @@ pub +write-entries+write-items+write-type-spec : {M : Type 1} → statement M
     )))
     λ t.
     write-type-lts.spec (
+      width-reads.Asked,
+      width-reads.Learnt,
       write-items-below t,
       write-items.Post,
       word-at-reads.Asked,
@@ -535,8 +537,6 @@ pub +write-entries+write-items+write-type-spec : {M : Type 1} → statement M
       skip-reads.Learnt,
       copy-reads.Asked,
       copy-reads.Learnt,
-      width-reads.Asked,
-      width-reads.Learnt,
     )
     (write-type-at t) write-type.Post
     (λ c.
@@ -551,6 +551,18 @@ pub +write-entries+write-items+write-type-spec : {M : Type 1} → statement M
           let c5 = c4 .before in
           one-free (c5 .args .least) (c5 .args .left) (c5 .args .v .now) (c5 .args .out .now)
           (c5 .args .spare .now) (c5 .pre .1 .0) (bytes-of (c5 .args .v .now) (c4 .shared-slice-known .given)),
+    ))
+    (λ c κs. search needs)
+    (λ c.
+    let c5 = c .before .before .before .before .before in
+    let c6 = c5 .before in
+    omega (
+      arith,
+      c6 .good,
+      c .width .ensures,
+      null-ends (c6 .args .least) (c6 .args .left) (c6 .args .v .now) (c6 .args .out .now)
+          (c6 .args .spare .now) (c6 .pre .1 .0) (bytes-of (c6 .args .v .now) (c5 .shared-slice-known .given))
+          (c .before .match .keys1),
     ))
     (λ c.
     omega (
@@ -1078,7 +1090,7 @@ pub +write-entries+write-items+write-type-spec : {M : Type 1} → statement M
     omega (
       arith,
       c7 .good,
-      c .width .ensures,
+      c .width2 .ensures,
       leaf-ends (c7 .args .least) (c7 .args .left) (c7 .args .v .now) (c7 .args .out .now)
           (c7 .args .spare .now) (c7 .pre .1 .0) (bytes-of (c7 .args .v .now) (c6 .shared-slice-known .given))
           (c .before .before .match .rest) (c .before .if1 .taken),
@@ -1098,18 +1110,18 @@ pub +write-entries+write-items+write-type-spec : {M : Type 1} → statement M
     omega (
       arith,
       c7 .good,
-      c .width2 .ensures,
+      c .width3 .ensures,
       other-ends (c7 .args .least) (c7 .args .left) (c7 .args .v .now) (c7 .args .out .now)
           (c7 .args .spare .now) (c7 .pre .1 .0) (bytes-of (c7 .args .v .now) (c6 .shared-slice-known .given))
           (c .before .before .match .rest) (c .before .if1 .left),
     ))
     (λ c. search needs)
     (λ c.
-    let c4 = c .before .before .before .before in
-    let c5 = c4 .before in (
-      null-done (c5 .args .least) (c5 .args .left) (c5 .args .v .now) (c5 .args .out .now)
-          (c5 .args .spare .now) (c5 .pre .1 .0) (bytes-of (c5 .args .v .now) (c4 .shared-slice-known .given))
-          (c .match .keys1),
+    let c5 = c .before .before .before .before .before in
+    let c6 = c5 .before in (
+      null-done (c6 .args .least) (c6 .args .left) (c6 .args .v .now) (c6 .args .out .now)
+          (c6 .args .spare .now) (c6 .pre .1 .0) (bytes-of (c6 .args .v .now) (c5 .shared-slice-known .given))
+          (c .before .match .keys1) _ (c .width .ensures),
       refl,
     ))
     (λ c.
@@ -1219,7 +1231,7 @@ pub +write-entries+write-items+write-type-spec : {M : Type 1} → statement M
     let c7 = c6 .before in (
       leaf-done (c7 .args .least) (c7 .args .left) (c7 .args .v .now) (c7 .args .out .now)
           (c7 .args .spare .now) (c7 .pre .1 .0) (bytes-of (c7 .args .v .now) (c6 .shared-slice-known .given))
-          (c .before .before .match .rest) (c .before .if1 .taken) _ (c .width .ensures),
+          (c .before .before .match .rest) (c .before .if1 .taken) _ (c .width2 .ensures),
       refl,
     ))
     (λ c. search needs)
@@ -1228,6 +1240,6 @@ pub +write-entries+write-items+write-type-spec : {M : Type 1} → statement M
     let c7 = c6 .before in (
       other-done (c7 .args .least) (c7 .args .left) (c7 .args .v .now) (c7 .args .out .now)
           (c7 .args .spare .now) (c7 .pre .1 .0) (bytes-of (c7 .args .v .now) (c6 .shared-slice-known .given))
-          (c .before .before .match .rest) (c .before .if1 .left) _ (c .width2 .ensures),
+          (c .before .before .match .rest) (c .before .if1 .left) _ (c .width3 .ensures),
       refl,
     ))

@@ -5,7 +5,7 @@ use Rattle.ranges.proofs.kinds.of_kind.Statement.{statement}
 use Rattle.ranges.proofs.kinds.of_kind.Tie as tie
 use Rattle.ranges.proofs.Questions.{asked-refused, fine, some-byte, kind-done}
 use lib.Dec.{eqb}
-use Rattle.ranges.specs.Ranges.{command}
+use Rattle.form.specs.Widths.{command}
 
 pub of-kind-spec : {M : Type 1} → statement M
 of-kind-spec =
