@@ -9,8 +9,7 @@ use mathlib.Core.Bool.{Bool, true, false, cond, _&&_}
 use mathlib.Core.Option.{Option, some}
 use mathlib.Core.List.{List}
 use native.Mathlib.Omega.{arith}
-use lib.ListN.{length, getD, take, drop, length-drop}
-use lib.Seq.{drop-drop}
+use lib.ListN.{length, getD, take, drop}
 use lib.Dec.{ltb}
 use Rattle.form.specs.Trees.{Val, Vals, no-items, item, Entries}
 use Rattle.form.specs.Limits.{nameWidth}
@@ -25,11 +24,11 @@ use Rattle.order.specs.Values.{isDataBy, areData, holdData}
 use Rattle.order.specs.Inferred.{isData}
 use Rattle.types.specs.At.{Ok}
 use Rattle.types.proofs.Reading.{is-ok, ok-got}
-use Rattle.types.proofs.Entries.{step}
+use Rattle.types.proofs.ChildAt.{entry-ok}
 use Rattle.values.specs.At.{valueAt, itemsAt, entriesAt}
 use Rattle.values.proofs.Reading.{IsVal, is-null, is-boolean, is-number, is-string, is-temporal, is-range, is-list, is-context, is-definition, is-built-in, is-type, is-irrelevant}
-use Rattle.values.proofs.Reading.{is-val, as-leaf, as-range, as-list, as-context, some-byte}
-use Rattle.values.proofs.Reading.{some-level, v-inside, items-inside, entries-inside, Item, next-item, no-item, Entry, next-entry, no-entry}
+use Rattle.values.proofs.Reading.{is-val, as-leaf, as-range, as-list, as-context, some-byte, some-level, v-inside, items-inside, entries-inside, Nth, nth, no-nth}
+use Rattle.values.proofs.EntriesAt.{This, this, none-left}
 use Rattle.infer.specs.Typing.{dataBy, addSize, Plain}
 use Rattle.infer.specs.declared.data.Data.{Data}
 use Rattle.infer.specs.declared.data.Data.the-variants.{Yes, No}
@@ -97,44 +96,42 @@ module _ {l : ℕ} {v : List ℕ} {n at i : ℕ} (I : ItemsInv l v n at i) where
   pub items-done : n ≤ i → Yes at ≡ dataBy (areData fixed) sizeVals (itemsAt l n v)
   unfolding areData sizeVal
   items-done h =
-      let z : n - i ≡ 0 = omega arith in
-      let e = no-item l (drop at v) (I .more) (ap (λ k. itemsAt l k (drop at v)) (sym z) ∙ I .read) in
+      let e = no-nth l i n at v (I .more) h (I .read) in
       let p : told (areData fixed (I .more)) (at + sizeVals (I .more)) ≡ Yes at = ap (λ vs. told (areData fixed vs) (at + sizeVals vs)) e ∙ ap Yes (omega arith) in
       sym (I .whole ∙ p)
 
   module _ (h : i < n) where
-    next : Item l (n - (i + 1)) (drop at v) (I .more)
-    next = next-item l (n - (i + 1)) (drop at v) (I .more) (ap (λ k. itemsAt l k (drop at v)) (sym (step i n h)) ∙ I .read)
+    next : Nth l (n - (i + 1)) at v (I .more)
+    next = nth l i n at v (I .more) h items-end (I .read)
 
     pub items-ok : Ok (valueAt l (take (length v - at) (drop at v)))
-    items-ok = rw (rest v at) (is-ok (valueAt l (drop at v)) (next .v) (next .first))
+    items-ok = rw (rest v at) (is-ok (valueAt l (drop at v)) (next .x) (next .first))
 
     -- the child's answer
-    item-told : (r : Data) → r ≡ dataBy isData sizeVal (valueAt l (take (length v - at) (drop at v))) → r ≡ told (isData (next .v)) (sizeVal (next .v))
-    item-told r e = e ∙ ap (λ s. dataBy isData sizeVal (valueAt l s)) (rest v at) ∙ by-got isData sizeVal (valueAt l (drop at v)) (next .v) (next .first)
+    item-told : (r : Data) → r ≡ dataBy isData sizeVal (valueAt l (take (length v - at) (drop at v))) → r ≡ told (isData (next .x)) (sizeVal (next .x))
+    item-told r e = e ∙ ap (λ s. dataBy isData sizeVal (valueAt l s)) (rest v at) ∙ by-got isData sizeVal (valueAt l (drop at v)) (next .x) (next .first)
 
-    item-whole : (dataBy (areData fixed) sizeVals (itemsAt l n v) ≡ told (isData (next .v) && areData fixed (next .more)) (at + (sizeVal (next .v) + sizeVals (next .more)))) ×
-        (at + (sizeVal (next .v) + sizeVals (next .more)) ≤ length v)
+    item-whole : (dataBy (areData fixed) sizeVals (itemsAt l n v) ≡ told (isData (next .x) && areData fixed (next .more)) (at + (sizeVal (next .x) + sizeVals (next .more)))) ×
+        (at + (sizeVal (next .x) + sizeVals (next .more)) ≤ length v)
     unfolding areData sizeVal
     item-whole = (I .whole ∙ ap (λ vs. told (areData fixed vs) (at + sizeVals vs)) (next .is), subst (λ vs. at + sizeVals vs ≤ length v) (next .is) (I .inside))
 
     pub items-no : (r : Data) → r ≡ No → r ≡ dataBy isData sizeVal (valueAt l (take (length v - at) (drop at v))) → No ≡ dataBy (areData fixed) sizeVals (itemsAt l n v)
-    items-no r p e = sym (item-whole .0 ∙ and-no (isData (next .v)) (areData fixed (next .more)) (sizeVal (next .v)) (at + (sizeVal (next .v) + sizeVals (next .more))) (sym (item-told r e) ∙ p))
+    items-no r p e = sym (item-whole .0 ∙ and-no (isData (next .x)) (areData fixed (next .more)) (sizeVal (next .x)) (at + (sizeVal (next .x) + sizeVals (next .more))) (sym (item-told r e) ∙ p))
 
     pub items-fit : (r : Data) (x : ℕ) → r ≡ Yes x → r ≡ dataBy isData sizeVal (valueAt l (take (length v - at) (drop at v))) → at + x ≤ length v
-    items-fit r x p e = omega (arith, told-yes (isData (next .v)) (sizeVal (next .v)) x (sym (item-told r e) ∙ p) .1, item-whole .1)
+    items-fit r x p e = omega (arith, told-yes (isData (next .x)) (sizeVal (next .x)) x (sym (item-told r e) ∙ p) .1, item-whole .1)
 
     pub items-again : (r : Data) (x : ℕ) → r ≡ Yes x → r ≡ dataBy isData sizeVal (valueAt l (take (length v - at) (drop at v))) → ItemsInv l v n (at + x) (i + 1)
     items-again r x p e =
-        let d = told-yes (isData (next .v)) (sizeVal (next .v)) x (sym (item-told r e) ∙ p) in
+        let d = told-yes (isData (next .x)) (sizeVal (next .x)) x (sym (item-told r e) ∙ p) in
         let w = item-whole in
-        let z : at + sizeVal (next .v) ≡ at + x = omega (arith, d .1) in
         record {
           more = next .more;
-          read = ap (itemsAt l (n - (i + 1))) (sym (drop-drop (sizeVal (next .v)) at v ∙ ap (λ k. drop k v) z)) ∙ next .second;
+          read = ap (λ k. itemsAt l (n - (i + 1)) (drop (at + k) v)) (sym (d .1)) ∙ next .second;
           here = omega arith;
           inside = omega (arith, d .1, w .1);
-          whole = w .0 ∙ and-data (isData (next .v)) (areData fixed (next .more)) (sizeVal (next .v)) x at (sizeVals (next .more)) (sym (item-told r e) ∙ p);
+          whole = w .0 ∙ and-data (isData (next .x)) (areData fixed (next .more)) (sizeVal (next .x)) x at (sizeVals (next .more)) (sym (item-told r e) ∙ p);
         }
 
 -- ---- entries
@@ -156,57 +153,49 @@ module _ {l : ℕ} {v : List ℕ} {n at i : ℕ} (I : EntriesInv l v n at i) whe
   pub entries-done : n ≤ i → Yes at ≡ dataBy (holdData fixed) sizeEntries (entriesAt l n 0 v)
   unfolding areData sizeVal
   entries-done h =
-      let z : n - i ≡ 0 = omega arith in
-      let e = no-entry l (I .k) (drop at v) (I .more) (ap (λ k. entriesAt l k (I .k) (drop at v)) (sym z) ∙ I .read) in
+      let e = none-left l i n at (I .k) v (I .more) h (I .read) in
       let p : told (holdData fixed (I .more)) (at + sizeEntries (I .more)) ≡ Yes at = ap (λ es. told (holdData fixed es) (at + sizeEntries es)) e ∙ ap Yes (omega arith) in
       sym (I .whole ∙ p)
 
   module _ (h : i < n) where
-    next-one : Entry l (n - (i + 1)) (I .k) (drop at v) (I .more)
-    next-one = next-entry l (n - (i + 1)) (I .k) (drop at v) (I .more) (ap (λ k. entriesAt l k (I .k) (drop at v)) (sym (step i n h)) ∙ I .read)
+    next-one : This l (n - (i + 1)) at (I .k) v (I .more)
+    next-one = this l i n at (I .k) v (I .more) h (I .read)
 
     pub entries-two : at + nameWidth ≤ length v
-    entries-two = omega (arith, I .inside, simp length-drop at (next-one .two))
-
-    -- behind the name
-    behind : take (length v - (at + nameWidth)) (drop (at + nameWidth) v) ≡ drop nameWidth (drop at v)
-    behind = rest v (at + nameWidth) ∙ sym (drop-drop nameWidth at v)
+    entries-two = next-one .two
 
     pub entries-ok : Ok (valueAt l (take (length v - (at + nameWidth)) (drop (at + nameWidth) v)))
-    entries-ok = rw behind (is-ok (valueAt l (drop nameWidth (drop at v))) (next-one .v) (next-one .first))
+    entries-ok = entry-ok next-one
 
-    entry-told : (r : Data) → r ≡ dataBy isData sizeVal (valueAt l (take (length v - (at + nameWidth)) (drop (at + nameWidth) v))) → r ≡ told (isData (next-one .v)) (sizeVal (next-one .v))
-    entry-told r e = e ∙ ap (λ s. dataBy isData sizeVal (valueAt l s)) behind ∙ by-got isData sizeVal (valueAt l (drop nameWidth (drop at v))) (next-one .v) (next-one .first)
+    entry-told : (r : Data) → r ≡ dataBy isData sizeVal (valueAt l (take (length v - (at + nameWidth)) (drop (at + nameWidth) v))) → r ≡ told (isData (next-one .x)) (sizeVal (next-one .x))
+    entry-told r e = e ∙ ap (λ s. dataBy isData sizeVal (valueAt l s)) (rest v (at + nameWidth)) ∙ by-got isData sizeVal (valueAt l (drop (at + nameWidth) v)) (next-one .x) (next-one .first)
 
-    entry-whole : (dataBy (holdData fixed) sizeEntries (entriesAt l n 0 v) ≡ told (isData (next-one .v) && holdData fixed (next-one .more))
-        (at + (nameWidth + sizeVal (next-one .v) + sizeEntries (next-one .more)))) × (at + (nameWidth + sizeVal (next-one .v) + sizeEntries (next-one .more)) ≤ length v)
+    entry-whole : (dataBy (holdData fixed) sizeEntries (entriesAt l n 0 v) ≡ told (isData (next-one .x) && holdData fixed (next-one .more))
+        (at + (nameWidth + sizeVal (next-one .x) + sizeEntries (next-one .more)))) × (at + (nameWidth + sizeVal (next-one .x) + sizeEntries (next-one .more)) ≤ length v)
     unfolding areData sizeVal
     entry-whole = (I .whole ∙ ap (λ es. told (holdData fixed es) (at + sizeEntries es)) (next-one .is), subst (λ es. at + sizeEntries es ≤ length v) (next-one .is) (I .inside))
 
     pub entries-no : (r : Data) → r ≡ No → r ≡ dataBy isData sizeVal (valueAt l (take (length v - (at + nameWidth)) (drop (at + nameWidth) v)))
         → No ≡ dataBy (holdData fixed) sizeEntries (entriesAt l n 0 v)
-    entries-no r p e = sym (entry-whole .0 ∙ and-no (isData (next-one .v)) (holdData fixed (next-one .more)) (sizeVal (next-one .v))
-        (at + (nameWidth + sizeVal (next-one .v) + sizeEntries (next-one .more))) (sym (entry-told r e) ∙ p))
+    entries-no r p e = sym (entry-whole .0 ∙ and-no (isData (next-one .x)) (holdData fixed (next-one .more)) (sizeVal (next-one .x))
+        (at + (nameWidth + sizeVal (next-one .x) + sizeEntries (next-one .more))) (sym (entry-told r e) ∙ p))
 
     pub entries-fit : (r : Data) (x : ℕ) → r ≡ Yes x → r ≡ dataBy isData sizeVal (valueAt l (take (length v - (at + nameWidth)) (drop (at + nameWidth) v))) → at + nameWidth + x ≤ length v
-    entries-fit r x p e = omega (arith, told-yes (isData (next-one .v)) (sizeVal (next-one .v)) x (sym (entry-told r e) ∙ p) .1, entry-whole .1)
+    entries-fit r x p e = omega (arith, told-yes (isData (next-one .x)) (sizeVal (next-one .x)) x (sym (entry-told r e) ∙ p) .1, entry-whole .1)
 
     pub entries-again : (r : Data) (x : ℕ) → r ≡ Yes x → r ≡ dataBy isData sizeVal (valueAt l (take (length v - (at + nameWidth)) (drop (at + nameWidth) v)))
         → EntriesInv l v n (at + nameWidth + x) (i + 1)
     entries-again r x p e =
-        let d = told-yes (isData (next-one .v)) (sizeVal (next-one .v)) x (sym (entry-told r e) ∙ p) in
+        let d = told-yes (isData (next-one .x)) (sizeVal (next-one .x)) x (sym (entry-told r e) ∙ p) in
         let w = entry-whole in
-        let z : at + nameWidth + sizeVal (next-one .v) ≡ at + nameWidth + x = omega (arith, d .1) in
-        let y : drop (sizeVal (next-one .v)) (drop nameWidth (drop at v)) ≡ drop (at + nameWidth + x) v = ap (drop (sizeVal (next-one .v))) (drop-drop nameWidth at v)
-        ∙ drop-drop (sizeVal (next-one .v)) (at + nameWidth) v ∙ ap (λ k. drop k v) z in
         record {
           k = suc (next-one .name);
           more = next-one .more;
-          read = ap (entriesAt l (n - (i + 1)) (suc (next-one .name))) (sym y) ∙ next-one .second;
+          read = ap (λ k. entriesAt l (n - (i + 1)) (suc (next-one .name)) (drop (at + nameWidth + k) v)) (sym (d .1)) ∙ next-one .second;
           here = omega arith;
           inside = omega (arith, d .1, w .1);
-          whole = w .0 ∙ ap (told (isData (next-one .v) && holdData fixed (next-one .more))) (omega arith)
-              ∙ and-data (isData (next-one .v)) (holdData fixed (next-one .more)) (sizeVal (next-one .v)) x (at + nameWidth) (sizeEntries (next-one .more)) (sym (entry-told r e) ∙ p);
+          whole = w .0 ∙ ap (told (isData (next-one .x) && holdData fixed (next-one .more))) (omega arith)
+              ∙ and-data (isData (next-one .x)) (holdData fixed (next-one .more)) (sizeVal (next-one .x)) x (at + nameWidth) (sizeEntries (next-one .more)) (sym (entry-told r e) ∙ p);
         }
 
 -- ---- a value by its command

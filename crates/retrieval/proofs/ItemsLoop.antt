@@ -20,8 +20,7 @@ use Rattle.types.proofs.Reading.{is-ok, ok-got}
 use Rattle.types.proofs.ChildAt.{item-behind}
 use Rattle.types.proofs.Entries.{size-got}
 use Rattle.values.specs.At.{valueAt, itemsAt}
-use Rattle.values.proofs.Reading.{v-inside, IsVal, is-list, as-list}
-use Rattle.values.proofs.Reading.{some-level, Item, next-item, no-item, encoded, size-item}
+use Rattle.values.proofs.Reading.{IsVal, is-list, as-list, some-level, encoded}
 use Rattle.values.proofs.Reading.{items-sizes, Nth, nth, no-nth}
 use Rattle.retrieval.specs.declared.builder.Retrieved.{Retrieved}
 use Rattle.retrieval.specs.declared.builder.Retrieved.the-variants.{Yes, No}

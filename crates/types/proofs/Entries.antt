@@ -23,7 +23,7 @@ use Rattle.order.specs.Ascending.{Asc, AscFields}
 use Rattle.order.specs.Size.{size, sizeFields}
 use Rattle.types.specs.At.{seen, typeAt, fieldsAt, sizeAt}
 use Rattle.types.proofs.Reading.{walk-size, type-told, t-good, fields-sizes}
-pub use Rattle.form.proofs.Runs.{step}
+use Rattle.form.proofs.Runs.{step}
 use Rattle.types.proofs.ChildAt.{EntryAt, entry-at, none-at}
 
 -- ---- what `skip` answers

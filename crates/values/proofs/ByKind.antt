@@ -30,8 +30,7 @@ use Rattle.types.proofs.ByCommand.{le-null, le-other, le-leaves, same-simple, c
 use Rattle.values.specs.At.{valueAt, Definition, definition, definitionAt}
 use Rattle.values.specs.Held.{definitionConforms}
 use Rattle.values.proofs.Reading.{IsVal, is-null, is-boolean, is-number, is-string, is-temporal, is-range, is-list, is-context, is-definition, is-built-in, is-type}
-use Rattle.values.proofs.Reading.{is-irrelevant, is-val, as-definition}
-use Rattle.values.proofs.Reading.{paramsAt, next-parameter, no-parameter, definition-parts}
+use Rattle.values.proofs.Reading.{is-irrelevant, is-val, as-definition, paramsAt, no-parameter, definition-parts, first-parameter}
 use Rattle.form.specs.Layout.{ValueKind, kDefinition}
 
 -- the command of the types of a value's kind; Any's for a value that has none
@@ -222,11 +221,11 @@ cmps-count (param t ps) no-params d = refl
 cmps-count (param t ps) (param u qs) d = ap (λ x. cmp fixed up t u && x) (cmps-count ps qs (λ e. d (ap suc e))) ∙ and-false (cmp fixed up t u)
 
 params-count : (l n : ℕ) (s : List ℕ) (ps : Params) → paramsAt l n s ≡ some ps → countTys (typesOf ps) ≡ n
-unfolding countTys typesOf
+unfolding countTys typesOf paramsAt
 params-count l zero s ps e = ap (λ x. countTys (typesOf x)) (no-parameter l s ps e)
 params-count l (suc n) s ps e =
-    let g = next-parameter l n s ps e in
-    ap (λ x. countTys (typesOf x)) (g .is) ∙ ap suc (params-count l n (drop (size (g .t)) (drop nameWidth s)) (g .more) (g .second))
+    let g = first-parameter l n 0 s ps e in
+    ap (λ x. countTys (typesOf x)) (g .is) ∙ ap suc (params-count l n (drop (nameWidth + size (g .x)) s) (g .more) (g .second))
 
 abbrev params-of : Definition → Params
 params-of (definition r ps) = ps

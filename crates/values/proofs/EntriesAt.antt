@@ -20,8 +20,7 @@ use Rattle.types.specs.At.{seen}
 use Rattle.types.proofs.ChildAt.{EntryAt, entry-at, none-at}
 use Rattle.values.proofs.Reading.{From, Above, from-none, from-entry, from-less, entries-sizes, value-told}
 use Rattle.values.specs.At.{valueAt, entriesAt}
-use Rattle.values.proofs.Reading.{v-inside, IsVal, is-context}
-use Rattle.values.proofs.Reading.{Entry, next-entry, no-entry}
+use Rattle.values.proofs.Reading.{IsVal, is-context}
 use Rattle.form.specs.Layout.{kContext}
 
 pub record ContextVal (l : ℕ) (s : List ℕ) (v : Val) : Type 0 where

@@ -2,8 +2,8 @@
 -- Idea: one induction on the reader (`value-told`); the parts by the command (`IsVal`).
 -- Index: `From`, `Above`, `from-none`, `from-entry`, `from-less` (names); `value-told`, `v-inside`, `items-inside`, `entries-inside`, `definition-inside` (size and end);
 -- `IsVal`, `is-val`, `as-leaf`, `as-null`, `as-range`, `as-list`, `as-context`, `as-definition`, `as-built-in`, `as-type` (by the command); `Nth`, `first-item`, `nth`, `no-nth`,
--- `next-item`, `no-item`, `next-entry`, `no-entry`, `definition-parts`, `ParameterAt`, `first-parameter`, `parameter-at`, `next-parameter`, `no-parameter` (runs);
--- `skip-is`, `skip-short`, `size-got` (what `skip` answers); `encoded`, `front-text` (the bytes).
+-- `no-item`, `no-entry`, `definition-parts`, `ParameterAt`, `first-parameter`, `parameter-at`, `no-parameter` (runs); `skip-is`, `skip-short`, `size-got` (what `skip` answers);
+-- `encoded`, `front-text` (the bytes).
 -- Assumes nothing.
 use Prim.Native.Nat.{ℕ, zero, suc, _+_, _-_, _<_, _≤_}
 use mathlib.Core.Path.{_≡_, refl, sym, ap, subst, _∙_}
@@ -17,7 +17,7 @@ use lib.Dec.{eqb}
 use Rattle.form.specs.Trees.{Ty, Params, no-parameters, parameter, l-null, l-boolean, l-number, l-string, l-temporal, Val, v-leaf, v-range, v-list, v-context, v-function, v-built-in, v-type}
 use Rattle.form.specs.Trees.{v-irrelevant, Vals, no-items, item, Entries, no-entries, entry, isDataLeaf, decodeTemporal, Leaf, code}
 use Rattle.form.specs.Limits.{nameWidth}
-use Rattle.form.specs.Form.{num, numAt, levelV, Bytes, encV, WfV}
+use Rattle.form.specs.Form.{numAt, levelV, Bytes, encV, WfV}
 use Rattle.form.specs.Layout.{ValueKind, kNull, kBoolean, kNumber, kString, kTemporal, kRange, kList, kContext, kDefinition, kBuiltIn, kType, kIrrelevant, ofValue, kindOf, operands}
 use Rattle.form.specs.Layout.{operandsV, widthOf}
 use Rattle.form.specs.Walks.{walkOf, sizeIn, Short}
@@ -27,7 +27,7 @@ use Rattle.form.proofs.WalkAnswers.{short-end}
 use Rattle.form.proofs.CommandKinds.{kind-temporal, width-is}
 use Rattle.form.proofs.ValueLaws.{leaf-level}
 use Rattle.form.proofs.Exact.{then-parts, Found}
-use Rattle.form.proofs.Nodes.{item-parts, named-parts, NodeV, nNull, nBoolean, nNumber, nString, nTemporal, nRangeV, nListV, nContextV, nDefinition, nBuiltIn, nType, nIrrelevant, value-read, node-of}
+use Rattle.form.proofs.Nodes.{NodeV, nNull, nBoolean, nNumber, nString, nTemporal, nRangeV, nListV, nContextV, nDefinition, nBuiltIn, nType, nIrrelevant, value-read, node-of}
 use Rattle.order.specs.Ascending.{Asc}
 use Rattle.order.specs.Size.{size, sizeParams, sizeVal, sizeVals, sizeEntries}
 use Rattle.order.specs.Values.{leafType}
@@ -235,27 +235,6 @@ module _ (l : ℕ) (s : List ℕ) (v : Val) (q : valueAt l s ≡ some v) where
   as-type c = of-kind kType (ap kindOf c)
 
 -- ---- items
-pub record Item (l n : ℕ) (s : List ℕ) (vs : Vals) : Type 0 where
-  pub v : Val
-  pub more : Vals
-  pub first : valueAt l s ≡ some v
-  pub second : itemsAt l n (drop (sizeVal v) s) ≡ some more
-  pub is : vs ≡ item v more
-
-pub next-item : (l n : ℕ) (s : List ℕ) (vs : Vals) → itemsAt l (suc n) s ≡ some vs → Item l n s vs
-unfolding itemsAt valueAt
-next-item l n s vs e =
-    seen-got (readVals (readV l) (suc n) s) vs e (λ m r.
-    item-parts no-items item (readV l) n s vs m r (λ x k px y j py pz pn.
-    let F = value-told l s x k px in
-    record {
-      v = x;
-      more = y;
-      first = got-seen (readV l s) x k px;
-      second = subst (λ (i : ℕ). seen (readVals (readV l) n (drop i s)) ≡ some y) (F .sized) (got-seen (readVals (readV l) n (drop k s)) y j py);
-      is = sym pz;
-    }))
-
 -- the item that stands at `at`, of which n follow
 abbrev pub Nth : (l n at : ℕ) → List ℕ → Vals → Type 0
 Nth l n at s vs = ItemAt sizeVal sizeVals (valueAt l) (itemsAt l) item n at s vs
@@ -280,37 +259,6 @@ unfolding itemsAt
 items-inside l n s vs e = seen-got (readVals (readV l) n s) vs e (λ m r. let F = run-told items-sizes (readV l) (value-told l) n s vs m r in omega (arith, F .sized, F .inside))
 
 -- ---- entries
-pub record Entry (l n least : ℕ) (s : List ℕ) (es : Entries) : Type 0 where
-  pub name : ℕ
-  pub v : Val
-  pub more : Entries
-  pub two : nameWidth ≤ length s
-  pub named : name ≡ num (take nameWidth s)
-  pub above : least ≤ name
-  pub first : valueAt l (drop nameWidth s) ≡ some v
-  pub second : entriesAt l n (suc name) (drop (sizeVal v) (drop nameWidth s)) ≡ some more
-  pub is : es ≡ entry name v more
-
-pub next-entry : (l n least : ℕ) (s : List ℕ) (es : Entries) → entriesAt l (suc n) least s ≡ some es → Entry l n least s es
-unfolding entriesAt valueAt
-next-entry l n least s es e =
-    seen-got (readEntries (readV l) (suc n) least s) es e (λ m r.
-    named-parts no-entries entry ascending (readV l) n least s es m r (λ w h x k px y j py pz pn.
-    let F = value-told l (drop nameWidth s) x k px in
-    let p : seen (readEntries (readV l) n (num (take nameWidth s) + 1) (drop k (drop nameWidth s))) ≡ some y = got-seen
-    (readEntries (readV l) n (num (take nameWidth s) + 1) (drop k (drop nameWidth s))) y j py in
-    record {
-      name = num (take nameWidth s);
-      v = x;
-      more = y;
-      two = w;
-      named = refl;
-      above = h;
-      first = got-seen (readV l (drop nameWidth s)) x k px;
-      second = subst (λ (i : ℕ). seen (readEntries (readV l) n (suc (num (take nameWidth s))) (drop i (drop nameWidth s))) ≡ some y) (F .sized) (rw add-one at p);
-      is = sym pz;
-    }))
-
 pub no-entry : (l least : ℕ) (s : List ℕ) (es : Entries) → entriesAt l 0 least s ≡ some es → es ≡ no-entries
 unfolding entriesAt seen readNamed
 no-entry l least s es e = cc
@@ -343,31 +291,6 @@ definition-parts l n s d e =
       ps = ps;
       first = got-seen (readT l s) t k pt;
       second = subst (λ (i : ℕ). seen (readParams (readT l) n 0 (drop i s)) ≡ some ps) (F .sized) (got-seen (readParams (readT l) n 0 (drop k s)) ps j pp);
-      is = sym pz;
-    }))
-
-pub record Parameter (l n : ℕ) (s : List ℕ) (ps : Params) : Type 0 where
-  pub name : ℕ
-  pub t : Ty
-  pub more : Params
-  pub two : nameWidth ≤ length s
-  pub first : typeAt l (drop nameWidth s) ≡ some t
-  pub second : paramsAt l n (drop (size t) (drop nameWidth s)) ≡ some more
-  pub is : ps ≡ parameter name t more
-
-pub next-parameter : (l n : ℕ) (s : List ℕ) (ps : Params) → paramsAt l (suc n) s ≡ some ps → Parameter l n s ps
-unfolding paramsAt typeAt
-next-parameter l n s ps e =
-    seen-got (readParams (readT l) (suc n) 0 s) ps e (λ m r.
-    named-parts no-parameters parameter anyOrder (readT l) n 0 s ps m r (λ w h x k px y j py pz pn.
-    let F = type-told l (drop nameWidth s) x k px in
-    record {
-      name = num (take nameWidth s);
-      t = x;
-      more = y;
-      two = w;
-      first = got-seen (readT l (drop nameWidth s)) x k px;
-      second = subst (λ (i : ℕ). seen (readParams (readT l) n 0 (drop i (drop nameWidth s))) ≡ some y) (F .sized) (got-seen (readParams (readT l) n 0 (drop k (drop nameWidth s))) y j py);
       is = sym pz;
     }))
 
@@ -416,7 +339,3 @@ encoded l s v bs e =
 
 pub front-text : (l : ℕ) (s : List ℕ) (v : Val) → Bytes s → valueAt l s ≡ some v → take (sizeVal v) s ≡ encV v
 front-text l s v bs e = let F = encoded l s v bs e in ap (take (sizeVal v)) (F .bytes) ∙ take-at (encV v) (F .rest) (sizeVal v) (length-encV v)
-
-pub size-item : (v : Val) (vs : Vals) → sizeVals (item v vs) ≡ sizeVal v + sizeVals vs
-unfolding sizeVal
-size-item v vs = refl
