@@ -114,7 +114,7 @@ module _ {s : List ℕ} {at : ℕ} where
   edge-null (e-key c d x o k) h = absurd (omega arith)
   edge-null (e-off m c d k) h = absurd (omega arith)
 
-  edge-text : {p : Point} {n : ℕ} → Edge s at p n → getD s at 0 ≡ 3 → (p ≡ text (numAt nameWidth (at + 1) s)) × (at + 3 ≤ length s)
+  edge-text : {p : Point} {n : ℕ} → Edge s at p n → getD s at 0 ≡ 3 → (p ≡ text (numAt nameWidth (at + 1) s)) × (at + (1 + nameWidth) ≤ length s)
   edge-text (e-null c k) h = absurd (omega arith)
   edge-text (e-text c k) h = (refl, k)
   edge-text (e-key c d x o k) h = absurd (x h)
