@@ -784,7 +784,7 @@ fn moved_at_the_limits(options: &Options, each: &mut EachMove) {
 }
 
 /// Names whose low or high bytes are equal.
-const NAMES: [u16; 6] = [0, 1, 0x00FF, 0x0100, 0x0101, 0xFFFF];
+pub const NAMES: [u16; 6] = [0, 1, 0x00FF, 0x0100, 0x0101, 0xFFFF];
 
 /// Values that are put into small contexts.
 const VALUES: [&[u8]; 4] = [
@@ -805,7 +805,7 @@ fn few_paths() -> [Vec<u16>; 6] {
 }
 
 /// The bytes of a path.
-fn spelled(path: &[u16]) -> Vec<u8> {
+pub fn spelled(path: &[u16]) -> Vec<u8> {
     path.iter().flat_map(|name| name.to_le_bytes()).collect()
 }
 

@@ -9,6 +9,7 @@ mod context_answers;
 mod context_cases;
 mod context_theorems;
 pub mod lent;
+pub mod levels;
 pub mod library;
 mod mapping;
 mod names_answers;

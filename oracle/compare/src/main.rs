@@ -1,17 +1,19 @@
 //! The comparison at scale: prints the counts of each call, then the number of cases and of
-//! differences. Exit code 1 when there is a difference, 2 for a bad argument.
+//! differences. Exit code 1 when there is a difference or a class of cases is not met, 2 for a bad
+//! argument.
 
 use compare::call::Options;
 use compare::calls::CALLS;
+use compare::levels;
 use compare::library::COMPARED;
-use compare::run::run;
+use compare::run::{Tally, run};
 use std::process::ExitCode;
 
 const USAGE: &str = "usage: compare [--quick] [--only NAME,..] [--length N] [--alphabet-length N] \
 [--pair-length N] [--count N] [--pairs N] [--seed N]
   --quick              all byte strings up to 2 bytes, all pairs of types up to 3 bytes, all values
                        up to 3 nodes, 1,000 random records, 5,000 random pairs and values
-  --only NAME,..       these calls only; may stand several times
+  --only NAME,..       these calls only, or the section levels; may stand several times
   --length N           all byte strings up to N bytes (3)
   --alphabet-length N  all strings up to N bytes over the small alphabets (5)
   --pair-length N      all pairs of types up to N bytes, all values up to N nodes (4)
@@ -31,18 +33,14 @@ fn main() -> ExitCode {
     let Some(Arguments { options, only }) = arguments(std::env::args().skip(1)) else {
         eprintln!("{USAGE}");
         let names: Vec<&str> = CALLS.iter().map(|call| call.name).collect();
-        eprintln!("calls: {}", names.join(", "));
+        eprintln!("calls: {}, and {}", names.join(", "), levels::NAME);
         return ExitCode::from(2);
     };
     println!("compared with {COMPARED}");
+    let wanted = |name| only.is_empty() || only.iter().any(|other| other == name);
     let mut cases = 0;
     let mut differences = 0;
-    for call in CALLS {
-        if !only.is_empty() && !only.iter().any(|name| name == call.name) {
-            continue;
-        }
-        let tally = run(&call, &options);
-        println!("{tally}");
+    let mut add = |tally: &Tally| {
         if let Some(smallest) = &tally.smallest {
             println!(
                 "{}: {} differences, the smallest: {smallest}",
@@ -51,9 +49,25 @@ fn main() -> ExitCode {
         }
         cases += tally.cases;
         differences += tally.differences;
+    };
+    for call in CALLS.into_iter().filter(|call| wanted(call.name)) {
+        let tally = run(&call, &options);
+        println!("{tally}");
+        add(&tally);
+    }
+    let mut all_met = true;
+    if wanted(levels::NAME) {
+        for levels in levels::run(&options) {
+            println!("{levels}");
+            add(&levels.tally);
+            for class in &levels.missing {
+                println!("{}: NOT MET: {class}", levels.tally.name);
+                all_met = false;
+            }
+        }
     }
     println!("{cases} cases, {differences} differences");
-    ExitCode::from(u8::from(differences > 0))
+    ExitCode::from(u8::from(differences > 0 || !all_met))
 }
 
 fn arguments(mut args: impl Iterator<Item = String>) -> Option<Arguments> {
@@ -91,7 +105,8 @@ fn arguments(mut args: impl Iterator<Item = String>) -> Option<Arguments> {
             _ => return None,
         }
     }
-    let known = |name: &String| CALLS.iter().any(|call| call.name == name);
+    let is_call = |name: &String| CALLS.iter().any(|call| call.name == name);
+    let known = |name: &String| is_call(name) || name == levels::NAME;
     only.iter()
         .all(known)
         .then_some(Arguments { options, only })

@@ -1,25 +1,39 @@
-//! Every call agrees with the Rust on few cases, and these give each of its refusals.
+//! Every call agrees with the Rust on few cases, and these give each of its refusals; the updates do
+//! around level 31 too.
 
 use compare::call::{Gives, Options};
 use compare::calls::CALLS;
+use compare::levels;
 use compare::run::run;
+
+const FEW: Options = Options {
+    length: 1,
+    alphabet_length: 2,
+    pair_length: 2,
+    count: 100,
+    pairs: 200,
+    seed: 5,
+};
 
 #[test]
 fn every_call_agrees_on_few_cases() {
-    let options = Options {
-        length: 1,
-        alphabet_length: 2,
-        pair_length: 2,
-        count: 100,
-        pairs: 200,
-        seed: 5,
-    };
     for call in CALLS {
-        let tally = run(&call, &options);
+        let tally = run(&call, &FEW);
         assert_eq!(tally.smallest, None, "{tally}");
         assert!(tally.accepted > 0, "{tally}");
         assert!(tally.refused.values().all(|&count| count > 0), "{tally}");
         let may_be_none = matches!(call.gives, Gives::Part | Gives::Command);
         assert_eq!(tally.none > 0, may_be_none, "{tally}");
     }
+}
+
+#[test]
+fn the_updates_agree_around_level_31_and_meet_every_class() {
+    let mut calls = 0;
+    for levels in levels::run(&FEW) {
+        assert_eq!(levels.tally.smallest, None, "{levels}");
+        assert!(levels.missing.is_empty(), "{:?}", levels.missing);
+        calls += 1;
+    }
+    assert_eq!(calls, 8);
 }

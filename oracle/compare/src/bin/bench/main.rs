@@ -3,11 +3,12 @@
 //! its answer, and its answer alone on trees that were built before. An update of a context alone is
 //! that of a copy of the tree, since the call leaves the context as it is. Beside them runs lean Rust
 //! for the readers and a few calls, and an earlier library where one is linked. All run on the same
-//! records in turn, accepted ones but for a section of refused ones; the best of several rounds
-//! counts, so only the ratios in one run say something.
+//! records in turn, accepted ones but for a section of refused ones and results over level 31; the
+//! best of several rounds counts, so only the ratios in one run say something.
 
 mod contexts;
 mod data;
+mod deep;
 mod lean;
 mod measure;
 mod others;
@@ -64,6 +65,8 @@ fn main() -> ExitCode {
     refused::run(&stocks, &mut table);
     table.section("other records");
     others::run(&stocks, &mut table);
+    table.section("updates near level 31");
+    deep::run(&mut table);
     table.section("records of the sample week");
     week::run(&mut table);
     table.end();

@@ -55,7 +55,7 @@ fn unlike_values(stock: &Stock) -> Vec<ValueAndType> {
 }
 
 /// A context or its type, whose names count from 0 on, with one entry more.
-fn with_last(context: &[u8], child: &[u8]) -> Vec<u8> {
+pub fn with_last(context: &[u8], child: &[u8]) -> Vec<u8> {
     let count = u16::from_le_bytes([context[1], context[2]]);
     let (name, count) = (count.to_le_bytes(), (count + 1).to_le_bytes());
     [&context[..1], &count, &context[3..], &name, child].concat()

@@ -8,7 +8,7 @@ use std::cmp::Ordering;
 const LINEAR: f64 = 1.5;
 
 /// The places in a record, and the kinds of records, that a row may be of.
-pub const PLACES: [&str; 13] = [
+pub const PLACES: [&str; 18] = [
     "first",
     "last",
     "front",
@@ -22,6 +22,11 @@ pub const PLACES: [&str; 13] = [
     "null",
     "definitions",
     "type-values",
+    "deep-30",
+    "last-30",
+    "new-10",
+    "over-31",
+    "deep-value",
 ];
 
 /// Whether an earlier library is linked, so that there is a column for it.

@@ -15,7 +15,7 @@ use dsntk_feel::values::Value;
 use feel_form::contexts;
 
 /// A value that is put into a context.
-const PUT: [u8; 3] = [0x03, 7, 0];
+pub const PUT: [u8; 3] = [0x03, 7, 0];
 
 /// Two contexts.
 type Contexts = Pair<FeelContext, FeelContext>;
@@ -25,12 +25,7 @@ pub fn run(stocks: &[Stock], table: &mut Table) {
         creation(&new_inside(stock))
     });
     table.each("context_apply_entries", stocks, |stock| {
-        let apply = |c: &mut FeelContext, names: &[Name], v| {
-            c.apply_entries(names, v).expect("contexts on the way");
-        };
-        let function = both!(feel_context_apply_entries as PathPut);
-        let rust = contexts::apply_entries;
-        entries(&new_inside(stock), function, rust, apply)
+        application(&new_inside(stock))
     });
     table.each("context_zip", stocks, |stock| {
         let function = both!(feel_context_zip as TwoBuild);
@@ -42,7 +37,10 @@ pub fn run(stocks: &[Stock], table: &mut Table) {
         let (rust, ready) = (contexts::overwrite, FeelContext::overwrite);
         made_one(&two_contexts(stock), function, rust, ready)
     });
-    table.each("context_move_entry", stocks, moving);
+    table.each("context_move_entry", stocks, |stock| {
+        // The last entry, below a new parent behind all others.
+        moving(&stock.spots(|count| vec![count - 1, count]))
+    });
     table.each("context_set_entry", stocks, |stock| {
         let spots = stock.spots(|count| vec![count - 1]).into_iter();
         let spots: Vec<Spot> = spots.map(|spot| spot.putting(&PUT)).collect();
@@ -72,6 +70,15 @@ pub fn creation(spots: &[Spot]) -> Measured {
     let function = both!(feel_context_create_entries as PathPut);
     let rust = contexts::create_entries;
     entries(spots, function, rust, FeelContext::create_entries)
+}
+
+/// `context_apply_entries`.
+pub fn application(spots: &[Spot]) -> Measured {
+    let apply = |c: &mut FeelContext, names: &[Name], v| {
+        c.apply_entries(names, v).expect("contexts on the way");
+    };
+    let function = both!(feel_context_apply_entries as PathPut);
+    entries(spots, function, contexts::apply_entries, apply)
 }
 
 /// A value put at the end of a path.
@@ -120,11 +127,11 @@ fn made_one(
     })
 }
 
-/// The last entry moved below a new parent behind all others.
-fn moving(stock: &Stock) -> Measured {
+/// `context_move_entry`; the path has the name and the parent.
+pub fn moving(spots: &[Spot]) -> Measured {
     let mut out = vec![0; ROOM];
     contest(
-        &stock.spots(|count| vec![count - 1, count]),
+        spots,
         both!(feel_context_move_entry as NamesBuild),
         |f, spot| names_build(f, &spot.c.bytes, [spot.path[0], spot.path[1]], &mut out),
         |spot| contexts::move_entry(&spot.c.bytes, spot.path[0], spot.path[1], ROOM),
