@@ -33,7 +33,8 @@ pub fn wide(x: u8) -> usize
     x as usize
 }
 
-pub(crate) fn max(a: usize, b: usize) -> usize
+// The larger of two.
+pub fn max(a: usize, b: usize) -> usize
     ensures { λ r. ⌜ r ≡ max a b ⌝ }
 {
     if a < b { b } else { a }

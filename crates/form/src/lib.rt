@@ -1,10 +1,8 @@
 // The byte form of document 01: one walk over a value or a type says where it ends and its level, or the first fault.
 ghost use mathlib.Core.Path.{_≡_};
-ghost use Prim.Native.Nat.{_+_, _-_, _<_, _≤_};
-ghost use lib.ListN.{length};
+ghost use Prim.Native.Nat.{_-_, _<_};
 ghost use Rattle.form.specs.Form.{level, Bytes};
 ghost use Rattle.form.specs.Read.{checkType, checkValue};
-ghost use Rattle.form.specs.Walks.{settled};
 ghost use Rattle.form.specs.Answers.{checked};
 
 pub mod bytes;
@@ -38,20 +36,6 @@ pub enum Written {
 
 // ---- the whole
 
-// The answer to a whole of `len` bytes after its walk. Refusals are counted from `base`: 1 for values, 6 for types.
-fn settle(size: usize, told: usize, len: usize, base: u8) -> Checked
-    requires { ⌜ (base ≤ 6) × (size ≡ 0 → told ≤ 3) ⌝ }
-    ensures { λ r. ⌜ checked r ≡ settled base len size told ⌝ }
-{
-    if size == 0 {
-        return Checked::Refused(base + told as u8);
-    }
-    if size == len {
-        return Checked::Accepted { level: told };
-    }
-    Checked::Refused(base + 4)
-}
-
 // The reader of a whole type: its level, or refusal 6 to 10.
 pub fn check_type(s: &[u8]) -> Checked
     ensures { λ r. ⌜ checked r ≡ checkType (now (s .entry)) ⌝ }
@@ -65,7 +49,7 @@ pub fn check_type(s: &[u8]) -> Checked
     }
     let mut told: usize = 0;
     let size = walk::walk_type(s, TYPE_LEVELS, &mut told);
-    settle(size, told, s.len(), refusals::TYPE)
+    walk::settle(size, told, s.len(), refusals::TYPE)
 }
 
 // The reader of a whole value: its level, or refusal 1 to 5.
@@ -81,5 +65,5 @@ pub fn check_value(s: &[u8]) -> Checked
     }
     let mut told: usize = 0;
     let size = walk::walk_value(s, VALUE_LEVELS, &mut told);
-    settle(size, told, s.len(), refusals::VALUE)
+    walk::settle(size, told, s.len(), refusals::VALUE)
 }

@@ -5,15 +5,17 @@ ghost use lib.ListN.{length, drop, getD};
 ghost use Rattle.form.specs.Trees.{simple, isDataLeaf};
 ghost use Rattle.form.specs.Form.{level, levelFields, levelTys, levelParams, levelV, levelVals, levelEntries};
 ghost use Rattle.form.specs.Read.{readT, readFields, readTys, readParams, readV, readVals, readEntries};
-ghost use Rattle.form.specs.Walks.{walkOf, walkBy, pairWalk, up, Told, Short, flagWalk};
+ghost use Rattle.form.specs.Walks.{walkOf, walkBy, pairWalk, up, Told, Short, flagWalk, settled};
+ghost use Rattle.form.specs.Answers.{checked};
+use crate::Checked;
 use crate::bytes;
 use crate::commands;
 use crate::limits::NAME_WIDTH;
 
 // The first fault from the left: ends inside, unknown command or operand; names not ascending; too deep.
-const SHAPE: usize = 1;
+pub const SHAPE: usize = 1;
 
-const NAMES: usize = 2;
+pub const NAMES: usize = 2;
 
 const LEVEL: usize = 3;
 
@@ -333,4 +335,20 @@ fn walk_entries(s: &[u8], count: usize, left: usize, told: &mut usize) -> usize
         deep = bytes::max(deep, *told);
     }
     end(at + 3, deep + 1, told)
+}
+
+// ---- the whole
+
+// The answer to a whole of `len` bytes after its walk. Refusals are counted from `base`: 1 for values, 6 for types.
+pub fn settle(size: usize, told: usize, len: usize, base: u8) -> Checked
+    requires { ⌜ (base ≤ 6) × (size ≡ 0 → told ≤ 3) ⌝ }
+    ensures { λ r. ⌜ checked r ≡ settled base len size told ⌝ }
+{
+    if size == 0 {
+        return Checked::Refused(base + told as u8);
+    }
+    if size == len {
+        return Checked::Accepted { level: told };
+    }
+    Checked::Refused(base + 4)
 }

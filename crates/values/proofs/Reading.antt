@@ -2,7 +2,7 @@
 -- Idea: one induction on the reader (`value-told`); the parts by the command (`IsVal`).
 -- Index: `From`, `Above`, `from-none`, `from-entry`, `from-less` (names); `value-told`, `v-inside`, `items-inside`, `entries-inside`, `definition-inside` (size and end);
 -- `IsVal`, `is-val`, `as-leaf`, `as-null`, `as-range`, `as-list`, `as-context`, `as-definition`, `as-built-in`, `as-type` (by the command); `Nth`, `first-item`, `nth`, `no-nth`,
--- `no-item`, `no-entry`, `definition-parts`, `ParameterAt`, `first-parameter`, `parameter-at`, `no-parameter` (runs); `skip-is`, `skip-short`, `size-got` (what `skip` answers);
+-- `no-item`, `no-entry`, `definition-parts`, `ParameterAt`, `first-parameter`, `parameter-at`, `no-parameter` (runs); `skip-is`, `pass-short`, `size-got` (what `skip` and `pass` answer);
 -- `encoded`, `front-text` (the bytes).
 -- Assumes nothing.
 use Prim.Native.Nat.{ℕ, zero, suc, _+_, _-_, _<_, _≤_}
@@ -21,9 +21,10 @@ use Rattle.form.specs.Form.{numAt, levelV, Bytes, encV, WfV}
 use Rattle.form.specs.Layout.{ValueKind, kNull, kBoolean, kNumber, kString, kTemporal, kRange, kList, kContext, kDefinition, kBuiltIn, kType, kIrrelevant, ofValue, kindOf, operands}
 use Rattle.form.specs.Layout.{operandsV, widthOf}
 use Rattle.form.specs.Walks.{walkOf, sizeIn, Short}
+use Rattle.form.specs.Walks as walks
 use Rattle.form.specs.Read.{got, andThen, readRun, readNamed, readT, readV, readVals, readEntries, readParams, ascending, anyOrder}
 use Rattle.form.proofs.Runs.{step}
-use Rattle.form.proofs.WalkAnswers.{short-end}
+use Rattle.form.proofs.WalkAnswers.{short-end, told-ended}
 use Rattle.form.proofs.CommandKinds.{kind-temporal, width-is}
 use Rattle.form.proofs.ValueLaws.{leaf-level}
 use Rattle.form.proofs.Exact.{then-parts, Found}
@@ -323,8 +324,9 @@ pub skip-is : (l : ℕ) (s : List ℕ) → sizeIn (walkOf levelV (readV l s)) �
 unfolding valueAt sizeAtV
 skip-is l s = walk-size levelV sizeAtV (λ v. refl) refl (readV l) (value-told l) s (readV l s) refl
 
-pub skip-short : (l : ℕ) (s : List ℕ) (n room : ℕ) → Short isDataLeaf (readV l s) n room → (n ≡ 0 → ⊥) → n ≡ sizeAtV (valueAt l s)
-skip-short l s n room h z = ap sizeIn (sym (short-end levelV isDataLeaf leaf-level (readV l s) n room h z)) ∙ skip-is l s
+-- the short way past a leaf of data
+pub pass-short : (l : ℕ) (s : List ℕ) (n : ℕ) → Short isDataLeaf (readV l s) n (length s - 0) → (n ≡ 0 → ⊥) → walks.Told (walkOf levelV (readV l s)) (length s) n 1
+pass-short l s n h z = told-ended (short-end levelV isDataLeaf leaf-level (readV l s) n (length s - 0) h z) (omega arith) (omega (arith, h .room)) (omega arith) refl refl
 
 pub size-got : (r : Option Val) (v : Val) → r ≡ some v → sizeAtV r ≡ sizeVal v
 unfolding sizeAtV

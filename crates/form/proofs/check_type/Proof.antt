@@ -32,7 +32,7 @@ returns-2 c =
 walk-type-requires : tie.Need-walk-type-requires
 walk-type-requires c κs = search needs
 
--- at `settle(size, told, s.len(), refusals::TYPE)`
+-- at `walk::settle(size, told, s.len(), refusals::TYPE)`
 settle-requires : tie.Need-settle-requires
 settle-requires c κs =
     let s = c .before .before .before .before .before .args .s in

@@ -32,7 +32,7 @@ returns-2 c =
 walk-value-requires : tie.Need-walk-value-requires
 walk-value-requires c κs = search needs
 
--- at `settle(size, told, s.len(), refusals::VALUE)`
+-- at `walk::settle(size, told, s.len(), refusals::VALUE)`
 settle-requires : tie.Need-settle-requires
 settle-requires c κs =
     let s = c .before .before .before .before .before .args .s in

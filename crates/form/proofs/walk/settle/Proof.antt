@@ -1,8 +1,8 @@
--- `form::settle` meets its contract: the answer to a whole, by the walk's size against the length.
+-- `form::walk::settle` meets its contract: the answer to a whole, by the walk's size against the length.
 -- Assumes nothing.
 use borrow.Author.Needs.{needs}
-use Rattle.form.proofs.settle.Statement.{statement}
-use Rattle.form.proofs.settle.Tie as tie
+use Rattle.form.proofs.walk.settle.Statement.{statement}
+use Rattle.form.proofs.walk.settle.Tie as tie
 use native.Mathlib.Omega.{arith}
 use Rattle.form.proofs.Whole.{settled-fault, settled-end, settled-left}
 
