@@ -1,24 +1,26 @@
 -- The calls: refusals in their order, and the answer.
--- Idea: the update stands whole in a spare place, or is too long for a value; what stands there is handed on where its level is within the limit.
--- Index: `result-small`, `result-long`, `result-deep` (a result as a value); `finish-long`, `finish-deep`, `finish-done` (`give_read`), `within-done` (`give_within`); `build-copy`, `build-not`,
--- `build-done`, `build-room`, `few-room`, `all-room` (`build`, `build_in`); `Ready`, `ready`, `given-refused`, `given-value`, `given-names`, `given-second`, `given-other`, `given-level`
--- (`check_arguments`); `create-done`, `apply-done`, `set-is`, `null-is` (create, apply, set); `join-first`, `join-second`, `join-other`, `join-done`, `merge-done` (zip, overwrite);
--- `without-short`, `without-done`, `remove-copy`, `remove-done` (remove); `move-copy`, `move-done`, `cut-is`, `cut-ok` (move);
--- `Deep`, `deep`, `open-value`, `open-other`, `open-level` (`check_context`).
+-- Idea: the walk along the path says what an update changes and leaves; so the size and the level of the answer are known before it is written (`size-is`, `level-is`), and 17 and 18 with them.
+-- Index: `result-small`, `result-long`, `result-deep` (a result as a value); `within-long`, `within-deep`, `within-done` (`give_within`); `few-room`, `all-room` (spare places);
+-- `place-copy`, `place-cuts`, `place-rest`, `place-text`, `place-err`, `place-long`, `place-deep`, `place-short`, `place-done`, `along`, `place-asks` (`place`); `judged-refused`,
+-- `judged-told`, `told`, `told-byte` (an accepted value); `call-refused`; `update-first`, `update-names`, `update-second`, `update-other`, `update-small`, `update-value`, `update-level`,
+-- `update-context`, `update-done` (`update`); `set-is`, `null-is`, `set-built`, `null-built` (set); `join-first`, `join-second`, `join-other`, `join-others`, `join-done`, `merge-holds`,
+-- `merge-room` (zip, overwrite); `find-other`, `find-context`, `taken`, `Takes`, `taken-none`, `taken-some` (`find`); `without-short`, `without-done`, `remove-copy`, `remove-done` (remove);
+-- `move-copy`, `move-small`, `rest-ok`, `part-ok`, `part-level`, `move-done`, `cut-inside`, `cut-is`, `cut-ok`, `cut-small` (move); `some-entry`; `not-strict`, `no-name-left`,
+-- `one-name-left` (`is_err`).
 -- Assumes nothing.
 use Prim.Native.Nat.{ℕ, _+_, _-_, _<_, _≤_, max, min}
 use native.Mathlib.Omega.{arith}
 use mathlib.Core.Path.{_≡_, refl, sym, ap, ap₂, subst, _∙_}
-use mathlib.Core.Bool.{Bool, true, false, _&&_}
+use mathlib.Core.Bool.{Bool, true, false, not, _&&_, cond}
 use mathlib.Core.Option.{Option, none, some}
 use mathlib.Core.List.{List, [], _∷_, _++_, append-assoc, append-nil}
 use lib.ListN.{length, getD, take, drop, length-append, length-take, length-drop}
 use lib.Seq.{take-all, take-at}
-use lib.Dec.{leb}
-use borrow.Author.Tests.{le-leb, lt-leb, leb-true, leb-false}
+use lib.Dec.{leb, ltb}
+use borrow.Author.Tests.{le-leb, lt-leb, le-ltb, lt-ltb}
 use Rattle.form.specs.Limits.{nameWidth, mostBytes, valueLevels, mostNames}
 use Rattle.form.specs.Trees.{Val, v-context, Entries, nothing}
-use Rattle.form.specs.Form.{Bytes, bytes, numAt, countEntries, encLeaf, encV, levelV, levelEntries, WfLeaf, WfV}
+use Rattle.form.specs.Form.{Bytes, bytes, numAt, countEntries, encLeaf, encV, levelV, WfLeaf, WfV}
 use Rattle.form.specs.Outcome.{Outcome, done, refused, _>>=_, _>>_, check, orRefuse, fits}
 use Rattle.form.specs.Read.{got, readValue, checkValue}
 use Rattle.form.specs.Answers.{onto, Built, checked}
@@ -27,44 +29,42 @@ use Rattle.form.specs.declared.Checked.the-variants as checked-is
 use Rattle.form.specs.declared.Written.{Written}
 use Rattle.form.specs.declared.Written.the-variants as written-is
 use Rattle.form.specs.ByteForm.{Accepted}
-use Rattle.form.proofs.Accepted.{refused-done, level-told, level-refused}
 use Rattle.form.proofs.ExactValues.{enc-readV, read-encV}
 use Rattle.form.proofs.Exact.{bytes-drop}
 use Rattle.form.proofs.Numbers.{bytes-take}
-use Rattle.form.proofs.Values.{read-upV, value-accepted, value-accepts, ValueTold, value-told, encV-same, encV-some}
+use Rattle.form.proofs.Values.{read-upV, value-accepted, value-accepts, ValueTold, value-told}
 use Rattle.order.specs.Size.{sizeVal}
 use Rattle.order.proofs.LeastSize.{length-encV}
 use Rattle.types.specs.At.{Ok}
 use Rattle.types.proofs.Reading.{is-ok, ok-got}
 use Rattle.values.proofs.CallContracts as held
-use Rattle.values.proofs.CallContracts.{value-refused}
 use Rattle.output.proofs.Outcomes.{built-refused, built-short, built-wrote}
 use Rattle.output.proofs.FillLaws.{length-fill}
-use Rattle.paths.specs.Paths.{valueOf, entriesOf}
+use Rattle.paths.specs.Paths.{valueOf, entriesOf, bind, entryPlace}
 use Rattle.paths.specs.Places.{wholeAt, contextAt, lentCode}
+use Rattle.paths.specs.Way.{stays, cutHere, within, cutAt, cutOf, Surveyed}
+use Rattle.paths.specs.declared.way.Cut.{Cut}
 use Rattle.paths.specs.Calls.{contextOf}
-use Rattle.paths.proofs.Whole.{whole-is, is-whole, of-context, context-read, read-context, Ctx, ctx-of}
-use Rattle.paths.proofs.PathSearch.{at-context, WholeContext, whole-context, whole-other, Hit, hit-whole, hit-inside, hit-start, Miss}
-use Rattle.paths.proofs.CallContracts.{opened-short, Opened, opened, read-whole}
-use Rattle.paths.proofs.SplitContext.{Around, value-level, well-context, well-entries, text-context, count-context, around-some}
+use Rattle.paths.proofs.Whole.{whole-is, whole-text, is-whole, of-context, given-is, context-read, read-context, Ctx, ctx-of}
+use Rattle.paths.proofs.PathSearch.{WholeContext, whole-context, whole-other, Hit, hit-whole, hit-inside, hit-start, Miss}
+use Rattle.paths.proofs.CallContracts.{opened-short, Opened, read-whole, held-byte, refused-other, refused-not}
+use Rattle.paths.proofs.Along.{stays-level, surveyed-is}
+use Rattle.paths.proofs.SplitContext.{Around, well-context, well-entries, text-context, count-context, around-some}
 use Rattle.updates.specs.Update.{create, apply, zip, overwrite, remove, moved, moveEntry, setEntry, setNull, removeEntry}
-use Rattle.updates.specs.Writing.{updated, Wrote, Small, begun, closed, Updates, merged, Merges}
-use Rattle.context.specs.Calls.{Given, givenOf, Two, twoOf, createEntriesCall, applyEntriesCall, setEntryCall, setNullCall, joinedCall, removeEntryCall, moveEntryCall}
-use Rattle.context.specs.Answering.{Holds, answered, levelOf, depthOf, valueIn}
-use Rattle.updates.specs.declared.Made.{Made}
-use Rattle.updates.specs.declared.Made.the-variants as made-is
-use Rattle.updates.proofs.Builders.{Some, wrote-bytes, wrote-not, updates-is}
-use Rattle.updates.specs.Laws.{Names}
-use Rattle.updates.proofs.Formed.{well-updated, well-joined, well-removed, level-removed}
+use Rattle.updates.specs.Writing.{updated, blocked, Small, Cuts, spliced, begun, closed, merged, Joined, Merges}
+use Rattle.context.specs.Calls.{Given, givenOf, Two, twoOf, updateCall, createEntriesCall, setEntryCall, setNullCall, joinedCall, removeEntryCall, moveEntryCall}
+use Rattle.context.specs.Answering.{Holds, Taken, answered, valueIn}
+use Rattle.updates.proofs.Formed.{well-removed, level-removed}
 use Rattle.updates.proofs.InsertedEntries.{remove-absent}
-use Rattle.updates.proofs.Levels.{level-updated, level-merged, size-merged}
+use Rattle.updates.proofs.Levels.{created-level, size-merged}
+use Rattle.updates.proofs.Splices.{spliced-is, cuts-is, blocked-is}
 use Rattle.updates.proofs.ContextFront.{length-begun}
 use Rattle.updates.proofs.PathSteps.{count-less, text-remove}
-use Rattle.form.specs.Options.{map}
+use Rattle.form.specs.Options.{WhereRead}
 use Rattle.output.specs.Output.{fill}
 use Rattle.output.specs.Result.{small, result}
 use Rattle.values.proofs.EntriesAt.{size-context}
-use Rattle.form.proofs.Options.{none-some, some-same, map-is}
+use Rattle.form.proofs.Options.{some-same}
 
 -- ---- 17 and 18
 pub result-small : (room : ℕ) (w : Val) → length (encV w) ≤ mostBytes → levelV w ≤ valueLevels → fits room (encV w) ≡ result room w
@@ -79,50 +79,21 @@ pub result-deep : (room : ℕ) (w : Val) → length (encV w) ≤ mostBytes → v
 unfolding _>>_
 result-deep room w k l = let e : small w ≡ false = ap₂ _&&_ (le-leb (length (encV w)) mostBytes k) (lt-leb (levelV w) valueLevels l) in rw e
 
-above-not : (a b : ℕ) → (a ≤ b → ⊥) → b < a
-above-not a b h = by (leb a b) refl
-  where
-    by : (q : Bool) → leb a b ≡ q → b < a
-    by true e = absurd (h (leb-true a b e))
-    by false e = leb-false a b e
+-- ---- `give_within`
+module _ (spare : List ℕ) (n d : ℕ) (w : Val) (H : Holds spare n d w) (old : List ℕ) where
+  pub within-long : mostBytes < n → Built (result (length old) w) old old (written-is.Refused 17)
+  within-long h = built-refused (result (length old) w) 17 old (result-long (length old) w (omega (arith, H .long)))
 
--- ---- `give_read`
-module _ (spare : List ℕ) (n : ℕ) (w : Val) (H : Holds spare n w) where
-  pub finish-long : (old : List ℕ) → mostBytes < n → Built (result (length old) w) old old (written-is.Refused 17)
-  finish-long old h = built-refused (result (length old) w) 17 old (result-long (length old) w (omega (arith, H .long)))
+  module _ (k : n ≤ mostBytes) where
+    pub within-deep : valueLevels < d → Built (result (length old) w) old old (written-is.Refused 17)
+    within-deep h = built-refused (result (length old) w) 17 old (result-deep (length old) w (omega (arith, H .long)) (omega (arith, H .deep)))
 
-  -- `give_within`
-  pub within-done : n ≤ mostBytes → levelV w ≤ valueLevels → (old new : List ℕ) (a : Written) → Built (fits (length old) (take n spare)) old new a → Built (result (length old) w) old new a
-  within-done k l old new a B = subst (λ o. Built o old new a) (ap (fits (length old)) (H .text k) ∙ result-small (length old) w (omega (arith, H .long)) l) B
+    pub within-done : d ≤ valueLevels → (new : List ℕ) (a : Written) → Built (fits (length old) (take n spare)) old new a → Built (result (length old) w) old new a
+    within-done l new a B =
+        subst (λ o. Built o old new a)
+        (ap (fits (length old)) (H .text k) ∙ result-small (length old) w (omega (arith, H .long)) (omega (arith, H .deep))) B
 
-  module _ (k : n ≤ mostBytes) (s : List ℕ) (es : s ≡ take n spare) (b : Bytes s) (r : Checked) (c : checked r ≡ checkValue s) where
-    is-text : s ≡ encV w
-    is-text = es ∙ H .text k
-
-    fits-in : length (encV w) ≤ mostBytes
-    fits-in = omega (arith, H .long)
-
-    low-level : (d : ℕ) → r ≡ checked-is.Accepted d → levelV w ≤ valueLevels
-    low-level d e =
-        let T = value-told s b d (sym c ∙ ap checked e) in
-        let z : T .tree ≡ w = encV-same (T .tree) w (T .accepted .well) (H .well) (sym (T .accepted .bytes) ∙ is-text) in
-        omega (arith, T .accepted .low, ap levelV z)
-
-    high-level : (d : ℕ) → r ≡ checked-is.Refused d → valueLevels < levelV w
-    high-level d e = above-not (levelV w) valueLevels done-not
-      where
-        done-not : levelV w ≤ valueLevels → ⊥
-        done-not l =
-            let a : readValue s ≡ done w = value-accepts s w (record { bytes = is-text; well = H .well; low = l; short = omega (arith, ap length is-text, fits-in) }) in
-            refused-done (sym (value-refused s r d e c) ∙ a)
-
-    pub finish-deep : (d : ℕ) → r ≡ checked-is.Refused d → (old : List ℕ) → Built (result (length old) w) old old (written-is.Refused 17)
-    finish-deep d e old = built-refused (result (length old) w) 17 old (result-deep (length old) w fits-in (high-level d e))
-
-    pub finish-done : (d : ℕ) → r ≡ checked-is.Accepted d → (old new : List ℕ) (a : Written) → Built (fits (length old) s) old new a → Built (result (length old) w) old new a
-    finish-done d e old new a B = subst (λ o. Built o old new a) (ap (fits (length old)) is-text ∙ result-small (length old) w fits-in (low-level d e)) B
-
--- ---- `build`
+-- ---- what was built, and what was read
 fill-front : (bs old : List ℕ) (n : ℕ) → n ≡ length bs → n ≤ length old → take n (fill bs old) ≡ bs
 unfolding fill onto
 fill-front bs old n e k =
@@ -145,166 +116,203 @@ copied-is c es room ec bc kc =
     let text = text-context valueLevels c es bc (ctx-of valueLevels c es ec) in
     ap (fits room) text ∙ result-small room (v-context es) (omega (arith, ap length text)) (context-low c es ec bc)
 
-none-of : (o : Option Entries) → map v-context o ≡ none → o ≡ none
-none-of none e = refl
-none-of (some es) e = absurd (none-some (sym e))
-
+-- ---- `place`
 module _ (strict : Bool) (c p v old : List ℕ) (es : Entries) (x : Val) (ec : contextAt valueLevels c ≡ some es) (ex : wholeAt valueLevels v ≡ some x) (bc : Bytes c)
     (bv : Bytes v) (kc : length c ≤ mostBytes) where
   abbrev C : Ctx valueLevels c es
   C = ctx-of valueLevels c es ec
 
-  pub build-copy : (new : List ℕ) (a : Written) → length p ≡ 0 → Built (fits (length old) c) old new a → Built (answered (length old) (updated strict p x es)) old new a
+  pub place-copy : (new : List ℕ) (a : Written) → length p ≡ 0 → Built (fits (length old) c) old new a → Built (answered (length old) (updated strict p x es)) old new a
   unfolding _>>=_ create apply
-  build-copy new a e B = go strict p e
+  place-copy new a e B = go strict p e
     where
       go : (t : Bool) (q : List ℕ) → length q ≡ 0 → Built (answered (length old) (updated t q x es)) old new a
       go true [] z = subst (λ o. Built o old new a) (copied-is c es (length old) ec bc kc) B
       go false [] z = subst (λ o. Built o old new a) (copied-is c es (length old) ec bc kc) B
       go t (n ∷ q) z = absurd (omega arith)
 
-  module _ (spare mid : List ℕ) (m : ℕ) (r : Made) (U : Updates strict (contextAt valueLevels c) p (wholeAt valueLevels v) spare mid m r) where
-    wrote : Wrote (map encV (map v-context (updated strict p x es))) spare mid m r
-    wrote = updates-is strict (contextAt valueLevels c) es p (wholeAt valueLevels v) x spare mid m r ec ex U
+  -- along the path
+  module _ (some-name : length p ≡ 0 → ⊥) (rest : ℕ) (k : Cut) (er : rest ≡ stays p (v-context es)) (ek : k ≡ cutOf p (v-context es)) where
+    named : p ≡ [] → ⊥
+    named e = some-name (ap length e)
 
-    pub build-not : r ≡ made-is.NotContext → Built (answered (length old) (updated strict p x es)) old old (written-is.Refused 16)
-    unfolding _>>=_
-    build-not e =
-        built-refused (answered (length old) (updated strict p x es)) 16 old
-        (ap (answered (length old)) (none-of (updated strict p x es) (wrote-not (map v-context (updated strict p x es)) spare mid m r wrote e .0)))
+    whole : WfV (v-context es)
+    whole = well-context valueLevels c es bc C
 
-    pub build-done : (n : ℕ) → r ≡ made-is.Bytes n → min m mostBytes ≤ length spare → Names p → (new : List ℕ) (a : Written)
-        → ((w : Val) → Holds mid n w → levelV w ≤ max valueLevels (length p + levelV x) → Built (result (length old) w) old new a) → Built (answered (length old) (updated strict p x es)) old new a
+    text-c : c ≡ encV (v-context es)
+    text-c = text-context valueLevels c es bc C
+
+    pub place-cuts : Cuts c p k
+    place-cuts =
+        subst (λ (s : List ℕ). Cuts s p k) (sym text-c)
+        (subst (λ j. Cuts (encV (v-context es)) p j) (sym ek) (cuts-is p es whole (omega (arith, ap length text-c)) named))
+
+    pub place-rest : rest ≤ mostBytes
+    place-rest = omega (arith, er, stays-level p (v-context es), context-low c es ec bc)
+
+    pub place-text : spliced c k p v ≡ encV (v-context (create p x es))
+    place-text =
+        ap (λ (s : List ℕ). spliced s k p v) text-c
+        ∙ ap (λ j. spliced (encV (v-context es)) j p v) ek
+        ∙ ap (λ (s : List ℕ). spliced (encV (v-context es)) (cutOf p (v-context es)) p s) (whole-text valueLevels v x bv ex)
+        ∙ spliced-is p x es whole named
+
+    apply-cut : apply p x es ≡ cond (ltb (k .names) (length p) && ltb 0 (k .gone)) none (some (create p x es))
+    apply-cut = blocked-is p x es named ∙ ap (λ j. cond (blocked p j) none (some (create p x es))) (sym ek)
+
+    pub place-err : (strict && (ltb (k .names) (length p) && ltb 0 (k .gone))) ≡ true → Built (answered (length old) (updated strict p x es)) old old (written-is.Refused 16)
     unfolding _>>=_
-    build-done n e k ns new a F = go (map-is v-context (updated strict p x es) (S .w) (S .is))
+    place-err e = built-refused (answered (length old) (updated strict p x es)) 16 old (ap (answered (length old)) (go strict e))
       where
-        S : Some (map v-context (updated strict p x es)) spare mid n
-        S = wrote-bytes (map v-context (updated strict p x es)) spare mid m n r wrote e
+        go : (t : Bool) → (t && (ltb (k .names) (length p) && ltb 0 (k .gone))) ≡ true → updated t p x es ≡ none
+        go true q = apply-cut ∙ ap (λ b. cond b none (some (create p x es))) q
+        go false q = absurd (let z : _≡_ {A = ℕ} 0 1 = ap (λ b. cond b 1 0) q in omega arith)
 
-        go : (fs : Entries) × (updated strict p x es ≡ some fs) × (S .w ≡ v-context fs) → Built (answered (length old) (updated strict p x es)) old new a
-        go (fs, u, q) =
-            let wx : WfV x = enc-readV valueLevels v bv x (length v) (whole-is valueLevels v x ex) .well in
-            let H : Holds mid n (v-context fs) =
-            record {
-              well = well-updated strict p x es fs ns wx (well-entries valueLevels c es bc C) (omega (arith, C .all)) u;
-              long = S .long ∙ ap (λ w. length (encV w)) q;
-              text = λ l. ap (take n) (S .out) ∙ fill-front (encV (S .w)) spare n (S .long) (omega (arith, k, wrote .short n e)) ∙ ap encV q;
-            } in
-            subst (λ o. Built (answered (length old) o) old new a) (sym u) (F (v-context fs) H (omega (arith, level-updated strict p x es fs u, context-low c es ec bc)))
+    module _ (e : (strict && (ltb (k .names) (length p) && ltb 0 (k .gone))) ≡ false) (d : ℕ) (ed : d ≡ levelV x) where
+      abbrev new-is : Val
+      new-is = v-context (create p x es)
 
--- the spare place holds what was built
-pub build-room : (strict : Bool) (c p v spare mid : List ℕ) (m : ℕ) (r : Made) (n : ℕ) → Ok (contextAt valueLevels c) → Ok (wholeAt valueLevels v)
-    → Updates strict (contextAt valueLevels c) p (wholeAt valueLevels v) spare mid m r → r ≡ made-is.Bytes n → min m mostBytes ≤ length spare → n ≤ mostBytes → n ≤ length mid
-build-room strict c p v spare mid m r n oc ov U e k l =
+      updated-is : updated strict p x es ≡ some (create p x es)
+      updated-is = go strict e
+        where
+          go : (t : Bool) → (t && (ltb (k .names) (length p) && ltb 0 (k .gone))) ≡ false → updated t p x es ≡ some (create p x es)
+          go true q = apply-cut ∙ ap (λ b. cond b none (some (create p x es))) q
+          go false q = refl
+
+      given : (new : List ℕ) (a : Written) → Built (result (length old) new-is) old new a → Built (answered (length old) (updated strict p x es)) old new a
+      unfolding _>>=_
+      given new a B = subst (λ o. Built (answered (length old) o) old new a) (sym updated-is) B
+
+      -- the size and the level that are told are those of the value that is built
+      module _ (m l : ℕ) (em : m ≡ length (spliced c k p v)) (el : l ≡ max rest (length p + d)) where
+        size-is : length (encV new-is) ≡ m
+        size-is = sym (em ∙ ap length place-text)
+
+        level-is : levelV new-is ≡ l
+        level-is = created-level p x es whole named ∙ ap₂ max (sym er) (ap (λ (z : ℕ). length p + z) (sym ed)) ∙ sym el
+
+        pub place-long : mostBytes < m → Built (answered (length old) (updated strict p x es)) old old (written-is.Refused 17)
+        place-long h = given old (written-is.Refused 17) (built-refused (result (length old) new-is) 17 old (result-long (length old) new-is (omega (arith, size-is))))
+
+        module _ (s : m ≤ mostBytes) where
+          pub place-deep : valueLevels < l → Built (answered (length old) (updated strict p x es)) old old (written-is.Refused 17)
+          place-deep h =
+              given old (written-is.Refused 17) (built-refused (result (length old) new-is) 17 old (result-deep (length old) new-is (omega (arith, size-is)) (omega (arith, level-is))))
+
+          module _ (t : l ≤ valueLevels) where
+            fits-is : fits (length old) (encV new-is) ≡ result (length old) new-is
+            fits-is = result-small (length old) new-is (omega (arith, size-is)) (omega (arith, level-is))
+
+            pub place-short : length old < m → Built (answered (length old) (updated strict p x es)) old old (written-is.Refused 18)
+            place-short h =
+                given old (written-is.Refused 18) (subst (λ o. Built o old old (written-is.Refused 18)) fits-is
+                (built-short (fits (length old) (encV new-is)) (encV new-is) old refl (omega (arith, size-is))))
+
+            pub place-done : m ≤ length old → (n : ℕ) (new : List ℕ) → n ≡ length (spliced c k p v) → new ≡ fill (spliced c k p v) old
+                → Built (answered (length old) (updated strict p x es)) old new (written-is.Bytes n)
+            unfolding fill
+            place-done h n new en eo =
+                let z : length (encV new-is) ≤ length old = omega (arith, size-is) in
+                given new (written-is.Bytes n) (subst (λ o. Built o old new (written-is.Bytes n)) fits-is
+                (built-wrote (fits (length old) (encV new-is)) (encV new-is) old new n refl (en ∙ ap length place-text) z
+                (eo ∙ ap (λ (b : List ℕ). fill b old) place-text ∙ ap (λ (b : List ℕ). onto b old) (take-all (length old) (encV new-is) z))))
+
+-- what the walk told of the context
+pub along : (c p : List ℕ) (rest : ℕ) (k : Cut) (es : Entries) → contextAt valueLevels c ≡ some es → Surveyed p (wholeAt valueLevels c) rest k
+    → (rest ≡ stays p (v-context es)) × (k ≡ cutOf p (v-context es))
+unfolding contextAt
+along c p rest k es e S = go (given-is (wholeAt valueLevels c) entriesOf es e)
+  where
+    go : (v : Val) × (wholeAt valueLevels c ≡ some v) × (entriesOf v ≡ some es) → (rest ≡ stays p (v-context es)) × (k ≡ cutOf p (v-context es))
+    go (v, q, f) = surveyed-is p (wholeAt valueLevels c) rest k (v-context es) (q ∙ ap some (of-context v es f)) S
+
+-- what `measure` and `splice` ask
+pub place-asks : (c p v : List ℕ) (rest d : ℕ) (k : Cut) → Ok (contextAt valueLevels c) → Ok (wholeAt valueLevels v) → Small c p v → Surveyed p (wholeAt valueLevels c) rest k
+    → ((x : Val) → wholeAt valueLevels v ≡ some x → d ≡ levelV x) → Bytes c → Bytes v → (length p ≡ 0 → ⊥) → Cuts c p k × ((rest ≤ mostBytes) × (d ≤ mostBytes))
+place-asks c p v rest d k oc ov S T f bc bv z =
     let A = ok-got (contextAt valueLevels c) oc in
     let B = ok-got (wholeAt valueLevels v) ov in
-    let W = updates-is strict (contextAt valueLevels c) (A .0) p (wholeAt valueLevels v) (B .0) spare mid m r (A .1) (B .1) U in
-    let S = wrote-bytes (map v-context (updated strict p (B .0) (A .0))) spare mid m n r W e in
-    omega (arith, W .short n e, ap length (S .out), length-fill (encV (S .w)) spare)
+    let W = along c p rest k (A .0) (A .1) T in
+    let low = enc-readV valueLevels v bv (B .0) (length v) (whole-is valueLevels v (B .0) (B .1)) .low in (
+      place-cuts false c p v [] (A .0) (B .0) (A .1) (B .1) bc bv (S .bytes-c) z rest k (W .0) (W .1),
+      (place-rest false c p v [] (A .0) (B .0) (A .1) (B .1) bc bv (S .bytes-c) z rest k (W .0) (W .1), omega (arith, f (B .0) (B .1), low)),
+    )
 
--- ---- the arguments of create_entries and apply_entries
-pub record Ready (c : List ℕ) (k : ℕ) (v : List ℕ) (d : ℕ) : Type 0 where
-  pub given : Given
-  pub is : givenOf c k v ≡ done given
-  pub read-c : readValue c ≡ done (v-context (given .entries))
-  pub read-v : readValue v ≡ done (given .value)
-  pub names : k ≤ mostNames
-  pub deep : levelV (given .value) ≡ d
-
-pub ready : (c : List ℕ) (k : ℕ) (v : List ℕ) (r : Checked) (d : ℕ) → checked r ≡ levelOf (givenOf c k v) → r ≡ checked-is.Accepted d → Ready c k v d
-unfolding givenOf _>>=_ _>>_
-ready c k v r d e z = go (readValue c) refl (leb k mostNames) refl (readValue v) refl (sym e ∙ ap checked z)
-  where
-    last : (self x : Val) → readValue c ≡ done self → leb k mostNames ≡ true → readValue v ≡ done x → (o : Option Entries) → entriesOf self ≡ o
-        → levelOf (do es ← orRefuse 12 o; done (record { entries = es; value = x })) ≡ done d → Ready c k v d
-    last self x rc l rv none q h = absurd (refused-done h)
-    last self x rc l rv (some es) q h =
-        record {
-          given = record { entries = es; value = x };
-          is = rw (rc, l, rv, q);
-          read-c = rc ∙ ap done (of-context self es q);
-          read-v = rv;
-          names = leb-true k mostNames l;
-          deep = (cc);
-        }
-
-    go : (a : Outcome Val) → readValue c ≡ a → (b : Bool) → leb k mostNames ≡ b → (x : Outcome Val) → readValue v ≡ x
-        → levelOf (do self ← a; check 11 b; y ← x; es ← orRefuse 12 (entriesOf self); done (record { entries = es; value = y })) ≡ done d → Ready c k v d
-    go (refused m) rc b l x rv h = absurd (refused-done h)
-    go (done self) rc false l x rv h = absurd (refused-done h)
-    go (done self) rc true l (refused m) rv h = absurd (refused-done h)
-    go (done self) rc true l (done y) rv h = last self y rc l rv (entriesOf self) refl h
-
-pub given-refused : (c : List ℕ) (k : ℕ) (v : List ℕ) (r : Checked) (n : ℕ) → checked r ≡ levelOf (givenOf c k v) → r ≡ checked-is.Refused n → givenOf c k v ≡ refused n
-given-refused c k v r n e z = level-refused (λ g. levelV (g .value)) (givenOf c k v) n (sym e ∙ ap checked z)
-
--- an accepted value and its level
+-- ---- an accepted value and its level
 pub told : (s : List ℕ) → Bytes s → (r : Checked) (d : ℕ) → r ≡ checked-is.Accepted d → checked r ≡ checkValue s → ValueTold s d
 told s b r d e c = value-told s b d (sym c ∙ ap checked e)
 
-module _ (c : List ℕ) (k : ℕ) (v : List ℕ) where
-  pub given-value : (n : ℕ) → readValue c ≡ refused n → refused n ≡ levelOf (givenOf c k v)
-  unfolding givenOf _>>=_
-  given-value n e = rw e
-
-  module _ (A : held.Holds c) where
-    pub given-names : mostNames < k → refused 11 ≡ levelOf (givenOf c k v)
-    unfolding givenOf _>>=_ _>>_
-    given-names h = rw (A .whole, lt-leb k mostNames h)
-
-    module _ (h : k ≤ mostNames) where
-      pub given-second : (n : ℕ) → readValue v ≡ refused n → refused n ≡ levelOf (givenOf c k v)
-      unfolding givenOf _>>=_ _>>_
-      given-second n e = rw (A .whole, le-leb k mostNames h, e)
-
-      module _ (d : ℕ) (B : ValueTold v d) where
-        pub given-other : (getD c 0 0 ≡ 11 → ⊥) → refused 12 ≡ levelOf (givenOf c k v)
-        unfolding givenOf _>>=_ _>>_
-        given-other f = rw (A .whole, le-leb k mostNames h, B .reads, whole-other valueLevels c (A .v) (read-whole c (A .v) (A .whole)) f)
-
-        pub given-level : getD c 0 0 ≡ 11 → done d ≡ levelOf (givenOf c k v)
-        unfolding givenOf _>>=_ _>>_
-        given-level e = let K = whole-context valueLevels c (A .v) (read-whole c (A .v) (A .whole)) e in rw (A .whole, le-leb k mostNames h, B .reads, K .is) (ap done (sym (B .deep)))
-
--- ---- create_entries and apply_entries
-module _ {c : List ℕ} {k : ℕ} {v : List ℕ} {d : ℕ} (R : Ready c k v d) (bc : Bytes c) (bv : Bytes v) where
-  pub ready-context : contextAt valueLevels c ≡ some (R .given .entries)
-  ready-context = at-context valueLevels c (v-context (R .given .entries)) (R .given .entries) (read-whole c (v-context (R .given .entries)) (R .read-c)) refl
-
-  pub ready-value : wholeAt valueLevels v ≡ some (R .given .value)
-  ready-value = read-whole v (R .given .value) (R .read-v)
-
-  pub ready-level : (x : Val) → wholeAt valueLevels v ≡ some x → levelV x ≤ d
-  ready-level x e = omega (arith, R .deep, ap levelV (some-same (sym ready-value ∙ e)))
-
-  pub ready-small : (p : List ℕ) → k ≡ length p → Small c p v
-  ready-small p e =
-      record {
-        bytes-c = value-accepted c bc (v-context (R .given .entries)) (R .read-c) .short;
-        names = omega (arith, R .names);
-        bytes-v = value-accepted v bv (R .given .value) (R .read-v) .short;
-      }
-
-create-is : (c p v : List ℕ) (room : ℕ) (g : Given) → givenOf c (length p) v ≡ done g → answered room (updated false p (g .value) (g .entries)) ≡ createEntriesCall c p v room
-unfolding _>>=_
-create-is c p v room g e = rw e
-
-apply-is : (c p v : List ℕ) (room : ℕ) (g : Given) → givenOf c (length p) v ≡ done g → answered room (updated true p (g .value) (g .entries)) ≡ applyEntriesCall c p v room
-unfolding _>>=_
-apply-is c p v room g e = rw e
-
-module _ (c p v old new : List ℕ) (d : ℕ) (a : Written) where
-  pub create-done : (R : Ready c (length p) v d) → Built (answered (length old) (updated false p (R .given .value) (R .given .entries))) old new a
-      → Built (createEntriesCall c p v (length old)) old new a
-  create-done R B = subst (λ o. Built o old new a) (create-is c p v (length old) (R .given) (R .is)) B
-
-  pub apply-done : (R : Ready c (length p) v d) → Built (answered (length old) (updated true p (R .given .value) (R .given .entries))) old new a → Built (applyEntriesCall c p v (length old)) old new a
-  apply-done R B = subst (λ o. Built o old new a) (apply-is c p v (length old) (R .given) (R .is)) B
+-- it has a byte
+pub told-byte : {c : List ℕ} {d : ℕ} → ValueTold c d → 0 < length c
+told-byte {c} A = held-byte c 0 (A .reads)
 
 -- a call whose arguments are refused
 pub call-refused : {X : Type 0} (o : Outcome X) (f : X → Outcome (List ℕ)) (n : ℕ) (old : List ℕ) → o ≡ refused n → Built (do x ← o; f x) old old (written-is.Refused n)
 unfolding _>>=_
 call-refused o f n old e = built-refused (do x ← o; f x) n old (ap (λ z. do x ← z; f x) e)
+
+-- ---- `update`: the arguments of create_entries and apply_entries
+given-done : (c v : List ℕ) (k : ℕ) (self x : Val) (es : Entries) → readValue c ≡ done self → leb k mostNames ≡ true → readValue v ≡ done x → entriesOf self ≡ some es
+    → givenOf c k v ≡ done (record { entries = es; value = x })
+unfolding givenOf _>>=_ _>>_
+given-done c v k self x es e l f q = rw (e, l, f, q)
+
+module _ (strict : Bool) (c p v old : List ℕ) where
+  update-refused : (n : ℕ) → givenOf c (length p) v ≡ refused n → Built (updateCall strict c p v (length old)) old old (written-is.Refused n)
+  update-refused n e = go strict
+    where
+      go : (t : Bool) → Built (updateCall t c p v (length old)) old old (written-is.Refused n)
+      go true = call-refused (givenOf c (length p) v) (λ g. do new ← orRefuse 16 (apply p (g .value) (g .entries)); result (length old) (v-context new)) n old e
+      go false = call-refused (givenOf c (length p) v) (λ g. result (length old) (v-context (create p (g .value) (g .entries)))) n old e
+
+  pub update-first : (n : ℕ) → readValue c ≡ refused n → Built (updateCall strict c p v (length old)) old old (written-is.Refused n)
+  unfolding givenOf _>>=_
+  update-first n e = update-refused n (rw e)
+
+  module _ {e : ℕ} (A : ValueTold c e) where
+    pub update-names : mostNames < length p → Built (updateCall strict c p v (length old)) old old (written-is.Refused 11)
+    unfolding givenOf _>>=_ _>>_
+    update-names h = update-refused 11 (rw (A .reads, lt-leb (length p) mostNames h))
+
+    module _ (h : length p ≤ mostNames) where
+      pub update-second : (n : ℕ) → readValue v ≡ refused n → Built (updateCall strict c p v (length old)) old old (written-is.Refused n)
+      unfolding givenOf _>>=_ _>>_
+      update-second n q = update-refused n (rw (A .reads, le-leb (length p) mostNames h, q))
+
+      module _ {d : ℕ} (B : ValueTold v d) where
+        pub update-other : (getD c 0 0 ≡ 11 → ⊥) → Built (updateCall strict c p v (length old)) old old (written-is.Refused 12)
+        unfolding givenOf _>>=_ _>>_
+        update-other f =
+            update-refused 12 (rw (A .reads, le-leb (length p) mostNames h, B .reads, whole-other valueLevels c (A .tree) (read-whole c (A .tree) (A .reads)) f))
+
+        pub update-small : Small c p v
+        update-small = record { bytes-c = A .accepted .short; names = h; bytes-v = B .accepted .short }
+
+        pub update-value : Ok (wholeAt valueLevels v)
+        update-value = is-ok (wholeAt valueLevels v) (B .tree) (read-whole v (B .tree) (B .reads))
+
+        pub update-level : (x : Val) → wholeAt valueLevels v ≡ some x → d ≡ levelV x
+        update-level x q = sym (B .deep) ∙ ap levelV (some-same (sym (read-whole v (B .tree) (B .reads)) ∙ q))
+
+        module _ (f : getD c 0 0 ≡ 11) where
+          abbrev G : WholeContext valueLevels c (A .tree)
+          G = whole-context valueLevels c (A .tree) (read-whole c (A .tree) (A .reads)) f
+
+          pub update-context : Ok (contextAt valueLevels c)
+          update-context = is-ok (contextAt valueLevels c) (G .es) (G .read)
+
+          both-given : givenOf c (length p) v ≡ done (record { entries = G .es; value = B .tree })
+          both-given = given-done c v (length p) (A .tree) (B .tree) (G .es) (A .reads) (le-leb (length p) mostNames h) (B .reads) (ap entriesOf (G .is))
+
+          pub update-done : (new : List ℕ) (a : Written)
+              → ((es : Entries) (x : Val) → contextAt valueLevels c ≡ some es → wholeAt valueLevels v ≡ some x → Built (answered (length old) (updated strict p x es)) old new a)
+              → Built (updateCall strict c p v (length old)) old new a
+          unfolding _>>=_
+          update-done new a F = subst (λ o. Built o old new a) (go strict) (F (G .es) (B .tree) (G .read) (read-whole v (B .tree) (B .reads)))
+            where
+              go : (t : Bool) → answered (length old) (updated t p (B .tree) (G .es)) ≡ updateCall t c p v (length old)
+              go true = rw both-given
+              go false = rw both-given
 
 -- ---- set_entry is create_entries with one name, set_null inserts a null
 pub set-is : (c : List ℕ) (n : ℕ) (v : List ℕ) (room : ℕ) → createEntriesCall c (n ∷ []) v room ≡ setEntryCall c n v room
@@ -376,10 +384,10 @@ two-done : (c o : List ℕ) (v w : Val) (es gs : Entries) → readValue c ≡ do
 unfolding twoOf _>>=_
 two-done c o v w es gs e f g h = rw (e, f, g, h)
 
-merges-is : (all : Bool) (x y : Option Entries) (es gs : Entries) (old new : List ℕ) (n : ℕ) → x ≡ some es → y ≡ some gs → Merges all x y old new n
-    → (n ≡ length (encV (v-context (merged all es gs)))) × (new ≡ fill (encV (v-context (merged all es gs))) old)
+merges-is : (all : Bool) (x y : Option Entries) (es gs : Entries) (old new : List ℕ) (n d : ℕ) → x ≡ some es → y ≡ some gs → Merges all x y old new n d
+    → Joined (merged all es gs) old new n d
 unfolding Merges
-merges-is all x y es gs old new n e f M = rw (e, f) at M
+merges-is all x y es gs old new n d e f M = rw (e, f) at M
 
 module _ (all : Bool) (c o old : List ℕ) where
   pub join-first : (n : ℕ) → readValue c ≡ refused n → Built (joinedCall all c o (length old)) old old (written-is.Refused n)
@@ -431,41 +439,94 @@ module _ (all : Bool) (c o old : List ℕ) where
                 (F (K .es) (L .es) (K .read) (L .read))
 
 -- `join_in`
-module _ (all : Bool) (c o : List ℕ) (es gs : Entries) (ec : contextAt valueLevels c ≡ some es) (eo : contextAt valueLevels o ≡ some gs) (spare mid : List ℕ) (n : ℕ)
-    (M : Merges all (contextAt valueLevels c) (contextAt valueLevels o) spare mid n) (k : min (length c + length o) mostBytes ≤ length spare) where
+module _ (all : Bool) (c o : List ℕ) (es gs : Entries) (ec : contextAt valueLevels c ≡ some es) (eo : contextAt valueLevels o ≡ some gs) (spare mid : List ℕ) (n d : ℕ)
+    (M : Merges all (contextAt valueLevels c) (contextAt valueLevels o) spare mid n d) (k : min (length c + length o) mostBytes ≤ length spare) where
   abbrev both : Val
   both = v-context (merged all es gs)
 
-  wrote-both : (n ≡ length (encV both)) × (mid ≡ fill (encV both) spare)
-  wrote-both = merges-is all (contextAt valueLevels c) (contextAt valueLevels o) es gs spare mid n ec eo M
+  J : Joined (merged all es gs) spare mid n d
+  J = merges-is all (contextAt valueLevels c) (contextAt valueLevels o) es gs spare mid n d ec eo M
 
   merge-short : n ≤ length c + length o
-  merge-short = omega (arith, wrote-both .0, length-encV both, size-context (merged all es gs), size-merged all es gs, ctx-of valueLevels c es ec .all, ctx-of valueLevels o gs eo .all)
+  merge-short = omega (arith, J .long, length-encV both, size-context (merged all es gs), size-merged all es gs, ctx-of valueLevels c es ec .all, ctx-of valueLevels o gs eo .all)
 
   merge-inside : n ≤ mostBytes → n ≤ length mid
-  merge-inside l = omega (arith, merge-short, k, ap length (wrote-both .1), length-fill (encV both) spare)
+  merge-inside l = omega (arith, merge-short, k, ap length (J .out), length-fill (encV both) spare)
 
-  pub merge-done : Bytes c → Bytes o → length c ≤ mostBytes → length o ≤ mostBytes → (old new : List ℕ) (a : Written)
-      → ((w : Val) → Holds mid n w → levelV w ≤ valueLevels → Built (result (length old) w) old new a) → Built (result (length old) both) old new a
-  merge-done bc bo kc ko old new a F =
-      let C = ctx-of valueLevels c es ec in
-      let D = ctx-of valueLevels o gs eo in
-      let H : Holds mid n both =
+  pub merge-holds : Holds mid n d both
+  merge-holds =
       record {
-        well = well-joined all es gs (well-entries valueLevels c es bc C) (well-entries valueLevels o gs bo D) (omega (arith, C .all)) (omega (arith, D .all));
-        long = wrote-both .0;
-        text = λ l. ap (take n) (wrote-both .1) ∙ fill-front (encV both) spare n (wrote-both .0) (omega (arith, merge-short, k));
-      } in
-      F both H (omega (arith, level-merged all es gs, context-low c es ec bc, context-low o gs eo bo))
+        long = J .long;
+        text = λ l. ap (take n) (J .out) ∙ fill-front (encV both) spare n (J .long) (omega (arith, merge-short, k));
+        deep = J .deep;
+      }
 
-pub merge-room : (all : Bool) (c o spare mid : List ℕ) (n : ℕ) → Ok (contextAt valueLevels c) → Ok (contextAt valueLevels o)
-    → Merges all (contextAt valueLevels c) (contextAt valueLevels o) spare mid n → min (length c + length o) mostBytes ≤ length spare → n ≤ mostBytes → n ≤ length mid
-merge-room all c o spare mid n oc oo M k =
+pub merge-room : (all : Bool) (c o spare mid : List ℕ) (n d : ℕ) → Ok (contextAt valueLevels c) → Ok (contextAt valueLevels o)
+    → Merges all (contextAt valueLevels c) (contextAt valueLevels o) spare mid n d → min (length c + length o) mostBytes ≤ length spare → n ≤ mostBytes → n ≤ length mid
+merge-room all c o spare mid n d oc oo M k =
     let A = ok-got (contextAt valueLevels c) oc in
     let B = ok-got (contextAt valueLevels o) oo in
-    merge-inside all c o (A .0) (B .0) (A .1) (B .1) spare mid n M k
+    merge-inside all c o (A .0) (B .0) (A .1) (B .1) spare mid n d M k
 
 -- ---- remove_entry and move_entry
+-- `find`: its refusals
+module _ (c : List ℕ) {d : ℕ} (A : ValueTold c d) where
+  pub find-other : (getD c 0 0 ≡ 11 → ⊥) → 12 ≡ lentCode (contextOf c 0)
+  find-other f = refused-other c 0 (A .reads) (omega arith) f
+
+  pub find-context : getD c 0 0 ≡ 11 → 0 ≡ lentCode (contextOf c 0)
+  find-context f = refused-not c 0 (A .reads) (omega arith) f
+
+-- and the entry of the name
+pub taken : (c : List ℕ) (n rest : ℕ) (k : Cut) → Surveyed (n ∷ []) (wholeAt valueLevels c) rest k → Taken n (contextAt valueLevels c) k
+unfolding Surveyed Taken contextAt
+taken c n rest k S = go (wholeAt valueLevels c) S
+  where
+    inside : (v : Val) → k ≡ cutOf (n ∷ []) v → (o : Option Entries) → entriesOf v ≡ o → WhereRead (Unit {0}) (λ es. k ≡ cutOf (n ∷ []) (v-context es)) o
+    inside v e none q = tt
+    inside v e (some es) q = e ∙ ap (cutOf (n ∷ [])) (of-context v es q)
+
+    go : (o : Option Val) → WhereRead (Unit {0}) (λ v. (rest ≡ stays (n ∷ []) v) × (k ≡ cutOf (n ∷ []) v)) o → WhereRead (Unit {0}) (λ es. k ≡ cutOf (n ∷ []) (v-context es)) (bind o entriesOf)
+    go none h = tt
+    go (some v) h = inside v (h .1) (entriesOf v) refl
+
+cut-none : (n : ℕ) (es : Entries) → valueOf n es ≡ none → cutOf (n ∷ []) (v-context es) ≡ cutHere (entryPlace n es) 0 0
+unfolding cutOf
+cut-none n es e = ap (cutAt (entryPlace n es) (cutOf [])) e
+
+cut-some : (n : ℕ) (x : Val) (es : Entries) → valueOf n es ≡ some x → cutOf (n ∷ []) (v-context es) ≡ cutHere (entryPlace n es) (nameWidth + sizeVal x) (levelV x)
+unfolding cutOf within
+cut-some n x es e = ap (cutAt (entryPlace n es) (cutOf [])) e
+
+-- a name that is there, and the level of its value
+pub record Takes (c : List ℕ) (n : ℕ) (k : Cut) : Type 0 where
+  pub hit : Hit valueLevels c n (k .at) (k .at + k .gone)
+  pub old : k .old ≡ levelV (hit .x)
+
+module _ (c : List ℕ) (n : ℕ) (k : Cut) (O : Opened c 0) (T : Taken n (contextAt valueLevels c) k) where
+  cut-read : k ≡ cutOf (n ∷ []) (v-context (O .es))
+  unfolding Taken
+  cut-read = rw (O .ctx .read) at T
+
+  pub taken-none : k .gone ≡ 0 → Miss valueLevels c n (k .at)
+  taken-none z = go (valueOf n (O .es)) refl
+    where
+      go : (o : Option Val) → valueOf n (O .es) ≡ o → Miss valueLevels c n (k .at)
+      go none e = record { es = O .es; ctx = O .ctx; value = e; start = ap (λ j. j .at) (cut-read ∙ cut-none n (O .es) e) }
+      go (some x) e = absurd (omega (arith, z, ap (λ j. j .gone) (cut-read ∙ cut-some n x (O .es) e)))
+
+  pub taken-some : (k .gone ≡ 0 → ⊥) → Takes c n k
+  taken-some z = go (valueOf n (O .es)) refl
+    where
+      go : (o : Option Val) → valueOf n (O .es) ≡ o → Takes c n k
+      go none e = absurd (z (ap (λ j. j .gone) (cut-read ∙ cut-none n (O .es) e)))
+      go (some x) e =
+          let q = cut-read ∙ cut-some n x (O .es) e in
+          record {
+            hit = record { es = O .es; ctx = O .ctx; x = x; value = e; start = ap (λ j. j .at) q; end = omega (arith, ap (λ j. j .gone) q) };
+            old = ap (λ j. j .old) q;
+          }
+
 closed-remove : (l n : ℕ) (c : List ℕ) (es : Entries) (at to count : ℕ) → Bytes c → Ctx l c es → Around n c es at to → count ≡ countEntries (remove n es)
     → closed count c at to ≡ encV (v-context (remove n es))
 unfolding closed begun
@@ -570,9 +631,8 @@ module _ (c old : List ℕ) (n : ℕ) (O : Opened c 0) (bc : Bytes c) where
     pub part-ok : Ok (wholeAt valueLevels (valueIn c at to))
     part-ok = is-ok (wholeAt valueLevels (valueIn c at to)) (H .x) part-read
 
-    pub part-level : (d : ℕ) → levelV (v-context (O .es)) ≡ d → (x : Val) → wholeAt valueLevels (valueIn c at to) ≡ some x → levelV x ≤ d - 1
-    unfolding levelV
-    part-level d e x ex = omega (arith, e, ap levelEntries same-es, ap levelV (some-same (sym part-read ∙ ex)), value-level n (H .x) (H .es) (H .value))
+    pub part-level : (d : ℕ) → d ≡ levelV (H .x) → (x : Val) → wholeAt valueLevels (valueIn c at to) ≡ some x → d ≡ levelV x
+    part-level d e x ex = e ∙ ap levelV (some-same (sym part-read ∙ ex))
 
     pub move-done : (parent : ℕ) (new : List ℕ) (a : Written)
         → ((es : Entries) (x : Val) → contextAt valueLevels (closed count c at to) ≡ some es → wholeAt valueLevels (valueIn c at to) ≡ some x
@@ -608,52 +668,19 @@ module _ (count : ℕ) (c : List ℕ) (at to : ℕ) (l : 3 ≤ at) (h : at + nam
         bytes-v = omega (arith, S .bytes-c, length-take (to - (at + nameWidth)) (drop (at + nameWidth) c), length-drop (at + nameWidth) c);
       }
 
--- `check_context`
-pub record Deep (c : List ℕ) (d : ℕ) : Type 0 where
-  pub opened : Opened c 0
-  pub level : levelV (v-context (opened .es)) ≡ d
-
-pub deep : (c : List ℕ) (r : Checked) (d : ℕ) → checked r ≡ depthOf (contextOf c 0) → r ≡ checked-is.Accepted d → Deep c d
-deep c r d e z = level-told (λ es. levelV (v-context es)) (contextOf c 0) d (sym e ∙ ap checked z) by
-  where
-    by : (es : Entries) → contextOf c 0 ≡ done es → levelV (v-context es) ≡ d → Deep c d
-    by es q y =
-        let O = opened c 0 0 (sym (ap lentCode q)) refl in
-        let f : done (O .es) ≡ done es = sym (O .is) ∙ q in
-        let g : O .es ≡ es = cc in
-        record { opened = O; level = ap (λ x. levelV (v-context x)) g ∙ y }
-
-pub deep-some : {c : List ℕ} {d : ℕ} → Deep c d → 1 ≤ d
-unfolding levelV
-deep-some D = omega (arith, D .level)
-
-pub deep-refused : (c : List ℕ) (r : Checked) (n : ℕ) → checked r ≡ depthOf (contextOf c 0) → r ≡ checked-is.Refused n → contextOf c 0 ≡ refused n
-deep-refused c r n e z = level-refused (λ es. levelV (v-context es)) (contextOf c 0) n (sym e ∙ ap checked z)
-
-module _ (c : List ℕ) where
-  pub open-value : (n : ℕ) → readValue c ≡ refused n → refused n ≡ depthOf (contextOf c 0)
-  unfolding contextOf _>>=_
-  open-value n e = rw e
-
-  module _ (d : ℕ) (B : ValueTold c d) where
-    pub open-byte : 0 < length c
-    open-byte = omega (arith, encV-some (B .tree), ap length (B .accepted .bytes))
-
-    pub open-other : (getD c 0 0 ≡ 11 → ⊥) → refused 12 ≡ depthOf (contextOf c 0)
-    unfolding contextOf _>>=_ _>>_
-    open-other f = rw (B .reads, whole-other valueLevels c (B .tree) (read-whole c (B .tree) (B .reads)) f)
-
-    pub open-level : getD c 0 0 ≡ 11 → done d ≡ depthOf (contextOf c 0)
-    unfolding contextOf _>>=_ _>>_
-    open-level e = let K = whole-context valueLevels c (B .tree) (read-whole c (B .tree) (B .reads)) e in rw (B .reads, K .is) (ap done (sym (ap levelV (sym (K .is)) ∙ B .deep)))
-
 -- a name that is there is one of the entries
 pub some-entry : {l : ℕ} {c : List ℕ} {n at to : ℕ} (H : Hit l c n at to) → Bytes c → 1 ≤ numAt 2 1 c
 some-entry {l} {c} {n} H b = omega (arith, count-context l c (H .es) b (H .ctx), count-less n 0 (H .es) (well-entries l c (H .es) b (H .ctx)) (H .x) (H .value))
 
--- the name as the walk takes it
-pub hit-as : {l : ℕ} {c : List ℕ} {m n at to : ℕ} → m ≡ n → Hit l c m at to → Hit l c n at to
-hit-as {l} {c} {m} {n} {at} {to} e H = subst (λ (z : ℕ). Hit l c z at to) e H
+-- ---- `is_err`
+pub not-strict : (strict : Bool) (n names gone : ℕ) → not strict ≡ true → false ≡ (strict && (ltb n names && ltb 0 gone))
+not-strict true n names gone e = absurd (let z : _≡_ {A = ℕ} 0 1 = ap (λ b. cond b 1 0) e in omega arith)
+not-strict false n names gone e = refl
 
-pub miss-as : {l : ℕ} {c : List ℕ} {m n at : ℕ} → m ≡ n → Miss l c m at → Miss l c n at
-miss-as {l} {c} {m} {n} {at} e M = subst (λ (z : ℕ). Miss l c z at) e M
+pub no-name-left : (strict : Bool) (n names gone : ℕ) → names ≤ n → false ≡ (strict && (ltb n names && ltb 0 gone))
+no-name-left true n names gone h = sym (ap (λ q. q && ltb 0 gone) (le-ltb n names h))
+no-name-left false n names gone h = refl
+
+pub one-name-left : (strict : Bool) (n names gone : ℕ) → not strict ≡ false → n < names → ltb 0 gone ≡ (strict && (ltb n names && ltb 0 gone))
+one-name-left true n names gone e h = sym (ap (λ q. q && ltb 0 gone) (lt-ltb n names h))
+one-name-left false n names gone e h = absurd (let z : _≡_ {A = ℕ} 1 0 = ap (λ b. cond b 1 0) e in omega arith)

@@ -55,6 +55,11 @@ applyEntriesCall c p v room = do
   new ← orRefuse 16 (apply p (g .value) (g .entries))
   result room (v-context new)
 
+-- one of the two, told apart by whether a value on the way that is no context is Err
+abbrev pub updateCall : Bool → List ℕ → List ℕ → List ℕ → ℕ → Outcome (List ℕ)
+updateCall true c p v room = applyEntriesCall c p v room
+updateCall false c p v room = createEntriesCall c p v room
+
 -- FeelContext::set_entry
 abbrev pub setEntryCall : List ℕ → ℕ → List ℕ → ℕ → Outcome (List ℕ)
 setEntryCall c n v room = do

@@ -7,30 +7,21 @@ ghost use Rattle.context.specs.Calls.{createEntriesCall, applyEntriesCal
 
 mod builder;
 
-use form::Checked;
 use form::Written;
 use form::limits::MOST_BYTES;
-use form::limits::VALUE_LEVELS;
-use paths::walk::Place;
 
 // `FeelContext::create_entries`. Refusals 1 to 5 of the context, 11, 1 to 5 of the value, 12, 17, 18.
 pub fn create_entries(c: &[u8], path: &[u16], v: &[u8], out: &mut [u8]) -> Written
     ensures { λ r. ⌜ Built (createEntriesCall (now (c .entry)) (now (path .entry)) (now (v .entry)) (length (now (out .entry)))) (now (out .entry)) (now (out .exit)) r ⌝ }
 {
-    match builder::check_arguments(c, path.len(), v) {
-        Checked::Refused(n) => Written::Refused(n),
-        Checked::Accepted { level } => builder::build(c, path, v, level, false, out),
-    }
+    builder::update(c, path, v, false, out)
 }
 
 // `FeelContext::apply_entries`. Refusals 1 to 5 of the context, 11, 1 to 5 of the value, 12, 16, 17, 18.
 pub fn apply_entries(c: &[u8], path: &[u16], v: &[u8], out: &mut [u8]) -> Written
     ensures { λ r. ⌜ Built (applyEntriesCall (now (c .entry)) (now (path .entry)) (now (v .entry)) (length (now (out .entry)))) (now (out .entry)) (now (out .exit)) r ⌝ }
 {
-    match builder::check_arguments(c, path.len(), v) {
-        Checked::Refused(n) => Written::Refused(n),
-        Checked::Accepted { level } => builder::build(c, path, v, level, true, out),
-    }
+    builder::update(c, path, v, true, out)
 }
 
 // `FeelContext::set_entry`. Refusals 1 to 5 of the context, 1 to 5 of the value, 12, 17, 18.
@@ -67,44 +58,36 @@ pub fn overwrite(c: &[u8], other: &[u8], out: &mut [u8]) -> Written
 pub fn remove_entry(c: &[u8], name: u16, out: &mut [u8]) -> Written
     ensures { λ r. ⌜ Built (removeEntryCall (now (c .entry)) name (length (now (out .entry)))) (now (out .entry)) (now (out .exit)) r ⌝ }
 {
-    let n = paths::walk::refusal(c, 0);
-    if n != 0 {
-        return Written::Refused(n);
+    let mut status: u8 = 0;
+    let cut = builder::find(c, name, &mut status);
+    if status != 0 {
+        return Written::Refused(status);
     }
-    match paths::walk::find(c, paths::walk::name_number(name), VALUE_LEVELS) {
-        Place::None { at: _ } => output::give(c, out),
-        Place::At { from, to } => builder::give_without(
-            c,
-            from,
-            to,
-            form::bytes::word_at(c, 1) - 1,
-            out,
-        ),
+    if cut.gone == 0 {
+        return output::give(c, out);
     }
+    let count = form::bytes::word_at(c, 1) - 1;
+    builder::give_without(c, cut.at, cut.at + cut.gone, count, out)
 }
 
 // `FeelContext::move_entry`. Refusals 1 to 5, 12, 17, 18.
 pub fn move_entry(c: &[u8], name: u16, parent: u16, out: &mut [u8]) -> Written
     ensures { λ r. ⌜ Built (moveEntryCall (now (c .entry)) name parent (length (now (out .entry)))) (now (out .entry)) (now (out .exit)) r ⌝ }
 {
-    match builder::check_context(c) {
-        Checked::Refused(n) => Written::Refused(n),
-        Checked::Accepted { level } => match paths::walk::find(
-            c,
-            paths::walk::name_number(name),
-            VALUE_LEVELS,
-        ) {
-            Place::None { at: _ } => output::give(c, out),
-            Place::At { from, to } => {
-                let count = form::bytes::word_at(c, 1) - 1;
-                let path = [parent, name];
-                if c.len() <= 512 {
-                    let mut few = [0u8; 512];
-                    return builder::move_in(c, from, to, count, &path, level - 1, &mut few, out);
-                }
-                let mut spare = [0u8; MOST_BYTES];
-                builder::move_in(c, from, to, count, &path, level - 1, &mut spare, out)
-            }
-        },
+    let mut status: u8 = 0;
+    let cut = builder::find(c, name, &mut status);
+    if status != 0 {
+        return Written::Refused(status);
     }
+    if cut.gone == 0 {
+        return output::give(c, out);
+    }
+    let count = form::bytes::word_at(c, 1) - 1;
+    let path = [parent, name];
+    if c.len() <= 512 {
+        let mut few = [0u8; 512];
+        return builder::move_in(c, cut, count, &path, &mut few, out);
+    }
+    let mut spare = [0u8; MOST_BYTES];
+    builder::move_in(c, cut, count, &path, &mut spare, out)
 }

@@ -40,7 +40,7 @@ use Rattle.paths.specs.Paths.{entriesOf}
 use Rattle.paths.specs.Places.{Piece, piece}
 use Rattle.paths.specs.Calls.{contextOf, lenCall}
 use Rattle.paths.proofs.Whole.{of-context}
-use Rattle.updates.proofs.Builders.{count-size}
+use Rattle.updates.proofs.Formed.{count-size}
 use Rattle.feel.specs.Numbers.{high, Halves}
 use Rattle.feel.specs.LowWord.{Low, Short, Near, LowWord}
 use Rattle.feel.proofs.PartPlaces.{halves-deep, halves-entry, halves-first}

@@ -1,53 +1,55 @@
 -- The calls: refusals in their order, then the answer.
--- Index: `Opened`, `opened`, `opened-ok`, `opened-short`, `is-refused`, `code-refused`, `read-whole` (the context of a call);
--- `refused-value`, `refused-names`, `refused-other`, `refused-not` (`refusal`); `searched`, `entry-call`, `first-none`, `first-done`, `part-refused`, `call-refused` (calls that find a part);
+-- Index: `Opened`, `opened`, `opened-short`, `is-refused`, `code-refused`, `read-whole` (the context of a call);
+-- `refused-value`, `refused-names`, `refused-other`, `refused-not`, `held-byte` (`refusal`); `judged-refused`, `judged-told` (what the walk along a path judged);
+-- `Searched`, `searched`, `searched-new`, `searched-left`, `searched-part`, `searched-name`, `searched-room` (what it finds);
+-- `entry-call`, `first-none`, `first-done`, `part-refused`, `call-refused` (calls that find a part);
 -- `AllStand`, `stand-deep`, `stand-entry`, `stand-first`, `lend-within`, `lent` (a part that is lent);
 -- `found-deep`, `found-entry`, `len-done`, `empty-yes`, `empty-no`, `Entered`, `entered`, `context-yes`, `context-no` (questions).
 -- Assumes nothing.
-use Prim.Native.Nat.{ℕ, _+_, _-_, _<_, _≤_, _^_}
+use Prim.Native.Nat.{ℕ, zero, suc, _+_, _-_, _<_, _≤_, _^_}
 use native.Mathlib.Omega.{arith}
-use mathlib.Core.Path.{_≡_, refl, sym, ap, subst, _∙_}
-use mathlib.Core.Bool.{Bool, true, false, true≢false}
+use native.Mathlib.Nat.{add-zero}
+use mathlib.Core.Path.{_≡_, refl, sym, ap, ap₂, subst, _∙_}
+use mathlib.Core.Bool.{Bool, true, false, cond}
 use mathlib.Core.Option.{Option, none, some}
 use mathlib.Core.List.{List, [], _∷_}
 use lib.ListN.{length, getD, take, drop}
+use lib.Seq.{getD-drop}
 use lib.Dec.{ltb, leb, eqb}
 use denote.Ref.{RefT, now}
-use borrow.Author.Tests.{le-leb, lt-leb}
+use borrow.Author.Tests.{le-leb, lt-leb, eq-eqb, ne-eqb, lt-ltb, le-ltb}
 use Rattle.form.specs.Limits.{nameWidth, mostBytes, valueLevels, valueRefusals, mostNames}
-use Rattle.form.specs.Trees.{Val, Entries, no-entries, entry}
-use Rattle.form.specs.Form.{numAt, Bytes, encV, countEntries}
+use Rattle.form.specs.Trees.{Val, v-context, Entries, no-entries, entry}
+use Rattle.form.specs.Form.{numAt, Bytes, encV, levelV, countEntries}
 use Rattle.form.specs.Outcome.{Outcome, done, refused, _>>=_, _>>_, pick, check, orRefuse}
-use Rattle.form.specs.Read.{Got, got, bad, readV, numberOf, all, readWhole, readValue}
+use Rattle.form.specs.Read.{Got, got, bad, readV, numberOf, all, readWhole, readValue, checkValue}
 use Rattle.form.specs.Faults.{Shape, Names, Level}
 use Rattle.form.specs.Parts.{LiesAt}
-use Rattle.form.proofs.Accepted.{refused-done, whole-got}
-use Rattle.form.proofs.Values.{value-accepted}
-use Rattle.order.specs.Size.{sizeEntries}
+use Rattle.form.proofs.Accepted.{refused-done, whole-got, level-refused}
+use Rattle.form.proofs.Values.{value-accepted, ValueTold, value-told, encV-some}
+use Rattle.order.specs.Size.{sizeVal, sizeEntries}
 use Rattle.order.proofs.LeastSize.{length-encV}
-use Rattle.types.specs.At.{Ok}
-use Rattle.types.proofs.Reading.{is-ok}
 use Rattle.values.specs.At.{valueAt, entriesAt, sizeAtV}
 use Rattle.values.proofs.Reading.{some-byte, no-entry}
-use Rattle.values.proofs.CallContracts.{Holds}
 use Rattle.paths.specs.Paths.{valueOf, entriesOf, isSome, isContext, isEmpty, getFirst, bind, search, containsDeep, entryPlace, place}
-use Rattle.paths.specs.Places.{wholeAt, contextAt, frontAt, Fills, Spot, spot, Piece, piece, extent, found, extentOf, spotIn, Searches, Clear, isFound}
+use Rattle.paths.specs.Places.{wholeAt, Spot, spot, Piece, piece, extent, found, extentOf, spotIn, isFound}
 use Rattle.paths.specs.Places.{lentBytes, lentCode, lentPlace, Lent, Within, pieceBytes, piecePlace, Lends}
+use Rattle.paths.specs.Way.{cutOf, partOf, Surveyed, judged}
+use Rattle.paths.specs.declared.way.Cut.{Cut}
 use Rattle.paths.specs.Calls.{contextOf, searchDeepCall, getEntryCall, getFirstCall, containsDeepCall, containsEntryCall, isContextCall, isEmptyCall, lenCall}
 use Rattle.paths.specs.declared.Found.{Found}
 use Rattle.paths.specs.declared.Found.the-variants as found-is
-use Rattle.paths.proofs.Whole.{is-whole, of-context, Ctx, ctx-of, size-behind, whole-ok, whole-fills}
-use Rattle.paths.proofs.FindLoops.{value-first, below-none}
-use Rattle.paths.proofs.SplitContext.{count-context}
-use Rattle.paths.proofs.PathSearch.{at-context, whole-context, whole-other, contains-deep, Stands, stands-one, stands-at, searches-is, Sight, sight-inside, sight-context, sight-flat}
+use Rattle.paths.proofs.Whole.{is-whole, context-read, of-context, Ctx, ctx-of, size-behind}
+use Rattle.paths.proofs.OneName.{value-first, below-none}
+use Rattle.paths.proofs.SplitContext.{count-context, child-whole}
+use Rattle.paths.proofs.PathSearch.{whole-value, at-context, whole-context, whole-other, contains-deep, Stands, stands-one, stands-at}
+use Rattle.paths.proofs.Steps.{search-cut, cut-entry}
+use Rattle.paths.proofs.Along.{surveyed-is, cut-small}
 use Rattle.form.specs.Options.{map}
 use Rattle.form.proofs.Runs.{behind}
-use Rattle.values.proofs.EntriesAt.{This, this, size-none}
+use Rattle.values.proofs.EntriesAt.{This, this, size-none, size-context}
 
 -- ---- a part that was found
-pub clear-part : (f : Found) (k p n : ℕ) → f ≡ found-is.Part p n → Clear k (found f) → k + p < 2 ^ 64
-clear-part f k p n e h = subst (λ z. Clear k (found z)) e h
-
 pub within-part : (f : Found) (c : List ℕ) (p n : ℕ) → f ≡ found-is.Part p n → Within (found f) c → p + n ≤ length c
 within-part f c p n e h = subst (λ z. Within (found z) c) e h
 
@@ -141,33 +143,37 @@ opened c k n e z = go (contextOf c k) refl
     go (done es) h = record { es = es; is = h; ctx = context-done c k es h }
     go (refused m) h = absurd (let y : n ≡ m = e ∙ ap lentCode h in omega (arith, y, context-refused c k m h))
 
-pub opened-ok : {c : List ℕ} {k : ℕ} (O : Opened c k) → Ok (contextAt valueLevels c)
-opened-ok {c} O = is-ok (contextAt valueLevels c) (O .es) (O .ctx .read)
-
-pub opened-whole : {c : List ℕ} {k : ℕ} (O : Opened c k) → Ok (frontAt valueLevels c) × Fills true valueLevels c
-opened-whole {c} O = (whole-ok valueLevels c (opened-ok O), whole-fills valueLevels c true (opened-ok O))
-
 -- ---- `refusal`
 pub refused-value : (c : List ℕ) (k n : ℕ) → readValue c ≡ refused n → n ≡ lentCode (contextOf c k)
 unfolding contextOf _>>=_
 refused-value c k n e = rw e
 
-module _ (c : List ℕ) (k : ℕ) (A : Holds c) where
+module _ (c : List ℕ) (k : ℕ) {v : Val} (reads : readValue c ≡ done v) where
   pub refused-names : mostNames < k → 11 ≡ lentCode (contextOf c k)
   unfolding contextOf _>>=_ _>>_
-  refused-names h = rw (A .whole, lt-leb k mostNames h)
+  refused-names h = rw (reads, lt-leb k mostNames h)
 
+  -- it has a byte
   pub held-byte : 0 < length c
-  held-byte = some-byte 32 c (A .v) (A .stands)
+  held-byte = some-byte valueLevels c v (whole-value valueLevels c v (read-whole c v reads))
 
   module _ (h : k ≤ mostNames) where
     pub refused-other : (getD c 0 0 ≡ 11 → ⊥) → 12 ≡ lentCode (contextOf c k)
     unfolding contextOf _>>=_ _>>_
-    refused-other d = rw (A .whole, le-leb k mostNames h, whole-other valueLevels c (A .v) (read-whole c (A .v) (A .whole)) d)
+    refused-other d = rw (reads, le-leb k mostNames h, whole-other valueLevels c v (read-whole c v reads) d)
 
     pub refused-not : getD c 0 0 ≡ 11 → 0 ≡ lentCode (contextOf c k)
     unfolding contextOf _>>=_ _>>_
-    refused-not e = let K = whole-context valueLevels c (A .v) (read-whole c (A .v) (A .whole)) e in rw (A .whole, le-leb k mostNames h, K .is)
+    refused-not e = let K = whole-context valueLevels c v (read-whole c v reads) e in rw (reads, le-leb k mostNames h, K .is)
+
+-- ---- what the walk along a path judged
+module _ (c : List ℕ) (code level : ℕ) (j : judged code level ≡ checkValue c) where
+  pub judged-refused : (code ≡ 0 → ⊥) → readValue c ≡ refused code
+  unfolding checkValue
+  judged-refused z = level-refused levelV (readValue c) code (sym j ∙ ap (λ b. pick b (done level) (refused code)) (ne-eqb code 0 z))
+
+  pub judged-told : Bytes c → code ≡ 0 → ValueTold c level
+  judged-told b z = value-told c b level (sym j ∙ ap (λ q. pick q (done level) (refused code)) (eq-eqb code 0 z))
 
 -- ---- refused calls
 pub part-refused : (o : Outcome Entries) (n : ℕ) (f : Entries → Outcome (Option Spot)) → o ≡ refused n → refused n ≡ extentOf (do es ← o; f es)
@@ -183,8 +189,51 @@ part-done : (o : Outcome Entries) (es : Entries) (f : Entries → Option Spot) �
 unfolding extentOf _>>=_
 part-done o es f e = rw e
 
-pub searched : (c p : List ℕ) (O : Opened c (length p)) (r : Found) → Searches (frontAt valueLevels c) p r → found r ≡ extentOf (searchDeepCall c p)
-searched c p O r f = searches-is p r (O .ctx .front) f ∙ part-done (contextOf c (length p)) (O .es) (spotIn p) (O .is)
+-- the cut along the path in an accepted context
+pub record Searched (c p : List ℕ) (k : Cut) : Type 0 where
+  pub opened : Opened c (length p)
+  pub short : length c ≤ mostBytes
+  pub cut : k ≡ cutOf p (v-context (opened .es))
+
+pub searched : (c p : List ℕ) {d : ℕ} (rest : ℕ) (k : Cut) → ValueTold c d → length p ≤ mostNames → getD c 0 0 ≡ 11
+    → (length c ≤ mostBytes → Surveyed p (wholeAt valueLevels c) rest k) → Searched c p k
+searched c p rest k A h e f =
+    let O = opened c (length p) 0 (refused-not c (length p) (A .reads) h e) refl in
+    let w = is-whole valueLevels c (v-context (O .es)) (context-read valueLevels c (O .es) (O .ctx .read)) in
+    let short = A .accepted .short in
+    record { opened = O; short = short; cut = surveyed-is p (wholeAt valueLevels c) rest k (v-context (O .es)) w (f short) .1 }
+
+module _ {c p : List ℕ} {k : Cut} (S : Searched c p k) where
+  -- what the cut finds is the answer
+  cut-found : done (partOf (length p) k) ≡ extentOf (searchDeepCall c p)
+  cut-found =
+      let es = S .opened .es in
+      ap (λ j. done (partOf (length p) j)) (S .cut) ∙ ap done (sym (search-cut p es)) ∙ part-done (contextOf c (length p)) es (spotIn p) (S .opened .is)
+
+  abbrev part : Option Piece
+  part = some (piece (k .at + nameWidth) (k .gone - nameWidth))
+
+  pub searched-new : k .gone ≡ 0 → done none ≡ extentOf (searchDeepCall c p)
+  searched-new e = ap (λ b. done (cond b none (cond (ltb (k .names) (length p)) none part))) (sym (eq-eqb (k .gone) 0 e)) ∙ cut-found
+
+  module _ (d : k .gone ≡ 0 → ⊥) where
+    there : (b : Bool) → ltb (k .names) (length p) ≡ b → done (cond b none part) ≡ extentOf (searchDeepCall c p)
+    there b e = ap₂ (λ x y. done (cond x none (cond y none part))) (sym (ne-eqb (k .gone) 0 d)) (sym e) ∙ cut-found
+
+    pub searched-left : k .names < length p → done none ≡ extentOf (searchDeepCall c p)
+    searched-left h = there true (lt-ltb (k .names) (length p) h)
+
+    pub searched-part : length p ≤ k .names → done part ≡ extentOf (searchDeepCall c p)
+    searched-part h = there false (le-ltb (k .names) (length p) h)
+
+    -- an entry goes, so its name does
+    pub searched-name : nameWidth ≤ k .gone
+    searched-name = let e = ap (λ j. j .gone) (S .cut) in omega (arith, e, cut-entry p (S .opened .es) (λ z. d (e ∙ z)))
+
+  pub searched-room : k .at + nameWidth < 2 ^ 64
+  searched-room =
+      let es = S .opened .es in
+      omega (arith, ap (λ j. j .at) (S .cut), cut-small p (v-context es) .1, size-context es, S .opened .ctx .all, S .short)
 
 -- one name is a path
 pub entry-call : (c : List ℕ) (n : ℕ) → searchDeepCall c (n ∷ []) ≡ getEntryCall c n
@@ -332,8 +381,11 @@ module _ (c : List ℕ) (O : Opened c 0) (bs : Bytes c) (n : ℕ) (e : n ≡ num
 
 -- ---- `is_context`
 pub record Entered (c : List ℕ) (n at : ℕ) : Type 0 where
-  pub sight : Sight valueLevels c n at false
-  pub is : contextOf c 0 ≡ done (sight .es)
+  pub es : Entries
+  pub is : contextOf c 0 ≡ done es
+  pub x : Val
+  pub value : valueOf n es ≡ some x
+  pub start : at ≡ entryPlace n es + nameWidth
 
 module _ (c : List ℕ) (n : ℕ) (r : Found) (e : found r ≡ extentOf (getEntryCall c n)) where
   pub entered : (p k : ℕ) → r ≡ found-is.Part p k → Entered c n p
@@ -345,7 +397,7 @@ module _ (c : List ℕ) (n : ℕ) (r : Found) (e : found r ≡ extentOf (getEntr
       there es i none v q = absurd (let z : _≡_ {A = ℕ} 0 1 = cc in omega arith)
       there es i (some x) v q =
           let z : p ≡ entryPlace n es + nameWidth = cc in
-          record { sight = record { es = es; front = context-done c 0 es i .front; told = record { x = x; value = v; start = z; end = λ e. absurd (true≢false (sym e)) } }; is = i }
+          record { es = es; is = i; x = x; value = v; start = z }
 
       go : (o : Outcome Entries) → contextOf c 0 ≡ o → done (some (piece p k)) ≡ extentOf (do es ← o; done (map (spot (entryPlace n es + nameWidth)) (valueOf n es))) → Entered c n p
       go (done es) i q = there es i (valueOf n es) refl q
@@ -372,12 +424,34 @@ module _ (c : List ℕ) (n : ℕ) (r : Found) (e : found r ≡ extentOf (getEntr
       go (done es) i q = absurd (refused-done q)
       go (refused j) i q = let z : m ≡ j = cc in call-refused (contextOf c 0) m (λ es. done (isContext n es)) (i ∙ ap refused (sym z))
 
-module _ {c : List ℕ} {n at : ℕ} (E : Entered c n at) where
+-- the first byte of a part
+front-byte : (m : ℕ) (s : List ℕ) → 0 < m → getD (take m s) 0 0 ≡ getD s 0 0
+front-byte zero s h = absurd (omega arith)
+front-byte (suc m) [] h = refl
+front-byte (suc m) (b ∷ s) h = refl
+
+module _ {c : List ℕ} {n at : ℕ} (E : Entered c n at) (bs : Bytes c) where
+  abbrev own : List ℕ
+  own = take (sizeVal (E .x)) (drop at c)
+
+  ctx : Ctx valueLevels c (E .es)
+  ctx = context-done c 0 (E .es) (E .is)
+
+  whole : wholeAt 30 own ≡ some (E .x)
+  whole = ap (λ (i : ℕ). wholeAt 30 (take (sizeVal (E .x)) (drop i c))) (E .start) ∙ child-whole valueLevels n c (E .es) (E .x) bs ctx (E .value)
+
   pub entered-inside : at < length c
-  entered-inside = sight-inside (E .sight)
+  entered-inside = omega (arith, E .start, stands-one valueLevels n c (E .es) (E .x) bs ctx (E .value) .within, encV-some (E .x), length-encV (E .x))
+
+  first-byte : getD own 0 0 ≡ getD c at 0
+  first-byte = front-byte (sizeVal (E .x)) (drop at c) (omega (arith, encV-some (E .x), length-encV (E .x))) ∙ getD-drop at c 0 0 ∙ ap (λ (i : ℕ). getD c i 0) (add-zero at)
 
   pub context-yes : getD c at 0 ≡ 11 → done true ≡ isContextCall c n
-  context-yes h = question (contextOf c 0) (E .sight .es) (isContext n) true (E .is) (ap isSome (sight-context (E .sight) h))
+  context-yes h =
+      let K = whole-context 30 own (E .x) whole (first-byte ∙ h) in
+      question (contextOf c 0) (E .es) (isContext n) true (E .is) (ap (λ o. isSome (bind o entriesOf)) (E .value ∙ ap some (K .is)))
 
   pub context-no : (getD c at 0 ≡ 11 → ⊥) → done false ≡ isContextCall c n
-  context-no h = question (contextOf c 0) (E .sight .es) (isContext n) false (E .is) (ap isSome (sight-flat (E .sight) h))
+  context-no h =
+      question (contextOf c 0) (E .es) (isContext n) false (E .is)
+      (ap (λ o. isSome (bind o entriesOf)) (E .value) ∙ ap isSome (whole-other 30 own (E .x) whole (λ e. h (sym first-byte ∙ e))))

@@ -22,8 +22,9 @@ use Rattle.paths.specs.Places.{Spot, spot, spotIn}
 use Rattle.paths.specs.Calls.{contextOf, searchDeepCall, getEntryCall, getFirstCall, containsDeepCall}
 use Rattle.paths.specs.Laws.{twice, holdsContext, StandsAt, Lookups}
 use Rattle.paths.proofs.Whole.{of-context}
-use Rattle.paths.proofs.FindLoops.{value-first, below-none}
+use Rattle.paths.proofs.OneName.{value-first, below-none}
 use Rattle.paths.proofs.PathSearch.{contains-deep, Stands}
+use Rattle.paths.proofs.Steps.{search-cut}
 use Rattle.paths.proofs.CallContracts.{AllStand, entry-call, stand-deep, stand-entry, stand-first}
 use Rattle.form.specs.Options.{map}
 use Rattle.values.proofs.EntriesAt.{size-none}
@@ -130,6 +131,7 @@ lookups = record {
   first-none = λ c e. given-done (contextOf c 0) no-entries (λ fs. done (map (spot (3 + nameWidth)) (getFirst fs))) e;
   nowhere-tree = nowhere-tree;
   nowhere-call = nowhere-call;
+  search-cut = search-cut;
   deep-stands = λ c p q v bs e. stands c (searchDeepCall c p) q v (stand-deep c p bs) e;
   entry-stands = λ c n q v bs e. stands c (getEntryCall c n) q v (stand-entry c n bs) e;
   first-stands = λ c q v bs e. stands c (getFirstCall c) q v (stand-first c bs) e;

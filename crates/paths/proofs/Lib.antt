@@ -1,6 +1,8 @@
 pub mod Whole
-pub mod FindLoops
+pub mod OneName
 pub mod SplitContext
 pub mod PathSearch
+pub mod Steps
+pub mod Along
 pub mod CallContracts
 pub mod Laws

@@ -26,7 +26,7 @@ use Rattle.order.proofs.LeastSize.{length-encV, length-entries}
 use Rattle.paths.specs.Paths.{valueOf, below, above, entryPlace}
 use Rattle.paths.specs.Places.{wholeAt}
 use Rattle.paths.proofs.Whole.{is-whole, context-read, Ctx}
-use Rattle.paths.proofs.FindLoops.{value-first, value-later, value-absent, below-more, below-none}
+use Rattle.paths.proofs.OneName.{value-first, value-later, value-absent, below-more, below-none}
 use Rattle.values.proofs.Reading.{From, from-none, from-entry, from-less}
 use Rattle.form.proofs.Options.{none-some, some-same}
 

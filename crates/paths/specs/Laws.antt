@@ -9,9 +9,11 @@ use lib.ListN.{length, take, drop}
 use lib.Dec.{eqb}
 use Rattle.form.specs.Trees.{l-boolean, Val, v-leaf, v-context, Entries, no-entries, entry}
 use Rattle.form.specs.Form.{Bytes, encV}
+use Rattle.form.specs.Options.{map}
 use Rattle.form.specs.Outcome.{done, _>>=_}
 use Rattle.paths.specs.Paths.{valueOf, entriesOf, isSome, containsEntry, isContext, len, isEmpty, getFirst, search, containsDeep}
-use Rattle.paths.specs.Places.{Spot, spot}
+use Rattle.paths.specs.Places.{Spot, spot, extent, spotIn}
+use Rattle.paths.specs.Way.{cutOf, partOf}
 use Rattle.paths.specs.Calls.{contextOf, searchDeepCall, getEntryCall, getFirstCall, containsDeepCall, containsEntryCall, isContextCall, isEmptyCall, lenCall}
 
 -- the context {1: true, 2: true}: both values have the same bytes
@@ -52,6 +54,8 @@ pub record Lookups : Type 0 where
   -- the empty path: none, and no
   pub nowhere-tree : (es : Entries) → (search [] es ≡ none) × (containsDeep [] es ≡ false)
   pub nowhere-call : (c : List ℕ) (es : Entries) → contextOf c 0 ≡ done es → (searchDeepCall c [] ≡ done none) × (containsDeepCall c [] ≡ done false)
+  -- the walk along a path, which tells what an update there changes, finds what the search finds
+  pub search-cut : (p : List ℕ) (es : Entries) → map extent (spotIn p es) ≡ partOf (length p) (cutOf p (v-context es))
   -- a found value stands at its place, the whole of it
   pub deep-stands : (c p : List ℕ) (q : ℕ) (v : Val) → Bytes c → searchDeepCall c p ≡ done (some (spot q v)) → StandsAt c q v
   pub entry-stands : (c : List ℕ) (n q : ℕ) (v : Val) → Bytes c → getEntryCall c n ≡ done (some (spot q v)) → StandsAt c q v

@@ -1,6 +1,5 @@
 // Paths into a context over the byte form: the reading half of context.rs.
 ghost use mathlib.Core.Path.{_≡_};
-ghost use mathlib.Core.Bool.{true};
 ghost use Prim.Native.Nat.{_+_, _<_};
 ghost use Rattle.form.specs.Answers.{verdict};
 ghost use Rattle.paths.specs.Places.{found, extentOf, Lent};
@@ -8,11 +7,14 @@ ghost use Rattle.paths.specs.Calls.{searchDeepCall, getEntryCall, getFir
 
 mod answers;
 pub mod walk;
+pub mod way;
 
 use form::Verdict;
 use form::commands;
+use form::limits::MOST_NAMES;
 use form::limits::NAME_WIDTH;
 use form::limits::VALUE_LEVELS;
+use form::refusals;
 
 // What a call that finds a part of its argument answers: where it starts and how long it is; or none; or the refusal.
 pub enum Found {
@@ -31,11 +33,27 @@ pub enum Count {
 pub fn search_place(c: &[u8], path: &[u16]) -> Found
     ensures { λ r. ⌜ found r ≡ extentOf (searchDeepCall (now (c .entry)) (now (path .entry))) ⌝ }
 {
-    let n = walk::refusal(c, path.len());
-    if n != 0 {
-        return Found::Refused(n);
+    let mut status: u8 = 0;
+    let way = way::read(c, path, &mut status);
+    if status != 0 {
+        return Found::Refused(status);
     }
-    walk::search(c, path, true, VALUE_LEVELS)
+    if MOST_NAMES < path.len() {
+        return Found::Refused(refusals::PATH);
+    }
+    if c[0] != commands::CONTEXT {
+        return Found::Refused(refusals::NOT_CONTEXT);
+    }
+    if way.cut.gone == 0 {
+        return Found::None;
+    }
+    if way.cut.names < path.len() {
+        return Found::None;
+    }
+    Found::Part {
+        place: way.cut.at + NAME_WIDTH,
+        size: way.cut.gone - NAME_WIDTH,
+    }
 }
 
 // Where the value of the name stands. Refusals 1 to 5, 12.
@@ -50,7 +68,7 @@ pub fn entry_place(c: &[u8], name: u16) -> Found
 pub fn first_place(c: &[u8]) -> Found
     ensures { λ r. ⌜ found r ≡ extentOf (getFirstCall (now (c .entry))) ⌝ }
 {
-    let n = walk::refusal(c, 0);
+    let n = walk::refusal(c);
     if n != 0 {
         return Found::Refused(n);
     }
@@ -120,7 +138,7 @@ pub fn is_context(c: &[u8], name: u16) -> Verdict
 pub fn is_empty(c: &[u8]) -> Verdict
     ensures { λ r. ⌜ verdict r ≡ isEmptyCall (now (c .entry)) ⌝ }
 {
-    let n = walk::refusal(c, 0);
+    let n = walk::refusal(c);
     if n != 0 {
         return Verdict::Refused(n);
     }
@@ -134,7 +152,7 @@ pub fn is_empty(c: &[u8]) -> Verdict
 pub fn len(c: &[u8]) -> Count
     ensures { λ r. ⌜ count r ≡ lenCall (now (c .entry)) ⌝ }
 {
-    let n = walk::refusal(c, 0);
+    let n = walk::refusal(c);
     if n != 0 {
         return Count::Refused(n);
     }

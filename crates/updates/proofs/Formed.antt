@@ -1,5 +1,5 @@
 -- The answers are well-formed: names strictly ascending at every level, and every count fits its field.
--- Index: `well-updated` (create and apply), `well-joined` (zip and overwrite), `well-removed`, `level-removed` (remove); `names-of` (a path of code), `value-size`.
+-- Index: `well-updated` (create and apply), `well-joined` (zip and overwrite), `well-removed`, `level-removed` (remove); `value-size`, `count-size`.
 -- Assumes nothing.
 use Prim.Native.Nat.{ℕ, suc, _<_, _≤_, max}
 use native.Mathlib.Omega.{arith}
@@ -7,10 +7,7 @@ use mathlib.Core.Path.{_≡_, refl, sym, ap, subst}
 use mathlib.Core.Bool.{Bool, true, false, cond}
 use mathlib.Core.Option.{Option, none, some}
 use mathlib.Core.List.{List, [], _∷_}
-use lib.ListN.{getD}
 use lib.Dec.{eqb}
-use mir.Syntax.{w16}
-use mir.Val.{Fits}
 use Rattle.form.specs.Limits.{nameEnd, mostBytes}
 use Rattle.form.specs.Trees.{Val, v-context, Entries, no-entries, entry}
 use Rattle.form.specs.Form.{countEntries, levelV, levelEntries, WfV, WfEntries}
@@ -22,17 +19,16 @@ use Rattle.updates.specs.Update.{insert, remove, create}
 use Rattle.updates.specs.Writing.{updated, merged}
 use Rattle.updates.specs.Laws.{Names}
 use Rattle.updates.proofs.InsertedEntries.{well-insert, well-remove, count-insert}
-use Rattle.updates.proofs.Builders.{count-size}
 use Rattle.updates.proofs.MergedContexts.{well-merged, count-merged}
 use Rattle.updates.proofs.Theorems.{apply-create}
 use Rattle.values.proofs.EntriesAt.{size-context, size-next, size-none}
 use Rattle.form.proofs.Options.{none-some, some-same}
 
--- ---- a path
-pub names-of : (p : List ℕ) → ((i : ℕ) → Fits w16 (getD p i 0)) → Names p
-unfolding Names
-names-of [] h = tt
-names-of (n ∷ p) h = (h 0 .fits, names-of p (λ (i : ℕ). h (suc i)))
+-- no entry has no bytes
+pub count-size : (es : Entries) → countEntries es ≤ sizeEntries es
+unfolding countEntries
+count-size no-entries = omega arith
+count-size (entry n v es) = omega (arith, size-next n v es, count-size es)
 
 -- ---- the value of a name
 pub value-size : (n : ℕ) (v : Val) (es : Entries) → valueOf n es ≡ some v → sizeVal v ≤ sizeEntries es

@@ -12,7 +12,7 @@ use Rattle.form.specs.Limits.{nameEnd}
 use Rattle.form.specs.Trees.{Val, Entries, no-entries, entry}
 use Rattle.form.specs.Form.{countEntries, WfV, WfEntries}
 use Rattle.paths.specs.Paths.{valueOf}
-use Rattle.paths.proofs.FindLoops.{value-absent}
+use Rattle.paths.proofs.OneName.{value-absent}
 use Rattle.paths.proofs.SplitContext.{from-well}
 use Rattle.updates.specs.Update.{insert, remove}
 use Rattle.values.proofs.EntriesAt.{wf-lower}

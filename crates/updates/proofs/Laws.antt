@@ -5,7 +5,8 @@ use Rattle.updates.proofs.Theorems.{created-found, created-other, creat
 use Rattle.updates.proofs.Theorems.{move-absent, move-nests, move-found, move-gone, move-other, move-parent, move-replaced, move-inside, move-below, removed-gone, removed-other}
 use Rattle.updates.proofs.MergedContexts.{zip-name, overwrite-name}
 use Rattle.updates.proofs.Formed.{well-updated, well-joined, well-removed, level-removed}
-use Rattle.updates.proofs.Levels.{level-updated, level-merged, size-merged}
+use Rattle.updates.proofs.Levels.{level-updated, updated-level-is, updated-deep, level-merged, size-merged}
+use Rattle.updates.proofs.Splices.{spliced-is, blocked-is}
 
 pub contextUpdates : ContextUpdates
 contextUpdates =
@@ -36,7 +37,11 @@ contextUpdates =
       merged-well = well-joined;
       removed-well = well-removed;
       updated-level = level-updated;
+      updated-level-is = updated-level-is;
+      updated-deep = updated-deep;
       merged-level = level-merged;
       removed-level = level-removed;
+      created-bytes = spliced-is;
+      apply-blocked = blocked-is;
       merged-short = size-merged;
     }

@@ -1,10 +1,10 @@
 pub mod ContextFront
 pub mod InsertedEntries
 pub mod PathSteps
-pub mod Builders
 pub mod MergedContexts
 pub mod MergeLoop
 pub mod Theorems
 pub mod Formed
 pub mod Levels
+pub mod Splices
 pub mod Laws

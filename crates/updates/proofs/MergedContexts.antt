@@ -13,7 +13,7 @@ use Rattle.form.specs.Limits.{nameEnd}
 use Rattle.form.specs.Trees.{Val, Entries, no-entries, entry}
 use Rattle.form.specs.Form.{countEntries, WfV, WfEntries}
 use Rattle.paths.specs.Paths.{valueOf, isSome, containsEntry}
-use Rattle.paths.proofs.FindLoops.{value-first, value-later, value-absent}
+use Rattle.paths.proofs.OneName.{value-first, value-later, value-absent}
 use Rattle.paths.proofs.SplitContext.{from-well}
 use Rattle.updates.specs.Update.{insert, zip, overwrite}
 use Rattle.updates.specs.Writing.{merged}

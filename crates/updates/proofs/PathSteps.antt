@@ -1,49 +1,20 @@
--- One step of a path, on trees: an update is an insertion of what stands in place of the first name's value.
--- Index: `updated-step` (the step); `insert-split`, `remove-split`, `text-insert`, `text-remove` (between the entries below and above); `count-new`, `count-same`, `count-less` (how many).
+-- An entry inserted and an entry removed, between those below and those above it.
+-- Index: `insert-split`, `remove-split`, `text-insert`, `text-remove` (between the entries below and above); `count-new`, `count-same`, `count-less` (how many).
 -- Assumes nothing.
 use Prim.Native.Nat.{ℕ, _+_, _<_}
 use native.Mathlib.Omega.{arith}
 use mathlib.Core.Path.{_≡_, refl, sym, ap, ap₂, _∙_}
 use mathlib.Core.Bool.{Bool, true, false, cond}
-use mathlib.Core.Option.{Option, none, some}
-use mathlib.Core.List.{List, [], _∷_, _++_}
+use mathlib.Core.Option.{none, some}
+use mathlib.Core.List.{List, _∷_, _++_}
 use lib.Dec.{eqb, ltb}
 use borrow.Author.Tests.{lt-ltb, le-ltb, eqb-true, eqb-false, ltb-true, ltb-false}
 use Rattle.form.specs.Limits.{nameWidth}
 use Rattle.form.specs.Trees.{Val, v-context, Entries, no-entries, entry}
 use Rattle.form.specs.Form.{bytes, countEntries, encV, encEntries, WfEntries}
-use Rattle.form.proofs.Options.{map-twice}
-use Rattle.paths.specs.Paths.{valueOf, entriesOf, bind, orEmpty, below, above}
+use Rattle.paths.specs.Paths.{valueOf, below, above}
 use Rattle.paths.proofs.SplitContext.{joined, enc-joined, count-joined, split-some, split-none}
-use Rattle.updates.specs.Update.{insert, remove, create, onTheWay, apply}
-use Rattle.updates.specs.Writing.{updated, replaced}
-use Rattle.form.specs.Options.{map}
-
--- the value of a name, or a new context
-abbrev pub or-new : Option Val → Val
-or-new none = v-context no-entries
-or-new (some v) = v
-
-module _ (n m : ℕ) (ns : List ℕ) (x : Val) (es : Entries) where
-  strict-some : (o : Option Entries) → bind o (λ fs. map (λ gs. insert n (v-context gs) es) (apply (m ∷ ns) x fs)) ≡ map (λ w. insert n w es) (bind o (λ fs. map v-context (apply (m ∷ ns) x fs)))
-  strict-some none = refl
-  strict-some (some fs) = sym (map-twice (λ w. insert n w es) v-context (apply (m ∷ ns) x fs))
-
-  strict-step : (o : Option Val) → bind (onTheWay o) (λ fs. map (λ gs. insert n (v-context gs) es) (apply (m ∷ ns) x fs)) ≡ map (λ w. insert n w es)
-      (bind (entriesOf (or-new o)) (λ fs. map v-context (apply (m ∷ ns) x fs)))
-  strict-step none = strict-some (some no-entries)
-  strict-step (some v) = strict-some (entriesOf v)
-
-  free-step : (o : Option Val) → orEmpty (bind o entriesOf) ≡ orEmpty (entriesOf (or-new o))
-  free-step none = refl
-  free-step (some v) = refl
-
-pub updated-step : (strict : Bool) (n : ℕ) (ns : List ℕ) (x : Val) (es : Entries) → updated strict (n ∷ ns) x es ≡ map (λ w. insert n w es) (replaced strict ns x (or-new (valueOf n es)))
-unfolding create apply
-updated-step true n [] x es = refl
-updated-step true n (m ∷ ns) x es = strict-step n m ns x es (valueOf n es)
-updated-step false n [] x es = refl
-updated-step false n (m ∷ ns) x es = ap (λ (fs : Entries). some (insert n (v-context (create (m ∷ ns) x fs)) es)) (free-step n m ns x es (valueOf n es))
+use Rattle.updates.specs.Update.{insert, remove}
 
 -- ---- an entry inserted, between those below and those above
 all-above : (n k : ℕ) (es : Entries) → WfEntries es k → n < k → (below n es ≡ no-entries) × (above n es ≡ es)

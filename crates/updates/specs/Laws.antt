@@ -3,17 +3,18 @@
 -- Assumes nothing.
 use Prim.Native.Nat.{ℕ, _+_, _<_, _≤_, max}
 use mathlib.Core.Path.{_≡_}
-use mathlib.Core.Bool.{Bool}
+use mathlib.Core.Bool.{Bool, cond}
 use mathlib.Core.Option.{Option, none, some}
 use mathlib.Core.List.{List, [], _∷_, _++_}
 use lib.ListN.{length}
-use Rattle.form.specs.Limits.{nameEnd, mostBytes}
+use Rattle.form.specs.Limits.{nameEnd, mostBytes, valueLevels}
 use Rattle.form.specs.Trees.{Val, v-context, Entries, no-entries, entry, nothing}
-use Rattle.form.specs.Form.{levelV, WfV, WfEntries}
+use Rattle.form.specs.Form.{encV, levelV, WfV, WfEntries}
 use Rattle.order.specs.Size.{sizeEntries}
 use Rattle.paths.specs.Paths.{valueOf, entriesOf, bind, orEmpty, contextUnder, search}
+use Rattle.paths.specs.Way.{stays, cutOf}
 use Rattle.updates.specs.Update.{insert, create, apply, zip, overwrite, moveEntry, setEntry, setNull, removeEntry}
-use Rattle.updates.specs.Writing.{updated, merged}
+use Rattle.updates.specs.Writing.{updated, merged, blocked, spliced}
 
 -- two paths that part at some name
 pub data Apart : List ℕ → List ℕ → Type 0 where
@@ -106,7 +107,18 @@ pub record ContextUpdates : Type 0 where
   -- levels: every name of the path adds at most one to the value's; a merge and a removal add none
   pub updated-level : (strict : Bool) (p : List ℕ) (x : Val) (es fs : Entries) → updated strict p x es ≡ some fs
       → levelV (v-context fs) ≤ max (levelV (v-context es)) (length p + levelV x)
+  -- exactly: the larger of what stays and of the names and the value. It is what the walk and the builders tell, and 17 takes it from there
+  pub updated-level-is : (strict : Bool) (p : List ℕ) (x : Val) (es fs : Entries) → WfV (v-context es) → (p ≡ [] → ⊥) → updated strict p x es ≡ some fs
+      → levelV (v-context fs) ≡ max (stays p (v-context es)) (length p + levelV x)
+  -- so in a context within level 31 an update goes over it exactly where the names of the path and the value do together
+  pub updated-deep : (strict : Bool) (p : List ℕ) (x : Val) (es fs : Entries) → WfV (v-context es) → levelV (v-context es) ≤ valueLevels → (p ≡ [] → ⊥) → updated strict p x es ≡ some fs
+      → (valueLevels < levelV (v-context fs) → valueLevels < length p + levelV x) × (valueLevels < length p + levelV x → valueLevels < levelV (v-context fs))
   pub merged-level : (all : Bool) (es gs : Entries) → levelV (v-context (merged all es gs)) ≤ max (levelV (v-context es)) (levelV (v-context gs))
   pub removed-level : (n : ℕ) (es : Entries) → levelV (v-context (removeEntry n es)) ≤ levelV (v-context es)
+  -- an update changes the bytes of one entry, all others stay: what the cut says, in the bytes of the context, makes those of the updated one
+  pub created-bytes : (p : List ℕ) (x : Val) (es : Entries) → WfV (v-context es) → (p ≡ [] → ⊥)
+      → spliced (encV (v-context es)) (cutOf p (v-context es)) p (encV x) ≡ encV (v-context (create p x es))
+  -- apply_entries is Err exactly where the cut says so, and otherwise creates
+  pub apply-blocked : (p : List ℕ) (x : Val) (es : Entries) → (p ≡ [] → ⊥) → apply p x es ≡ cond (blocked p (cutOf p (v-context es))) none (some (create p x es))
   -- a merge is not longer than both together
   pub merged-short : (all : Bool) (es gs : Entries) → sizeEntries (merged all es gs) ≤ sizeEntries es + sizeEntries gs

@@ -7,7 +7,7 @@ use mathlib.Core.Path.{sym, _∙_}
 use Rattle.paths.proofs.CallContracts.{is-refused, opened, part-refused, first-none, first-inside, first-done}
 use native.Mathlib.Omega.{arith}
 
--- at `let n = walk::refusal(c, 0);`
+-- at `let n = walk::refusal(c);`
 refusal-requires : tie.Need-refusal-requires
 refusal-requires c κs = search needs
 

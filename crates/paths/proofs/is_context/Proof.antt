@@ -3,6 +3,7 @@
 use borrow.Author.Needs.{needs}
 use Rattle.paths.proofs.is_context.Statement.{statement}
 use Rattle.paths.proofs.is_context.Tie as tie
+use Rattle.form.proofs.Whole.{bytes-of}
 use Rattle.paths.proofs.CallContracts.{entered, entered-none, entered-refused, entered-inside, context-yes, context-no}
 
 -- at `match entry_place(c, name) {`
@@ -18,9 +19,10 @@ shared-slice-read-if1 : tie.Need-shared-slice-read-if1
 shared-slice-read-if1 c =
     let c4 = c .before .before .before .before in
     let place = c .before .before .place .given in
+    let s = c4 .before .before .args .c .now in
     entered-inside
-    (entered (c4 .before .before .args .c .now) (c4 .before .before .args .name) (c4 .entry-place .result) (c4 .entry-place .ensures) (place .0 .0)
-    (place .0 .1 .0) (place .1))
+    (entered s (c4 .before .before .args .name) (c4 .entry-place .result) (c4 .entry-place .ensures) (place .0 .0) (place .0 .1 .0) (place .1))
+    (bytes-of s (c4 .before .shared-slice-known .given))
 
 -- at `Found::None => Verdict::No,`
 enum-told : tie.Need-enum-told
@@ -35,20 +37,20 @@ returns : tie.Need-returns
 returns c =
     let c3 = c .before .before .before in
     let c5 = c3 .before .before in
+    let s = c5 .before .before .args .c .now in
     context-yes
-    (entered (c5 .before .before .args .c .now) (c5 .before .before .args .name) (c5 .entry-place .result) (c5 .entry-place .ensures)
-    (c3 .place .given .0 .0) (c3 .place .given .0 .1 .0) (c3 .place .given .1))
-    (c .if1 .taken)
+    (entered s (c5 .before .before .args .name) (c5 .entry-place .result) (c5 .entry-place .ensures) (c3 .place .given .0 .0) (c3 .place .given .0 .1 .0) (c3 .place .given .1))
+    (bytes-of s (c5 .before .shared-slice-known .given)) (c .if1 .taken)
 
 -- at the end
 returns-2 : tie.Need-returns-2
 returns-2 c =
     let c3 = c .before .before .before in
     let c5 = c3 .before .before in
+    let s = c5 .before .before .args .c .now in
     context-no
-    (entered (c5 .before .before .args .c .now) (c5 .before .before .args .name) (c5 .entry-place .result) (c5 .entry-place .ensures)
-    (c3 .place .given .0 .0) (c3 .place .given .0 .1 .0) (c3 .place .given .1))
-    (c .if1 .left)
+    (entered s (c5 .before .before .args .name) (c5 .entry-place .result) (c5 .entry-place .ensures) (c3 .place .given .0 .0) (c3 .place .given .0 .1 .0) (c3 .place .given .1))
+    (bytes-of s (c5 .before .shared-slice-known .given)) (c .if1 .left)
 
 -- at the end
 returns-3 : tie.Need-returns-3

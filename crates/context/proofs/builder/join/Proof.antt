@@ -36,7 +36,7 @@ join-spec =
     let c6 = c4 .before .before in
     let c-now = c6 .before .before .before .before .args .c .now in
     held-byte c-now 0
-    (value-accepted c-now (c6 .check-value .ensures .1) (c6 .check-value .result) _ (c4 .enum-told .given .1) (c6 .check-value .ensures .0)))
+    (value-accepted c-now (c6 .check-value .ensures .1) (c6 .check-value .result) _ (c4 .enum-told .given .1) (c6 .check-value .ensures .0) .whole))
     (λ c.
     let c4 = c .before .before .before .before in
     let c7 = c4 .before .before .before in
@@ -52,7 +52,7 @@ join-spec =
     let o = c5 .before .before .before .before .before .before .before .args .o in
     held-byte (o .now) 0
     (value-accepted (o .now) (c5 .check-value2 .ensures .1) (c5 .check-value2 .result) _ (c .before .before .before .enum-told2 .given .1)
-    (c5 .check-value2 .ensures .0)))
+    (c5 .check-value2 .ensures .0) .whole))
     (λ c.
     let c4 = c .before .before .before .before in
     let c6 = c4 .before .before in
