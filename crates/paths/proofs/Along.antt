@@ -22,6 +22,7 @@ use Rattle.form.specs.Read.{Got, got, bad, readV, readNamed, readEntries, ascen
 use Rattle.form.specs.Outcome.{Outcome, done, refused, pick}
 use Rattle.form.specs.Walks.{walkOf, walkBy, up, Told, settled}
 use Rattle.form.proofs.Options.{none-some, some-same}
+use Rattle.form.proofs.Accepted.{refused-done}
 use Rattle.form.proofs.Runs.{RunInv, run-start, run-done, named-none, end-is, behind}
 use Rattle.form.proofs.Runs as runs
 use Rattle.form.proofs.WalkAnswers.{told-part, told-ended, ample}
@@ -433,9 +434,6 @@ empty-surveyed l s p rest k z = surveyed p (wholeAt l s) rest k (λ v e. absurd 
 refused-same : {n m : ℕ} → _≡_ {A = Outcome ℕ} (refused n) (refused m) → n ≡ m
 refused-same e = cc
 
-done-refused : {n m : ℕ} → _≡_ {A = Outcome ℕ} (done n) (refused m) → ⊥
-done-refused e = let z : _≡_ {A = ℕ} 0 1 = cc in omega arith
-
 module _ (base n size told : ℕ) where
   pub settled-refused : (code : ℕ) → 1 ≤ base → refused code ≡ settled base n size told → judged code told ≡ settled base n size told
   unfolding settled
@@ -443,7 +441,7 @@ module _ (base n size told : ℕ) where
     where
       go : (a b : Bool) → refused code ≡ pick a (refused (base + told)) (pick b (done told) (refused (base + 4))) → code ≡ 0 → ⊥
       go true b q z = omega (arith, refused-same q)
-      go false true q z = done-refused (sym q)
+      go false true q z = refused-done q
       go false false q z = omega (arith, refused-same q)
 
   pub settled-done : (level : ℕ) → done level ≡ settled base n size told → judged 0 told ≡ settled base n size told
@@ -451,6 +449,6 @@ module _ (base n size told : ℕ) where
   settled-done level e = go (eqb size 0) (eqb size n) e
     where
       go : (a b : Bool) → done level ≡ pick a (refused (base + told)) (pick b (done told) (refused (base + 4))) → done told ≡ pick a (refused (base + told)) (pick b (done told) (refused (base + 4)))
-      go true b q = absurd (done-refused q)
+      go true b q = absurd (refused-done (sym q))
       go false true q = refl
-      go false false q = absurd (done-refused q)
+      go false false q = absurd (refused-done (sym q))

@@ -24,6 +24,7 @@ use Rattle.form.proofs.Encoded.{bytes-encV}
 use Rattle.form.proofs.ExactValues.{read-encV}
 use Rattle.form.proofs.Numbers.{length-bytes}
 use Rattle.order.specs.Size.{sizeVal}
+use Rattle.order.proofs.Bools.{and-false}
 use Rattle.order.proofs.LeastSize.{length-entries}
 use Rattle.output.specs.Output.{fill, puts}
 use Rattle.output.proofs.FillLaws.{fill-then, put-then}
@@ -349,10 +350,6 @@ apply-new n (m ∷ q) x es e =
     let d : m ∷ q ≡ [] → ⊥ = λ f. let z : _≡_ {A = ℕ} 0 1 = cc in omega arith in
     apply-inside n (m ∷ q) x es no-entries d (ap onTheWay e) ∙ ap (map (λ gs. insert n (v-context gs) es)) (apply-empty (m ∷ q) x)
     ∙ ap some (ap (λ z. insert n z es) (made-create m q x) ∙ sym (create-made n (m ∷ q) x es (ap (λ o. bind o entriesOf) e)))
-
-and-false : (b : Bool) → b && false ≡ false
-and-false true = refl
-and-false false = refl
 
 pub blocked-is : (p : List ℕ) (x : Val) (es : Entries) → (p ≡ [] → ⊥) → apply p x es ≡ cond (blocked p (cutOf p (v-context es))) none (some (create p x es))
 blocked-is [] x es d = absurd (d refl)
