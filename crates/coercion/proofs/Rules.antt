@@ -52,7 +52,7 @@ use Rattle.coercion.specs.Coerce.{failed, single, unchanged, soleItemCon
 use Rattle.coercion.specs.Calls.{coercedCall, Ready, wrapped, Says, SaysAt, BifSays}
 use Rattle.coercion.proofs.Theorems.{same-if}
 use Rattle.output.specs.Result.{result}
-use Rattle.values.proofs.Reading.{IsVal, is-null, is-boolean, is-number, is-string, is-temporal, is-range, is-list, is-context, is-definition, is-built-in, is-type, is-irrelevant}
+use Rattle.values.proofs.Reading.{IsVal, is-null, is-boolean, is-number, is-string, is-temporal, is-range, is-list, is-context, is-definition, is-built-in, is-type, is-irrelevant, is-decimal}
 use Rattle.values.proofs.Reading.{is-val, as-list, as-definition, as-built-in}
 
 single-bytes : (w : Val) → encV (single w) ≡ 0x0A ∷ 1 ∷ 0 ∷ encV w
@@ -191,6 +191,7 @@ module _ (t v : List ℕ) (A : Accepted t v) where
       go (is-built-in e k) = absurd (d e)
       go (is-type u e p) = refl
       go (is-irrelevant e) = refl
+      go (is-decimal x p e) = refl
 
   built-in : getD v 0 0 ≡ 0x0D → (A .value ≡ v-built-in (getD v 1 0)) × (2 ≤ length v)
   built-in c = go (as-built-in valueLevels v (A .value) value-there c)
@@ -382,6 +383,7 @@ module _ (t v : List ℕ) (A : Accepted t v) where
         go (is-built-in e k) = refl
         go (is-type u e p) = refl
         go (is-irrelevant e) = refl
+        go (is-decimal x p e) = refl
 
     module _ (c : getD v 0 0 ≡ 0x0A → ⊥) (q : Bool) (g : SaysAt innerConforms v t q) where
       pub give-failed : q ≡ false → (room : ℕ) → fits room (0 ∷ 1 ∷ []) ≡ coercedCall v t room

@@ -3,8 +3,8 @@
 use mathlib.Core.Path.{_≡_, refl, sym, ap, _∙_}
 use mathlib.Core.Bool.{Bool, true, false, cond, _&&_, _||_, false≢true}
 use mathlib.Core.Logic.{_↔_}
-use Rattle.form.specs.Trees.{Ty, leaf, built, list, range, context, function, Leaf, l-null, l-boolean, l-number, l-string, l-temporal, Val, v-leaf, v-range, v-list, v-context, v-function, v-built-in}
-use Rattle.form.specs.Trees.{v-type, v-irrelevant, Vals, no-items, item}
+use Rattle.form.specs.Trees.{Ty, leaf, built, list, range, context, function, Leaf, l-null, l-boolean, l-number, l-decimal, l-string, l-temporal, Val, v-leaf, v-range, v-list, v-context, v-function}
+use Rattle.form.specs.Trees.{v-built-in, v-type, v-irrelevant, Vals, no-items, item}
 use Rattle.order.specs.Order.{fixed}
 use Rattle.order.specs.Types.{cmp}
 use Rattle.order.specs.Values.{conforms, isDataBy, areData}
@@ -33,6 +33,7 @@ nil-leaf (l-null x) (leaf s) h = refl
 nil-leaf (l-null x) (built y) h = refl
 nil-leaf (l-boolean x) t h = absurd (false≢true h)
 nil-leaf (l-number x) t h = absurd (false≢true h)
+nil-leaf (l-decimal x p) t h = absurd (false≢true h)
 nil-leaf (l-string x) t h = absurd (false≢true h)
 nil-leaf (l-temporal k x) t h = absurd (false≢true h)
 

@@ -3,7 +3,8 @@
 use mathlib.Core.Path.{_≡_}
 use mathlib.Core.Bool.{Bool, true, false, _||_}
 use mathlib.Core.Logic.{_↔_}
-use Rattle.form.specs.Trees.{Ty, Leaf, l-null, l-boolean, l-number, l-string, l-temporal, Val, v-leaf, v-range, v-list, v-context, v-function, v-built-in, v-type, v-irrelevant, Vals, no-items, item}
+use Rattle.form.specs.Trees.{Ty, Leaf, l-null, l-boolean, l-number, l-decimal, l-string, l-temporal, Val, v-leaf, v-range, v-list, v-context, v-function, v-built-in, v-type, v-irrelevant, Vals}
+use Rattle.form.specs.Trees.{no-items, item}
 use Rattle.order.specs.Inferred.{isData}
 use Rattle.coercion.specs.Coerce.{failed, unchanged, soleItemConforms, innerConforms, coerced}
 use Rattle.coercion.specs.Dmn.{dmnCoerced}
@@ -28,6 +29,7 @@ abbrev pub isNilLeaf : Leaf → Bool
 isNilLeaf (l-null x) = true
 isNilLeaf (l-boolean x) = false
 isNilLeaf (l-number x) = false
+isNilLeaf (l-decimal x p) = false
 isNilLeaf (l-string x) = false
 isNilLeaf (l-temporal k x) = false
 

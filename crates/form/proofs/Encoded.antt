@@ -4,7 +4,7 @@
 use Prim.Native.Nat.{ℕ, zero, suc, _+_, _/_, _%_, _<_}
 use mathlib.Core.List.{List, [], _∷_, _++_}
 use native.Mathlib.Omega.{arith}
-use Rattle.form.specs.Trees.{Ty, leaf, built, Built, list, range, context, function, Fields, no-fields, field, Tys, no-params, param, Leaf, l-null, l-boolean, l-number}
+use Rattle.form.specs.Trees.{Ty, leaf, built, Built, list, range, context, function, Fields, no-fields, field, Tys, no-params, param, Leaf, l-null, l-boolean, l-number, l-decimal}
 use Rattle.form.specs.Trees.{l-string, l-temporal, Params, no-parameters, parameter, Val, v-leaf, v-range, v-list, v-context, v-function, v-built-in, v-type, v-irrelevant}
 use Rattle.form.specs.Trees.{Vals, no-items, item, Entries, no-entries, entry, code, codeTemporal}
 use Rattle.form.specs.Limits.{nameWidth}
@@ -67,6 +67,7 @@ unfolding encLeaf WfLeaf
 bytes-leaf (l-null t) g = bytes-cons 0 (t ∷ []) (omega arith) (bytes-cons t [] (omega arith) bytes-none)
 bytes-leaf (l-boolean b) g = let h = bit-small b in bytes-cons 1 (bit b ∷ []) (omega arith) (bytes-cons (bit b) [] (omega arith) bytes-none)
 bytes-leaf (l-number k) g = bytes-cons 2 (bytes 8 k) (omega arith) (bytes-key 8 k)
+bytes-leaf (l-decimal k p) g = let h = g .1 in bytes-cons 16 (bytes 8 k ++ (p ∷ [])) (omega arith) (bytes-number 8 k (p ∷ []) (bytes-cons p [] (omega arith) bytes-none))
 bytes-leaf (l-string n) g = bytes-cons 3 (bytes nameWidth n) (omega arith) (bytes-key nameWidth n)
 bytes-leaf (l-temporal t k) g = let h = code-small-temporal t in bytes-cons (4 + codeTemporal t) (bytes 8 k) (omega arith) (bytes-key 8 k)
 

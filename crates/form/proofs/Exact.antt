@@ -1,6 +1,6 @@
 -- What a reader accepts is exactly an encoding: the laws of the combinators and of the runs, whatever is read.
 -- Idea: two directions. An encoding is read back whatever follows it; what was read is taken apart, and its parts are encodings (`Found`, `Sound`).
--- Index: `front-read`, `then-read`, `item-read`, `named-read`, `operand-read`, `counted-read` (read back); `front-parts`, `then-parts`, `operand-parts`, `orElse-parts` (taken apart);
+-- Index: `front-read`, `then-read`, `item-read`, `named-read`, `operand-read`, `counted-read` (read back); `front-parts`, `then-parts`, `operand-parts`, `flag-parts`, `orElse-parts` (taken apart);
 -- `front-found`, `then-found`, `found-behind` (an encoding from its parts); `run-sound`, `named-sound`, `counted-sound` (runs, from `RunLaws` and `NamedLaws`).
 -- Assumes nothing.
 use Prim.Native.Nat.{ℕ, zero, suc, _+_, _<_, _≤_, _^_, max}
@@ -12,9 +12,10 @@ use lib.ListN.{length, take, drop, length-append, take-append-drop}
 use lib.Seq.{drop-append-seam}
 use lib.Dec.{leb}
 use borrow.Author.Tests.{le-leb, leb-true}
+use Rattle.form.specs.Trees.{Val}
 use Rattle.form.specs.Limits.{nameWidth, nameEnd}
 use Rattle.form.specs.Form.{bytes, num, Bytes}
-use Rattle.form.specs.Read.{Got, got, bad, front, andThen, orElse, operand, named, readRun, readNamed, counted}
+use Rattle.form.specs.Read.{Got, got, bad, front, andThen, orElse, operand, named, readRun, readNamed, readFlag, counted}
 use Rattle.form.specs.Faults.{Fault, Shape, Names}
 use Rattle.form.proofs.First.{length-front, operand-front}
 use Rattle.form.proofs.Numbers.{num-below, bytes-num, bytes-take, take-length}
@@ -105,6 +106,13 @@ pub operand-parts : {X : Type 0} {P : Type 0} (k : ℕ) (more : ℕ → List ℕ
     → (k ≤ length s → more (num (take k s)) (drop k s) ≡ got x n → P) → P
 unfolding operand
 operand-parts k more s x n e f = orElse-parts Shape (leb k (length s)) (more (num (take k s)) (drop k s)) x n e (λ t q. f (leb-true k (length s) t) q)
+
+-- one operand byte was there
+pub flag-parts : {P : Type 0} (m : ℕ) (mk : ℕ → Val) (s : List ℕ) (v : Val) (n : ℕ) → readFlag m mk s ≡ got v n
+    → ((x : ℕ) (r : List ℕ) → s ≡ x ∷ r → x ≤ m → mk x ≡ v → 2 ≡ n → P) → P
+unfolding readFlag
+flag-parts m mk [] v n e k = absurd (bad-got e)
+flag-parts m mk (x ∷ s) v n e k = orElse-parts Shape (leb x m) (got (mk x) 2) v n e (λ t e₁. got-parts (mk x) v 2 n e₁ (λ p q. k x s refl (leb-true x m t) p q))
 
 pub operand-below : (k : ℕ) (s : List ℕ) → Bytes s → k ≤ length s → num (take k s) < 256 ^ k
 operand-below k s bs h = num-below k (take k s) (take-length k s h) (bytes-take k s bs)

@@ -5,28 +5,28 @@
 use Prim.Native.Nat.{ℕ, zero, suc, _+_, _-_, _<_, _≤_, _^_}
 use mathlib.Core.Path.{_≡_, refl, sym, ap, ap₂, _∙_}
 use mathlib.Core.Bool.{Bool, true, false}
-use mathlib.Core.List.{List, [], _∷_, _++_, append-nil}
+use mathlib.Core.List.{List, [], _∷_, _++_, append-nil, append-assoc}
 use native.Mathlib.Omega.{arith}
 use lib.ListN.{length, take, drop, take-append-drop}
 use lib.Dec.{leb, eqb}
 use borrow.Author.Tests.{le-leb, leb-true}
-use Rattle.form.specs.Trees.{Ty, Temporal, on-date, at-time, at-dateTime, for-daysAndTime, for-yearsAndMonths, Leaf, l-null, l-boolean, l-number, l-string, l-temporal, Params, no-parameters}
+use Rattle.form.specs.Trees.{Ty, Temporal, on-date, at-time, at-dateTime, for-daysAndTime, for-yearsAndMonths, Leaf, l-null, l-boolean, l-number, l-decimal, l-string, l-temporal, Params}
 use Rattle.form.specs.Trees.{parameter, Val, v-leaf, v-range, v-list, v-context, v-function, v-built-in, v-type, v-irrelevant, Vals, no-items, item, Entries, no-entries, entry, codeTemporal}
-use Rattle.form.specs.Trees.{decodeTemporal}
-use Rattle.form.specs.Limits.{nameWidth}
+use Rattle.form.specs.Trees.{no-parameters, decodeTemporal}
+use Rattle.form.specs.Limits.{nameWidth, mostExponent}
 use Rattle.form.specs.Form.{bytes, num, bit, Bytes, enc, encParams, encLeaf, encV, encVals, encEntries, level, levelParams, levelV, levelVals, levelEntries, Wf, WfParams, WfLeaf, WfV, WfVals}
 use Rattle.form.specs.Form.{WfEntries, countParams, countVals, countEntries}
 use Rattle.form.specs.Layout.{ValueKind, Kind, kindOf}
 use Rattle.form.specs.Read.{Got, got, front, andThen, orElse, readRun, readNamed, readVals, readEntries, readParams, ascending, anyOrder, readFlag, readKey, readRange, signature, readDefinition}
-use Rattle.form.specs.Read.{readT, stepValue, stepV, readV}
+use Rattle.form.specs.Read.{readT, readDecimal, stepValue, stepV, readV}
 use Rattle.form.specs.Faults.{Shape}
-use Rattle.form.proofs.CommandKinds.{ViewV, isNull, isBoolean, isNumber, isString, isTemporal, isRange, isList, isContext, isDefinition, isBuiltIn, isFeelType, isIrrelevant}
+use Rattle.form.proofs.CommandKinds.{ViewV, isNull, isBoolean, isNumber, isString, isTemporal, isRange, isList, isContext, isDefinition, isBuiltIn, isFeelType, isIrrelevant, isDecimal}
 use Rattle.form.proofs.CommandKinds.{View, isValue, isType}
 use Rattle.form.proofs.CommandKinds.{isGap, isBeyond, view, kind-temporal}
 use Rattle.form.proofs.First.{length-front}
 use Rattle.form.proofs.Exact.{got-is, bad-got, bytes-head, bytes-drop, operand-read, front-read, then-read, item-read, named-read, counted-read, Found, Sound, found-as}
-use Rattle.form.proofs.Exact.{orElse-parts, got-parts, operand-parts, operand-below, operand-bytes, front-parts, then-parts, front-found, then-found, found-behind, RunLaws, run-sound}
-use Rattle.form.proofs.Exact.{NamedLaws, named-sound, counted-sound}
+use Rattle.form.proofs.Exact.{orElse-parts, got-parts, operand-parts, operand-below, operand-bytes, flag-parts, front-parts, then-parts, front-found, then-found, found-behind, RunLaws}
+use Rattle.form.proofs.Exact.{run-sound, NamedLaws, named-sound, counted-sound}
 use Rattle.form.proofs.ExactTypes.{read-enc, enc-read}
 use Rattle.form.proofs.Numbers.{length-bytes, take-length}
 
@@ -81,11 +81,19 @@ temporal-enc t k l rest g =
     let z = length-bytes 8 k in
     rw (kind-temporal (4 + codeTemporal t) (omega arith) (omega arith), e, decode-code t) (key-read 8 (λ x. v-leaf (l-temporal t x)) k rest g ∙ got-is (omega arith))
 
+decimal-enc : (k p : ℕ) (rest : List ℕ) → k < 256 ^ 8 → p ≤ mostExponent → readDecimal ((bytes 8 k ++ (p ∷ [])) ++ rest) ≡ got (v-leaf (l-decimal k p)) (suc (length (bytes 8 k ++ (p ∷ []))))
+unfolding readDecimal front
+decimal-enc k p rest g h =
+    let z = length-front 8 k (p ∷ []) in
+    operand-read 8 (λ c r. front (λ v. v) 8 (readFlag mostExponent (λ q. v-leaf (l-decimal c q)) r)) k (p ∷ []) rest g
+    ∙ rw (flag-read mostExponent (λ q. v-leaf (l-decimal k q)) p rest h) (got-is (omega arith))
+
 leaf-enc : (x : Leaf) (l : ℕ) (rest : List ℕ) → WfLeaf x → readV (suc l) (encLeaf x ++ rest) ≡ got (v-leaf x) (length (encLeaf x))
 unfolding readV stepV stepValue kindOf encLeaf WfLeaf
 leaf-enc (l-null t) l rest g = flag-read 3 (λ x. v-leaf (l-null x)) t rest g
 leaf-enc (l-boolean b) l rest g = flag-read 1 (λ x. v-leaf (l-boolean (eqb x 1))) (bit b) rest (bit-small b) ∙ ap (λ (y : Bool). got (v-leaf (l-boolean y)) 2) (bit-back b)
 leaf-enc (l-number k) l rest g = key-read 8 (λ x. v-leaf (l-number x)) k rest g ∙ got-is (let e = length-bytes 8 k in omega arith)
+leaf-enc (l-decimal k p) l rest g = decimal-enc k p rest (g .0) (g .1)
 leaf-enc (l-string n) l rest g = key-read nameWidth (λ x. v-leaf (l-string x)) n rest g ∙ got-is (let e = length-bytes nameWidth n in omega arith)
 leaf-enc (l-temporal t k) l rest g =
     temporal-enc t k l rest g
@@ -250,6 +258,24 @@ module _ (child : List ℕ → Got Val) (type : List ℕ → Got Ty) (l : ℕ) (
       let d : b ≡ 4 + codeTemporal (decodeTemporal (b - 4)) = omega arith in
       key-sound l 8 (λ x. v-leaf (l-temporal (decodeTemporal (b - 4)) x)) (4 + codeTemporal (decodeTemporal (b - 4))) (λ x. refl) (λ x g. g) (λ x. refl) b d s bs v n eq
 
+  decimal-sound : (b : ℕ) (s : List ℕ) → b ≡ 16 → Bytes s → (v : Val) (n : ℕ) → readDecimal s ≡ got v n → Found encV WfV levelV (suc l) (b ∷ s) v n
+  unfolding readDecimal encV encLeaf levelV WfV WfLeaf
+  decimal-sound b s be bs v n eq =
+      let k = num (take 8 s) in
+      operand-parts 8 (λ c r. front (λ w. w) 8 (readFlag mostExponent (λ q. v-leaf (l-decimal c q)) r)) s v n eq (λ h eq₁.
+      front-parts (λ w. w) 8 (readFlag mostExponent (λ q. v-leaf (l-decimal k q)) (drop 8 s)) v n eq₁ (λ x m px pz pn.
+      flag-parts mostExponent (λ q. v-leaf (l-decimal k q)) (drop 8 s) x m px (λ p r d q xe me.
+      let z = length-front 8 k (p ∷ []) in
+      let f : s ≡ (bytes 8 k ++ (p ∷ [])) ++ r =
+      sym (take-append-drop 8 s) ∙ ap₂ (λ (a c : List ℕ). a ++ c) (sym (operand-bytes 8 s bs h)) d ∙ sym (append-assoc (bytes 8 k) (p ∷ []) r) in
+      found-as (xe ∙ pz) refl (record {
+        rest = r;
+        bytes = ap₂ (λ (a : ℕ) (c : List ℕ). a ∷ c) be f;
+        took = omega (arith, me, pn);
+        well = (operand-below 8 s bs h, q);
+        low = omega arith;
+      }))))
+
   value-sound : (b : ℕ) (s : List ℕ) → Bytes s → (k : ValueKind) → ViewV b k → (v : Val) (n : ℕ) → stepValue child type k b s ≡ got v n → Found encV WfV levelV (suc l) (b ∷ s) v n
   unfolding stepValue encV encLeaf levelV WfV WfLeaf
   value-sound b s bs k (isNull p) v n e = flag-sound l 3 (λ x. v-leaf (l-null x)) 0x00 (λ x h. refl) (λ x h. h) (λ x. refl) b p s v n e
@@ -266,6 +292,7 @@ module _ (child : List ℕ → Got Val) (type : List ℕ → Got Ty) (l : ℕ) (
   value-sound b s bs k (isBuiltIn p) v n e = flag-sound l 85 v-built-in 0x0D (λ x h. refl) (λ x h. h) (λ x. refl) b p s v n e
   value-sound b s bs k (isFeelType p) v n e = type-sound b s p bs v n e
   value-sound b s bs k (isIrrelevant p) v n e = irrelevant-sound b s p v n e
+  value-sound b s bs k (isDecimal p) v n e = decimal-sound b s p bs v n e
 
   step-sound : (b : ℕ) (s : List ℕ) → Bytes s → (k : Kind) → View b k → (v : Val) (n : ℕ) → stepV child type k b s ≡ got v n → Found encV WfV levelV (suc l) (b ∷ s) v n
   unfolding stepV

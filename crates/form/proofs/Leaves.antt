@@ -1,25 +1,27 @@
 -- The short ways past leaves are exact. A leaf that was read has its command and its operands at the front (from the reader's nodes), so there is
 -- none where one of them is missing; where all are there it is read (from the walk's laws), and its node says that it is a leaf.
--- Index: `simple-none`, `simple-some` (a simple type); `LeafHere`, `leaf-none`, `leaf-some`, `key-end` (a leaf of data).
+-- Index: `simple-none`, `simple-some` (a simple type); `LeafHere`, `leaf-none`, `leaf-some`, `leaf-bounded`, `leaf-within`, `leaf-away`,
+-- `temporal-bound` (a leaf of data).
 -- Assumes nothing.
 use Prim.Native.Nat.{ℕ, _+_, _-_, _<_, _≤_}
-use mathlib.Core.Path.{_≡_, refl, sym, ap, _∙_}
-use mathlib.Core.Bool.{Bool, true, false}
+use mathlib.Core.Path.{_≡_, refl, sym, ap, subst, _∙_}
+use mathlib.Core.Bool.{Bool, true, false, _&&_}
 use mathlib.Core.List.{List}
 use native.Mathlib.Omega.{arith}
 use lib.ListN.{length, getD, drop, length-drop}
 use lib.Seq.{getD-drop}
-use borrow.Author.Tests.{ne-eqb}
-use Rattle.form.specs.Trees.{Ty, Val, simple, isDataLeaf}
+use lib.Dec.{leb}
+use borrow.Author.Tests.{leb-true, leb-false, le-leb, ne-eqb}
+use Rattle.form.specs.Trees.{Ty, Val, simple, isShortLeaf}
 use Rattle.form.specs.Form.{levelV}
 use Rattle.form.specs.Layout.{ValueKind, tSimple, ofType, kindOf, operands, operandsV, widthOf}
 use Rattle.form.specs.Read.{Got, got, bad, readT, stepType, stepT, readV}
-use Rattle.form.specs.Walks.{walkOf, leafIn, Short, operandEnd}
+use Rattle.form.specs.Walks.{walkOf, leafIn, Short, sizeWithin, sizeBounded, operandEnd}
 use Rattle.form.specs.Walks as walk
-use Rattle.form.proofs.CommandKinds.{kind-simple, key-width}
+use Rattle.form.proofs.CommandKinds.{kind-simple, key-width, leaf-low}
 use Rattle.form.proofs.Runs.{end-stop, first-at}
 use Rattle.form.proofs.Nodes.{NodeT, nSimple, nList, nRange, nContext, nFunction, type-read, value-read}
-use Rattle.form.proofs.Nodes.{NodeV, nNull, nBoolean, nNumber, nString, nTemporal, nRangeV, nListV, nContextV, nDefinition, nBuiltIn, nType, nIrrelevant}
+use Rattle.form.proofs.Nodes.{NodeV, nNull, nBoolean, nNumber, nString, nTemporal, nRangeV, nListV, nContextV, nDefinition, nBuiltIn, nType, nIrrelevant, nDecimal}
 use Rattle.form.proofs.TypeLaws.{t-step}
 use Rattle.form.proofs.ValueLaws.{leaf-is}
 
@@ -69,7 +71,7 @@ module _ (l : ℕ) (s : List ℕ) (at : ℕ) where
       let k : kindOf (getD (drop at s) 0 0) ≡ ofType tSimple = kind-simple (getD (drop at s) 0 0) (omega arith) (omega arith) in
       record { size = rw (t-step l (drop at s) (simp length-drop (omega arith)) p, k); room = omega arith }
 
--- ---- a leaf of data: its command b, the byte x behind it, in len bytes
+-- ---- a leaf of data but a decimal, of n bytes: its command b, its last operand byte x, in len bytes
 pub record LeafHere (b x len n : ℕ) : Type 0 where
   pub command : b < 9
   pub wide : n ≡ widthOf b + 1
@@ -79,16 +81,17 @@ pub record LeafHere (b x len n : ℕ) : Type 0 where
 
 -- what was read is such a leaf, or its command is another
 data Judged (s : List ℕ) (v : Val) (n : ℕ) : Type 0 where
-  a-leaf : isDataLeaf v ≡ true → LeafHere (getD s 0 0) (getD s 1 0) (length s) n → Judged s v n
-  no-leaf : isDataLeaf v ≡ false → 9 ≤ getD s 0 0 → Judged s v n
+  a-leaf : isShortLeaf v ≡ true → LeafHere (getD s 0 0) (getD s (n - 1) 0) (length s) n → Judged s v n
+  no-leaf : isShortLeaf v ≡ false → 9 ≤ getD s 0 0 → Judged s v n
 
 -- by the command
 here : (b c x len n : ℕ) → b ≡ c → LeafHere c x len n → LeafHere b x len n
 here b c x len n e h = rw e h
 
-pub key-end : (b x : ℕ) → 2 ≤ b → x ≤ 255 → x ≤ operandEnd b
+-- the bound of a temporal's last byte
+pub temporal-bound : (b : ℕ) → 4 ≤ b → b < 9 → operandEnd b ≡ 255
 unfolding operandEnd
-key-end b x h k = rw (ne-eqb b 0 (λ e. omega arith), ne-eqb b 1 (λ e. omega arith)) k
+temporal-bound b h i = rw (ne-eqb b 0 (λ e. omega arith), ne-eqb b 1 (λ e. omega arith), ne-eqb b 16 (λ e. omega arith))
 
 judged : {j : ValueKind} (left : ℕ) (s : List ℕ) (v : Val) (n : ℕ) → NodeV left s j v n → Judged s v n
 unfolding widthOf kindOf operands operandsV operandEnd
@@ -101,8 +104,7 @@ judged left s v n (nTemporal c d k) = a-leaf refl (record {
   wide = omega (arith, key-width (getD s 0 0) c d);
   two = omega arith;
   room = k;
-  operand = key-end (getD s 0 0) (getD s 1 0)
-      (omega arith);
+  operand = λ x. omega (arith, temporal-bound (getD s 0 0) c d);
 })
 judged left s v n (nRangeV c k x y a m p b j q) = no-leaf refl (omega arith)
 judged left s v n (nListV c k vs m p) = no-leaf refl (omega arith)
@@ -111,34 +113,66 @@ judged left s v n (nDefinition c k t m p ps j q) = no-leaf refl (omega arith)
 judged left s v n (nBuiltIn c k x) = no-leaf refl (omega arith)
 judged left s v n (nType c t m p) = no-leaf refl (omega arith)
 judged left s v n (nIrrelevant c) = no-leaf refl (omega arith)
+judged left s v n (nDecimal c k x) = no-leaf refl (omega arith)
 
 module _ (l : ℕ) (s : List ℕ) (at : ℕ) where
-  pub leaf-none : (0 < l → at < length s → (n : ℕ) → LeafHere (getD s at 0) (getD s (at + 1) 0) (length s - at) n → ⊥) → Short isDataLeaf (readV l (drop at s)) 0 (length s - at)
-  leaf-none away = record { size = none-in isDataLeaf (readV l (drop at s)) clash; room = omega arith }
+  pub leaf-none : (0 < l → at < length s → (n : ℕ) → LeafHere (getD s at 0) (getD s (at + n - 1) 0) (length s - at) n → ⊥) → Short isShortLeaf (readV l (drop at s)) 0 (length s - at)
+  leaf-none away = record { size = none-in isShortLeaf (readV l (drop at s)) clash; room = omega arith }
     where
-      clash : (v : Val) (n : ℕ) → readV l (drop at s) ≡ got v n → isDataLeaf v ≡ true → ⊥
+      clash : (v : Val) (n : ℕ) → readV l (drop at s) ≡ got v n → isShortLeaf v ≡ true → ⊥
       clash v n e z =
           let R = value-read l (drop at s) v n e in
           let k = simp length-drop at (R .some-byte) in
           go (R .some-level) (omega arith) (judged (l - 1) (drop at s) v n (R .node))
         where
           go : 0 < l → at < length s → Judged (drop at s) v n → ⊥
-          go p h (a-leaf t f) = away p h n (rw (first-at s at, getD-drop at s 1 0, length-drop at s) at f)
+          go p h (a-leaf t f) =
+              let k : at + (n - 1) ≡ at + n - 1 = omega (arith, f .two) in
+              away p h n (rw (first-at s at, getD-drop at s (n - 1) 0, length-drop at s, k) at f)
           go p h (no-leaf t f) = differ (sym t ∙ z)
 
   pub leaf-some : (n : ℕ) → 0 < l → at < length s → getD s at 0 < 9 → n ≡ widthOf (getD s at 0) + 1 → n ≤ length s - at
-      → getD s (at + 1) 0 ≤ operandEnd (getD s at 0) → Short isDataLeaf (readV l (drop at s)) n (length s - at)
+      → getD s (at + n - 1) 0 ≤ operandEnd (getD s at 0) → Short isShortLeaf (readV l (drop at s)) n (length s - at)
   leaf-some n p h c w r q =
       let d : length (drop at s) ≡ length s - at = length-drop at s in
       let a : getD (drop at s) 0 0 ≡ getD s at 0 = first-at s at in
-      let b : getD (drop at s) 1 0 ≡ getD s (at + 1) 0 = getD-drop at s 1 0 in
+      let k : at + widthOf (getD s at 0) ≡ at + n - 1 = omega (arith, w) in
+      let b : getD (drop at s) (widthOf (getD (drop at s) 0 0)) 0 ≡ getD s (at + n - 1) 0 = rw a (getD-drop at s (widthOf (getD s at 0)) 0 ∙ ap (λ (j : ℕ). getD s j 0) k) in
       let o : widthOf (getD (drop at s) 0 0) ≤ length (drop at s) - 1 = rw (a, d) (omega (arith, w)) in
-      let e = leaf-is l (drop at s) (rw d (omega arith)) p o (rw (a, b) q) (rw a c) in
-      record { size = w ∙ ap (λ (z : ℕ). widthOf z + 1) (sym a) ∙ size-in levelV isDataLeaf (readV l (drop at s)) _ 1 e leafy; room = r }
+      let e = leaf-is l (drop at s) (rw d (omega arith)) p o (rw (b, a) q) (leaf-low (getD (drop at s) 0 0) (omega arith)) in
+      record { size = w ∙ ap (λ (z : ℕ). widthOf z + 1) (sym a) ∙ size-in levelV isShortLeaf (readV l (drop at s)) _ 1 e leafy; room = r }
     where
-      leafy : (v : Val) (m : ℕ) → readV l (drop at s) ≡ got v m → isDataLeaf v ≡ true
+      leafy : (v : Val) (m : ℕ) → readV l (drop at s) ≡ got v m → isShortLeaf v ≡ true
       leafy v m e = go (judged (l - 1) (drop at s) v m (value-read l (drop at s) v m e .node))
         where
-          go : Judged (drop at s) v m → isDataLeaf v ≡ true
+          go : Judged (drop at s) v m → isShortLeaf v ≡ true
           go (a-leaf t f) = t
           go (no-leaf t f) = absurd (let a = first-at s at in omega arith)
+
+and-true : (b : Bool) → b && true ≡ b
+and-true true = refl
+and-true false = refl
+
+-- ---- from the tests of the code: a leaf of n bytes by its command
+module _ (l : ℕ) (s : List ℕ) (at n : ℕ) (p : 0 < l) (h : at < length s) (c : getD s at 0 < 9) (w : n ≡ widthOf (getD s at 0) + 1) (y : getD s (at + n - 1) 0 ≤ 255) where
+  pub leaf-bounded : (r m : ℕ) → r ≡ sizeBounded n (length s - at) (getD s (at + n - 1) 0) m → m ≡ operandEnd (getD s at 0) → Short isShortLeaf (readV l (drop at s)) r (length s - at)
+  leaf-bounded r m e k = go (leb n (length s - at)) refl (leb (getD s (at + n - 1) 0) m) refl
+    where
+      known : (z : ℕ) → r ≡ z → Short isShortLeaf (readV l (drop at s)) z (length s - at) → Short isShortLeaf (readV l (drop at s)) r (length s - at)
+      known z q f = subst (λ (j : ℕ). Short isShortLeaf (readV l (drop at s)) j (length s - at)) (sym q) f
+
+      go : (a : Bool) → leb n (length s - at) ≡ a → (b : Bool) → leb (getD s (at + n - 1) 0) m ≡ b → Short isShortLeaf (readV l (drop at s)) r (length s - at)
+      go true a true b = known n (rw (a, b) at e) (leaf-some l s at n p h c w (leb-true n (length s - at) a) (omega (arith, leb-true (getD s (at + n - 1) 0) m b)))
+      go true a false b = known 0 (rw (a, b) at e) (leaf-none l s at (λ _ _ j f.
+          let z : j ≡ n = omega (arith, f .wide, w) in
+          let x : getD s (at + j - 1) 0 ≡ getD s (at + n - 1) 0 = ap (λ (i : ℕ). getD s (at + i - 1) 0) z in
+          omega (arith, x, f .operand (omega (arith, x)), leb-false (getD s (at + n - 1) 0) m b)))
+      go false a b _ = known 0 (rw a at e) (leaf-none l s at (λ _ _ j f. omega (arith, f .wide, w, f .room, leb-false n (length s - at) a)))
+
+  -- its last byte is any
+  pub leaf-within : (r : ℕ) → r ≡ sizeWithin n (length s - at) → operandEnd (getD s at 0) ≡ 255 → Short isShortLeaf (readV l (drop at s)) r (length s - at)
+  leaf-within r e k = leaf-bounded r 255 (e ∙ rw (le-leb (getD s (at + n - 1) 0) 255 y, and-true (leb n (length s - at)))) (sym k)
+
+-- no leaf's command
+pub leaf-away : (l : ℕ) (s : List ℕ) (at : ℕ) → 9 ≤ getD s at 0 → Short isShortLeaf (readV l (drop at s)) 0 (length s - at)
+leaf-away l s at c = leaf-none l s at (λ p h n f. omega (arith, f .command))

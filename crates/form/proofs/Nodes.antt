@@ -3,23 +3,25 @@
 -- Index: `TypeRead`, `NodeT`, `type-read` (a type); `ValueRead`, `NodeV`, `value-read`, `node-of` (a value); `item-parts`, `named-parts` (the first child of a run).
 -- Assumes nothing.
 use Prim.Native.Nat.{ℕ, zero, suc, _+_, _-_, _<_, _≤_}
-use mathlib.Core.Path.{_≡_, refl, sym, subst, _∙_}
+use mathlib.Core.Path.{_≡_, refl, sym, ap, subst, _∙_}
 use mathlib.Core.List.{List, [], _∷_}
 use native.Mathlib.Omega.{arith}
-use lib.ListN.{length, getD, take, drop}
+use lib.ListN.{length, getD, take, drop, length-drop}
+use lib.Seq.{getD-drop}
 use lib.Dec.{leb, eqb}
 use borrow.Author.Tests.{leb-true}
-use Rattle.form.specs.Trees.{Ty, leaf, built, list, range, context, function, Fields, Tys, l-null, l-boolean, l-number, l-string, l-temporal, Params, Val, v-leaf, v-range, v-list, v-context}
-use Rattle.form.specs.Trees.{v-function, v-built-in, v-type, v-irrelevant, Vals, Entries, decode, decodeTemporal}
-use Rattle.form.specs.Limits.{nameWidth}
+use Rattle.form.specs.Trees.{Ty, leaf, built, list, range, context, function, Fields, Tys, l-null, l-boolean, l-number, l-decimal, l-string, l-temporal, Params, Val, v-leaf, v-range, v-list}
+use Rattle.form.specs.Trees.{v-context, v-function, v-built-in, v-type, v-irrelevant, Vals, Entries, decode, decodeTemporal}
+use Rattle.form.specs.Limits.{nameWidth, mostExponent}
 use Rattle.form.specs.Form.{num, numAt}
-use Rattle.form.specs.Layout.{ValueKind, kNull, kBoolean, kNumber, kString, kTemporal, kRange, kList, kContext, kDefinition, kBuiltIn, kType, kIrrelevant, TypeKind, Kind, ofValue, kindOf}
+use Rattle.form.specs.Layout.{ValueKind, kNull, kBoolean, kNumber, kString, kTemporal, kRange, kList, kContext, kDefinition, kBuiltIn, kType, kIrrelevant, kDecimal, TypeKind, Kind}
+use Rattle.form.specs.Layout.{ofValue, kindOf}
 use Rattle.form.specs.Read.{Got, got, front, andThen, orElse, named, readRun, readNamed, readFields, readTys, readVals, readEntries, readParams, readFlag, readKey, counted, readFunction}
-use Rattle.form.specs.Read.{readRange, signature, readDefinition, stepType, stepT, readT, stepValue, stepV, readV}
+use Rattle.form.specs.Read.{readRange, signature, readDefinition, readDecimal, stepType, stepT, readT, stepValue, stepV, readV}
 use Rattle.form.specs.Faults.{Shape, Names}
-use Rattle.form.proofs.CommandKinds.{ViewV, isNull, isBoolean, isNumber, isString, isTemporal, isRange, isList, isContext, isDefinition, isBuiltIn, isFeelType, isIrrelevant, ViewT, isSimpleT}
-use Rattle.form.proofs.CommandKinds.{isListT, isRangeT, isContextT, isFunctionT, View, isValue, isType, isGap, isBeyond, view}
-use Rattle.form.proofs.Exact.{bad-got, orElse-parts, got-parts, operand-parts, front-parts, then-parts}
+use Rattle.form.proofs.CommandKinds.{ViewV, isNull, isBoolean, isNumber, isString, isTemporal, isRange, isList, isContext, isDefinition, isBuiltIn, isFeelType, isIrrelevant, isDecimal, ViewT}
+use Rattle.form.proofs.CommandKinds.{isSimpleT, isListT, isRangeT, isContextT, isFunctionT, View, isValue, isType, isGap, isBeyond, view}
+use Rattle.form.proofs.Exact.{bad-got, orElse-parts, got-parts, operand-parts, flag-parts, front-parts, then-parts}
 
 -- ---- runs
 pub item-parts : {X R : Type 0} {P : Type 0} (nil : R) (cons : X → R → R) (child : List ℕ → Got X) (c : ℕ) (s : List ℕ) (r : R) (n : ℕ) → readRun nil cons child (suc c) s ≡ got r n
@@ -108,6 +110,7 @@ pub data NodeV (left : ℕ) (s : List ℕ) : ValueKind → Val → ℕ → Type 
   nBuiltIn : getD s 0 0 ≡ 13 → 2 ≤ length s → getD s 1 0 ≤ 85 → NodeV left s kBuiltIn (v-built-in (getD s 1 0)) 2
   nType : getD s 0 0 ≡ 14 → (t : Ty) (n : ℕ) → readT left (drop 1 s) ≡ got t n → NodeV left s kType (v-type t) (1 + n)
   nIrrelevant : getD s 0 0 ≡ 15 → NodeV left s kIrrelevant v-irrelevant 1
+  nDecimal : getD s 0 0 ≡ 16 → 10 ≤ length s → getD s 9 0 ≤ mostExponent → NodeV left s kDecimal (v-leaf (l-decimal (numAt 8 1 s) (getD s 9 0))) 10
 
 pub record ValueRead (l : ℕ) (s : List ℕ) (v : Val) (n : ℕ) : Type 0 where
   pub some-level : 0 < l
@@ -121,14 +124,27 @@ as-nodeV p q f = rw (← p, ← q) f
 
 flag-node : {j : ValueKind} (l b m : ℕ) (mk : ℕ → Val) (s : List ℕ) (v : Val) (n : ℕ) → readFlag m mk s ≡ got v n
     → (2 ≤ length (b ∷ s) → getD (b ∷ s) 1 0 ≤ m → NodeV l (b ∷ s) j (mk (getD (b ∷ s) 1 0)) 2) → NodeV l (b ∷ s) j v n
-unfolding readFlag
-flag-node l b m mk [] v n e k = absurd (bad-got e)
-flag-node l b m mk (x ∷ s) v n e k = orElse-parts Shape (leb x m) (got (mk x) 2) v n e (λ t e₁. got-parts (mk x) v 2 n e₁ (λ p q. as-nodeV p q (k (omega arith) (leb-true x m t))))
+flag-node l b m mk s v n e k =
+    flag-parts m mk s v n e (λ x r d h p q.
+    let y : getD (b ∷ s) 1 0 ≡ x = ap (λ (z : List ℕ). getD z 0 0) d in
+    let z : length s ≡ suc (length r) = ap length d in
+    as-nodeV (ap mk y ∙ p) q (k (omega arith) (omega (arith, y))))
 
 key-node : {j : ValueKind} (l b c : ℕ) (mk : ℕ → Val) (s : List ℕ) (v : Val) (n : ℕ) → readKey c mk s ≡ got v n → (1 + c ≤ length (b ∷ s) → NodeV l (b ∷ s) j (mk (num (take c s))) (1 + c))
     → NodeV l (b ∷ s) j v n
 unfolding readKey
 key-node l b c mk s v n e k = operand-parts c (λ x r. got (mk x) (1 + c)) s v n e (λ h e₁. got-parts (mk (num (take c s))) v (1 + c) n e₁ (λ p q. as-nodeV p q (k (omega arith))))
+
+decimal-node : (l b : ℕ) (s : List ℕ) → b ≡ 16 → (v : Val) (n : ℕ) → readDecimal s ≡ got v n → NodeV l (b ∷ s) kDecimal v n
+unfolding readDecimal
+decimal-node l b s be v n e =
+    let k = num (take 8 s) in
+    operand-parts 8 (λ c r. front (λ w. w) 8 (readFlag mostExponent (λ q. v-leaf (l-decimal c q)) r)) s v n e (λ h e₁.
+    front-parts (λ w. w) 8 (readFlag mostExponent (λ q. v-leaf (l-decimal k q)) (drop 8 s)) v n e₁ (λ x m px pz pn.
+    flag-parts mostExponent (λ q. v-leaf (l-decimal k q)) (drop 8 s) x m px (λ p r d q xe me.
+    let y : getD (b ∷ s) 9 0 ≡ p = sym (getD-drop 8 s 0 0) ∙ ap (λ (z : List ℕ). getD z 0 0) d in
+    let z : length s - 8 ≡ suc (length r) = sym (length-drop 8 s) ∙ ap length d in
+    as-nodeV (ap (λ (a : ℕ). v-leaf (l-decimal k a)) y ∙ xe ∙ pz) (omega (arith, me, pn)) (nDecimal be (omega arith) (omega (arith, y))))))
 
 range-node : (l b : ℕ) (s : List ℕ) → b ≡ 9 → (v : Val) (n : ℕ) → readRange (readV l) s ≡ got v n → NodeV l (b ∷ s) kRange v n
 unfolding readRange
@@ -173,6 +189,7 @@ value-node l b s k (isDefinition p) v n e = definition-node l b s p v n e
 value-node l b s k (isBuiltIn p) v n e = flag-node l b 85 v-built-in s v n e (nBuiltIn p)
 value-node l b s k (isFeelType p) v n e = front-parts v-type 1 (readT l s) v n e (λ u m px pz pn. as-nodeV pz pn (nType p u m px))
 value-node l b s k (isIrrelevant p) v n e = got-parts v-irrelevant v 1 n e (λ x y. as-nodeV x y (nIrrelevant p))
+value-node l b s k (isDecimal p) v n e = decimal-node l b s p v n e
 
 step-nodeV : (l b : ℕ) (s : List ℕ) (k : Kind) → View b k → (v : Val) (n : ℕ) → stepV (readV l) (readT l) k b s ≡ got v n → (j : ValueKind) × (k ≡ ofValue j) × NodeV l (b ∷ s) j v n
 unfolding stepV

@@ -1,34 +1,34 @@
 -- The reader of values in the terms of the code: what its walk says by the length, the level that is left and the command.
 -- Idea: one step of `readV`, and the laws of Runs at the kind of the command.
--- Index: `v-none`, `v-level`, `v-step`, `step-short`, `v-short`, `v-other` (the start); `v-null`, `v-boolean`, `v-key`, `v-built-in-is`, `v-irrelevant-is`, `leaf-is` (leaves);
+-- Index: `v-none`, `v-level`, `v-step`, `step-short`, `v-short`, `v-other` (the start); `v-leaf-is`, `leaf-is`, `v-built-in-is`, `v-irrelevant-is` (leaves);
 -- `v-range-is`, `v-list-is`, `v-context-is`, `v-definition`, `v-type-is` (parents); `vals-law`, `entries-law`, `params-law`, `value-level`, `leaf-level` (levels).
 -- Assumes nothing.
 use Prim.Native.Nat.{ℕ, zero, suc, _+_, _-_, _<_, _≤_, max}
 use mathlib.Core.Path.{_≡_, refl, sym, ap, _∙_}
-use mathlib.Core.Bool.{Bool, true, false}
+use mathlib.Core.Bool.{Bool, true, false, false≢true}
 use mathlib.Core.List.{List, [], _∷_}
 use native.Mathlib.Omega.{arith}
-use lib.ListN.{length, getD, drop, length-drop}
+use lib.ListN.{length, getD, take, drop, length-drop}
 use lib.Seq.{getD-drop, drop-drop}
 use lib.Dec.{leb, eqb}
-use borrow.Author.Tests.{le-leb, lt-leb}
-use Rattle.form.specs.Trees.{Ty, Params, no-parameters, parameter, l-null, l-boolean, l-number, l-string, l-temporal, Val, v-leaf, v-range, v-list, v-context, v-function, v-built-in, v-type}
-use Rattle.form.specs.Trees.{v-irrelevant, Vals, no-items, item, Entries, no-entries, entry, isDataLeaf, decodeTemporal}
-use Rattle.form.specs.Form.{numAt, level, levelParams, levelTys, levelV, levelVals, levelEntries}
-use Rattle.form.specs.Layout.{ValueKind, kNull, kBoolean, kNumber, kString, kTemporal, kRange, kList, kContext, kDefinition, kBuiltIn, kType, kIrrelevant, Kind, ofValue, ofType, noCommand}
-use Rattle.form.specs.Layout.{kindOf, operands, operandsV, slot, widthOf}
-use Rattle.form.specs.Limits.{nameWidth}
+use borrow.Author.Tests.{leb-true, le-leb, lt-leb, ne-eqb}
+use Rattle.form.specs.Trees.{Ty, Params, no-parameters, parameter, l-null, l-boolean, l-number, l-decimal, l-string, l-temporal, Val, v-leaf, v-range, v-list, v-context, v-function, v-built-in}
+use Rattle.form.specs.Trees.{v-type, v-irrelevant, Vals, no-items, item, Entries, no-entries, entry, isShortLeaf, decodeTemporal}
+use Rattle.form.specs.Form.{num, numAt, level, levelParams, levelTys, levelV, levelVals, levelEntries}
+use Rattle.form.specs.Layout.{ValueKind, kNull, kBoolean, kNumber, kString, kTemporal, kRange, kList, kContext, kDefinition, kBuiltIn, kType, kIrrelevant, kDecimal, Kind, ofValue, ofType}
+use Rattle.form.specs.Layout.{noCommand, kindOf, operands, operandsV, slot, widthOf, isLeafCommand}
+use Rattle.form.specs.Limits.{nameWidth, mostExponent}
 use Rattle.form.specs.Outcome.{pick}
-use Rattle.form.specs.Read.{Got, got, bad, front, andThen, orElse, operand, readRun, readVals, readEntries, readParams, readTys, readFlag, readKey, readRange, signature, readDefinition, readT}
-use Rattle.form.specs.Read.{stepValue, stepV, readV}
+use Rattle.form.specs.Read.{Got, got, bad, front, andThen, orElse, operand, readRun, readVals, readEntries, readParams, readTys, readFlag, readKey, readRange, signature, readDefinition}
+use Rattle.form.specs.Read.{readT, readDecimal, stepValue, stepV, readV}
 use Rattle.form.specs.Walks.{walkOf, walkBy, pairWalk, up, operandEnd, flagWalk}
 use Rattle.form.specs.Faults.{Shape, Level}
 use Rattle.form.specs.Walks as walk
-use Rattle.form.proofs.CommandKinds.{ViewV, isNull, isBoolean, isNumber, isString, isTemporal, isRange, isList, isContext, isDefinition, isBuiltIn, isFeelType, isIrrelevant}
+use Rattle.form.proofs.CommandKinds.{ViewV, isNull, isBoolean, isNumber, isString, isTemporal, isRange, isList, isContext, isDefinition, isBuiltIn, isFeelType, isIrrelevant, isDecimal}
 use Rattle.form.proofs.CommandKinds.{View, isValue, isType}
-use Rattle.form.proofs.CommandKinds.{isGap, isBeyond, view, type-within, there, width-is}
+use Rattle.form.proofs.CommandKinds.{isGap, isBeyond, view, type-within, there, width-is, leaf-high}
 use Rattle.form.proofs.TypeLaws.{one-is}
-use Rattle.form.proofs.Runs.{end-is, front-up, then-up, operand-short, operand-at, counted-is, counted-short}
+use Rattle.form.proofs.Runs.{end-is, end-stop, front-up, then-up, operand-short, operand-at, counted-is, counted-short}
 
 pub params-law : (m : ℕ) (t : Ty) (ps : Params) → levelParams (parameter m t ps) ≡ max (level t) (levelParams ps)
 unfolding levelParams
@@ -65,8 +65,8 @@ pub entries-flat : levelEntries no-entries ≡ 0
 unfolding levelEntries
 entries-flat = refl
 
--- a leaf of data has level 1
-pub leaf-level : (v : Val) → isDataLeaf v ≡ true → levelV v ≡ 1
+-- a leaf of data but a decimal has level 1
+pub leaf-level : (v : Val) → isShortLeaf v ≡ true → levelV v ≡ 1
 unfolding levelV
 leaf-level (v-leaf l) e = refl
 leaf-level (v-range i j v w) e = cc
@@ -98,7 +98,7 @@ v-step (suc l) [] h k = absurd (omega arith)
 v-step (suc l) (b ∷ s) h k = let e : suc l - 1 ≡ l = omega arith in rw e
 
 -- ---- leaves, their operands being there
-flag-is : (m : ℕ) (mk : ℕ → Val) → ((x : ℕ) → levelV (mk x) ≡ 1) → (s : List ℕ) → 1 ≤ length s → walkOf levelV (readFlag m mk s) ≡ flagWalk (getD s 0 0) m
+flag-is : (m : ℕ) (mk : ℕ → Val) → ((x : ℕ) → levelV (mk x) ≡ 1) → (s : List ℕ) → 1 ≤ length s → walkOf levelV (readFlag m mk s) ≡ flagWalk (getD s 0 0) m 2
 unfolding walkOf readFlag orElse
 flag-is m mk one [] h = absurd (omega arith)
 flag-is m mk one (x ∷ s) h = go (leb x m)
@@ -119,6 +119,34 @@ key-is k mk one s h w e = rw (operand-at k (λ x r. got (mk x) (1 + k)) s 1 (num
 key-short : (k : ℕ) (mk : ℕ → Val) (s : List ℕ) → length s < k → readKey k mk s ≡ bad Shape
 unfolding readKey
 key-short k mk s h = operand-short k (λ x r. got (mk x) (1 + k)) s h
+
+-- k bytes in front of a leaf with one operand byte
+flag-behind : (k m x : ℕ) (g : Got Val) → walkOf levelV g ≡ flagWalk x m 2 → walkOf levelV (front (λ v. v) k g) ≡ flagWalk x m (k + 2)
+unfolding walkOf front
+flag-behind k m x (got v n) e = go (leb x m) e
+  where
+    go : (t : Bool) → walk.End n (levelV v) ≡ pick t (walk.End 2 1) (walk.Stop Shape) → walk.End (k + n) (levelV v) ≡ pick t (walk.End (k + 2) 1) (walk.Stop Shape)
+    go true h = let a : n ≡ 2 = cc in let b : levelV v ≡ 1 = cc in end-is (ap (λ (z : ℕ). k + z) a) b
+    go false h = absurd (end-stop h)
+flag-behind k m x (bad f) e = go (leb x m) e
+  where
+    go : (t : Bool) → walk.Stop f ≡ pick t (walk.End 2 1) (walk.Stop Shape) → walk.Stop f ≡ pick t (walk.End (k + 2) 1) (walk.Stop Shape)
+    go true h = absurd (end-stop (sym h))
+    go false h = h
+
+decimal-is : (s : List ℕ) → 9 ≤ length s - 1 → walkOf levelV (readDecimal (drop 1 s)) ≡ flagWalk (getD s 9 0) mostExponent 10
+unfolding readDecimal levelV
+decimal-is s h =
+    rw (operand-at 8 (λ k r. front (λ v. v) 8 (readFlag mostExponent (λ p. v-leaf (l-decimal k p)) r)) s 1 (numAt 8 1 s) refl (omega arith), ← getD-drop 9 s 0 0)
+    (flag-behind 8 mostExponent (getD (drop 9 s) 0 0) _ (flag-is mostExponent (λ p. v-leaf (l-decimal (numAt 8 1 s) p)) (λ p. refl) (drop 9 s) (simp length-drop (omega arith))))
+
+decimal-short : (s : List ℕ) → length s < 9 → readDecimal s ≡ bad Shape
+unfolding readDecimal operand orElse front
+decimal-short s h = go (leb 8 (length s)) refl
+  where
+    go : (t : Bool) → leb 8 (length s) ≡ t → readDecimal s ≡ bad Shape
+    go true e = rw (e, flag-short mostExponent (λ p. v-leaf (l-decimal (num (take 8 s)) p)) (drop 8 s) (simp length-drop (let k = leb-true 8 (length s) e in omega arith)))
+    go false e = rw e
 
 -- ---- parents
 range-law : (a b : ℕ) (v w : Val) → levelV (v-range a b v w) ≡ suc (max (levelV v) (levelV w))
@@ -192,6 +220,7 @@ value-short child type kDefinition b (c ∷ s) h = operand-short 2 (signature ty
 value-short child type kBuiltIn b s h = flag-short 85 v-built-in s h
 value-short child type kType b s h = absurd (omega arith)
 value-short child type kIrrelevant b s h = absurd (omega arith)
+value-short child type kDecimal b s h = decimal-short s h
 
 pub step-short : (child : List ℕ → Got Val) (type : List ℕ → Got Ty) (k : Kind) (b : ℕ) (s : List ℕ) → length s < slot (operands k) → stepV child type k b s ≡ bad Shape
 unfolding stepV operands
@@ -199,27 +228,36 @@ step-short child type (ofValue k) b s h = value-short child type k b s h
 step-short child type (ofType k) b s h = refl
 step-short child type noCommand b s h = refl
 
-value-other : (b : ℕ) (k : ValueKind) → ViewV b k → 9 ≤ b → (b ≡ 9 → ⊥) → (b ≡ 10 → ⊥) → (b ≡ 11 → ⊥) → (b ≡ 12 → ⊥) → (b ≡ 13 → ⊥) → (b ≡ 14 → ⊥) → (b ≡ 15 → ⊥) → ⊥
-value-other b k (isNull e) h h9 h10 h11 h12 h13 h14 h15 = omega arith
-value-other b k (isBoolean e) h h9 h10 h11 h12 h13 h14 h15 = omega arith
-value-other b k (isNumber e) h h9 h10 h11 h12 h13 h14 h15 = omega arith
-value-other b k (isString e) h h9 h10 h11 h12 h13 h14 h15 = omega arith
-value-other b k (isTemporal p q) h h9 h10 h11 h12 h13 h14 h15 = omega arith
-value-other b k (isRange e) h h9 h10 h11 h12 h13 h14 h15 = h9 e
-value-other b k (isList e) h h9 h10 h11 h12 h13 h14 h15 = h10 e
-value-other b k (isContext e) h h9 h10 h11 h12 h13 h14 h15 = h11 e
-value-other b k (isDefinition e) h h9 h10 h11 h12 h13 h14 h15 = h12 e
-value-other b k (isBuiltIn e) h h9 h10 h11 h12 h13 h14 h15 = h13 e
-value-other b k (isFeelType e) h h9 h10 h11 h12 h13 h14 h15 = h14 e
-value-other b k (isIrrelevant e) h h9 h10 h11 h12 h13 h14 h15 = h15 e
+value-other : (b : ℕ) (k : ValueKind) → ViewV b k → 9 ≤ b → (b ≡ 9 → ⊥) → (b ≡ 10 → ⊥) → (b ≡ 11 → ⊥) → (b ≡ 12 → ⊥) → (b ≡ 13 → ⊥) → (b ≡ 14 → ⊥) → (b ≡ 15 → ⊥)
+    → (b ≡ 16 → ⊥) → ⊥
+value-other b k (isNull e) h h9 h10 h11 h12 h13 h14 h15 h16 = omega arith
+value-other b k (isBoolean e) h h9 h10 h11 h12 h13 h14 h15 h16 = omega arith
+value-other b k (isNumber e) h h9 h10 h11 h12 h13 h14 h15 h16 = omega arith
+value-other b k (isString e) h h9 h10 h11 h12 h13 h14 h15 h16 = omega arith
+value-other b k (isTemporal p q) h h9 h10 h11 h12 h13 h14 h15 h16 = omega arith
+value-other b k (isRange e) h h9 h10 h11 h12 h13 h14 h15 h16 = h9 e
+value-other b k (isList e) h h9 h10 h11 h12 h13 h14 h15 h16 = h10 e
+value-other b k (isContext e) h h9 h10 h11 h12 h13 h14 h15 h16 = h11 e
+value-other b k (isDefinition e) h h9 h10 h11 h12 h13 h14 h15 h16 = h12 e
+value-other b k (isBuiltIn e) h h9 h10 h11 h12 h13 h14 h15 h16 = h13 e
+value-other b k (isFeelType e) h h9 h10 h11 h12 h13 h14 h15 h16 = h14 e
+value-other b k (isIrrelevant e) h h9 h10 h11 h12 h13 h14 h15 h16 = h15 e
+value-other b k (isDecimal e) h h9 h10 h11 h12 h13 h14 h15 h16 = h16 e
 
 step-other : (child : List ℕ → Got Val) (type : List ℕ → Got Ty) (b : ℕ) (s : List ℕ) (k : Kind) → View b k → 9 ≤ b → (b ≡ 9 → ⊥) → (b ≡ 10 → ⊥) → (b ≡ 11 → ⊥) → (b ≡ 12 → ⊥) → (b ≡ 13 → ⊥)
-    → (b ≡ 14 → ⊥) → (b ≡ 15 → ⊥) → stepV child type k b s ≡ bad Shape
+    → (b ≡ 14 → ⊥) → (b ≡ 15 → ⊥) → (b ≡ 16 → ⊥) → stepV child type k b s ≡ bad Shape
 unfolding stepV
-step-other child type b s k (isValue j v) h h9 h10 h11 h12 h13 h14 h15 = absurd (value-other b j v h h9 h10 h11 h12 h13 h14 h15)
-step-other child type b s k (isType j v) h h9 h10 h11 h12 h13 h14 h15 = refl
-step-other child type b s k (isGap p q) h h9 h10 h11 h12 h13 h14 h15 = refl
-step-other child type b s k (isBeyond p) h h9 h10 h11 h12 h13 h14 h15 = refl
+step-other child type b s k (isValue j v) h h9 h10 h11 h12 h13 h14 h15 h16 = absurd (value-other b j v h h9 h10 h11 h12 h13 h14 h15 h16)
+step-other child type b s k (isType j v) h h9 h10 h11 h12 h13 h14 h15 h16 = refl
+step-other child type b s k (isGap p q) h h9 h10 h11 h12 h13 h14 h15 h16 = refl
+step-other child type b s k (isBeyond p) h h9 h10 h11 h12 h13 h14 h15 h16 = refl
+
+-- no leaf of data
+no-leaf : {b c : ℕ} → b ≡ c → isLeafCommand b ≡ true → isLeafCommand c ≡ true
+no-leaf e i = sym (ap isLeafCommand e) ∙ i
+
+beyond-leaf : (b : ℕ) → 17 ≤ b → isLeafCommand b ≡ true → ⊥
+beyond-leaf b h i = false≢true (sym (leaf-high b (omega arith) (λ e. omega arith)) ∙ i)
 
 module _ (l : ℕ) (s : List ℕ) (h : 0 < length s) (p : 0 < l) where
   v-kind : (k : ValueKind) → kindOf (getD s 0 0) ≡ ofValue k → walkOf levelV (readV l s) ≡ walkOf levelV (stepValue (readV (l - 1)) (readT (l - 1)) k (getD s 0 0) (drop 1 s))
@@ -231,9 +269,10 @@ module _ (l : ℕ) (s : List ℕ) (h : 0 < length s) (p : 0 < l) where
   v-short n = rw (v-step l s h p, step-short (readV (l - 1)) (readT (l - 1)) (kindOf (getD s 0 0)) (getD s 0 0) (drop 1 s) (simp length-drop n))
 
   pub v-other : 9 ≤ getD s 0 0 → (getD s 0 0 ≡ 9 → ⊥) → (getD s 0 0 ≡ 10 → ⊥) → (getD s 0 0 ≡ 11 → ⊥) → (getD s 0 0 ≡ 12 → ⊥) → (getD s 0 0 ≡ 13 → ⊥) → (getD s 0 0 ≡ 14 → ⊥) → (getD s 0 0 ≡ 15 → ⊥)
-      → walkOf levelV (readV l s) ≡ walk.Stop Shape
+      → (getD s 0 0 ≡ 16 → ⊥) → walkOf levelV (readV l s) ≡ walk.Stop Shape
   unfolding walkOf
-  v-other o h9 h10 h11 h12 h13 h14 h15 = rw (v-step l s h p, step-other (readV (l - 1)) (readT (l - 1)) (getD s 0 0) (drop 1 s) (kindOf (getD s 0 0)) (view (getD s 0 0)) o h9 h10 h11 h12 h13 h14 h15)
+  v-other o h9 h10 h11 h12 h13 h14 h15 h16 =
+      rw (v-step l s h p, step-other (readV (l - 1)) (readT (l - 1)) (getD s 0 0) (drop 1 s) (kindOf (getD s 0 0)) (view (getD s 0 0)) o h9 h10 h11 h12 h13 h14 h15 h16)
 
   pub v-irrelevant-is : kindOf (getD s 0 0) ≡ ofValue kIrrelevant → walkOf levelV (readV l s) ≡ walk.End 1 1
   unfolding walkOf stepValue levelV
@@ -251,58 +290,55 @@ module _ (l : ℕ) (s : List ℕ) (h : 0 < length s) (p : 0 < l) where
     off-drop : (k : ValueKind) → kindOf (getD s 0 0) ≡ ofValue k → operandsV k ≤ length (drop 1 s)
     off-drop k e = simp length-drop (off k e)
 
-    wide-as : (k : ValueKind) → kindOf (getD s 0 0) ≡ ofValue k → (w : ℕ) → w ≡ widthOf (getD s 0 0) → w ≡ operandsV k
+    wide-as : (k : ValueKind) → kindOf (getD s 0 0) ≡ ofValue k → widthOf (getD s 0 0) ≡ operandsV k
     unfolding operands
-    wide-as k e w we = we ∙ width-is (getD s 0 0) (ofValue k) e
+    wide-as k e = width-is (getD s 0 0) (ofValue k) e
 
-    pub v-null : kindOf (getD s 0 0) ≡ ofValue kNull → walkOf levelV (readV l s) ≡ flagWalk (getD s 1 0) 3
-    unfolding stepValue operandsV levelV
-    v-null e = v-kind kNull e ∙ rw (← getD-drop 1 s 0 0) (flag-is 3 (λ x. v-leaf (l-null x)) (λ x. refl) (drop 1 s) (off-drop kNull e))
-
-    pub v-boolean : kindOf (getD s 0 0) ≡ ofValue kBoolean → walkOf levelV (readV l s) ≡ flagWalk (getD s 1 0) 1
-    unfolding stepValue operandsV levelV
-    v-boolean e = v-kind kBoolean e ∙ rw (← getD-drop 1 s 0 0) (flag-is 1 (λ x. v-leaf (l-boolean (eqb x 1))) (λ x. refl) (drop 1 s) (off-drop kBoolean e))
-
-    pub v-built-in-is : kindOf (getD s 0 0) ≡ ofValue kBuiltIn → walkOf levelV (readV l s) ≡ flagWalk (getD s 1 0) 85
+    pub v-built-in-is : kindOf (getD s 0 0) ≡ ofValue kBuiltIn → walkOf levelV (readV l s) ≡ flagWalk (getD s 1 0) 85 2
     unfolding stepValue operandsV levelV
     v-built-in-is e = v-kind kBuiltIn e ∙ rw (← getD-drop 1 s 0 0) (flag-is 85 v-built-in (λ x. refl) (drop 1 s) (off-drop kBuiltIn e))
 
-    v-number : (w : ℕ) → w ≡ widthOf (getD s 0 0) → kindOf (getD s 0 0) ≡ ofValue kNumber → walkOf levelV (readV l s) ≡ walk.End (w + 1) 1
-    unfolding stepValue operandsV levelV
-    v-number w we e = v-kind kNumber e ∙ key-is 8 (λ x. v-leaf (l-number x)) (λ x. refl) s (off kNumber e) w (wide-as kNumber e w we)
+    -- a leaf of data: its last operand byte is within its bound. That of a number, a text or a temporal is any byte
+    flag-here : (m n : ℕ) → walkOf levelV (readV l s) ≡ flagWalk (getD s n 0) m (n + 1) → widthOf (getD s 0 0) ≡ n → operandEnd (getD s 0 0) ≡ m
+        → walkOf levelV (readV l s) ≡ flagWalk (getD s (widthOf (getD s 0 0)) 0) (operandEnd (getD s 0 0)) (widthOf (getD s 0 0) + 1)
+    flag-here m n e w o = rw (w, o) e
 
-    v-string : (w : ℕ) → w ≡ widthOf (getD s 0 0) → kindOf (getD s 0 0) ≡ ofValue kString → walkOf levelV (readV l s) ≡ walk.End (w + 1) 1
-    unfolding stepValue operandsV levelV
-    v-string w we e = v-kind kString e ∙ key-is nameWidth (λ x. v-leaf (l-string x)) (λ x. refl) s (off kString e) w (wide-as kString e w we)
+    module _ (y : getD s (widthOf (getD s 0 0)) 0 ≤ 255) where
+      any-byte : operandEnd (getD s 0 0) ≡ 255 → walkOf levelV (readV l s) ≡ walk.End (widthOf (getD s 0 0) + 1) 1
+          → walkOf levelV (readV l s) ≡ flagWalk (getD s (widthOf (getD s 0 0)) 0) (operandEnd (getD s 0 0)) (widthOf (getD s 0 0) + 1)
+      any-byte o e = rw (o, le-leb (getD s (widthOf (getD s 0 0)) 0) 255 y) e
 
-    v-temporal : (w : ℕ) → w ≡ widthOf (getD s 0 0) → kindOf (getD s 0 0) ≡ ofValue kTemporal → walkOf levelV (readV l s) ≡ walk.End (w + 1) 1
-    unfolding stepValue operandsV levelV
-    v-temporal w we e = v-kind kTemporal e ∙ key-is 8 (λ x. v-leaf (l-temporal (decodeTemporal (getD s 0 0 - 0x04)) x)) (λ x. refl) s (off kTemporal e) w (wide-as kTemporal e w we)
+      leaf-kind : (k : ValueKind) → ViewV (getD s 0 0) k → kindOf (getD s 0 0) ≡ ofValue k → isLeafCommand (getD s 0 0) ≡ true
+          → walkOf levelV (readV l s) ≡ flagWalk (getD s (widthOf (getD s 0 0)) 0) (operandEnd (getD s 0 0)) (widthOf (getD s 0 0) + 1)
+      unfolding stepValue operandsV levelV operandEnd
+      leaf-kind k (isNull e) f i =
+          flag-here 3 1 (v-kind kNull f ∙ rw (← getD-drop 1 s 0 0) (flag-is 3 (λ x. v-leaf (l-null x)) (λ x. refl) (drop 1 s) (off-drop kNull f))) (wide-as kNull f) (ap operandEnd e)
+      leaf-kind k (isBoolean e) f i =
+          flag-here 1 1 (v-kind kBoolean f ∙ rw (← getD-drop 1 s 0 0) (flag-is 1 (λ x. v-leaf (l-boolean (eqb x 1))) (λ x. refl) (drop 1 s) (off-drop kBoolean f))) (wide-as kBoolean f)
+          (ap operandEnd e)
+      leaf-kind k (isNumber e) f i = any-byte (ap operandEnd e) (v-kind kNumber f ∙ key-is 8 (λ x. v-leaf (l-number x)) (λ x. refl) s (off kNumber f) _ (wide-as kNumber f))
+      leaf-kind k (isString e) f i = any-byte (ap operandEnd e) (v-kind kString f ∙ key-is nameWidth (λ x. v-leaf (l-string x)) (λ x. refl) s (off kString f) _ (wide-as kString f))
+      leaf-kind k (isTemporal a b) f i =
+          any-byte (rw (ne-eqb (getD s 0 0) 0 (λ e. omega arith), ne-eqb (getD s 0 0) 1 (λ e. omega arith), ne-eqb (getD s 0 0) 16 (λ e. omega arith)))
+          (v-kind kTemporal f ∙ key-is 8 (λ x. v-leaf (l-temporal (decodeTemporal (getD s 0 0 - 0x04)) x)) (λ x. refl) s (off kTemporal f) _ (wide-as kTemporal f))
+      leaf-kind k (isRange e) f i = absurd (false≢true (no-leaf e i))
+      leaf-kind k (isList e) f i = absurd (false≢true (no-leaf e i))
+      leaf-kind k (isContext e) f i = absurd (false≢true (no-leaf e i))
+      leaf-kind k (isDefinition e) f i = absurd (false≢true (no-leaf e i))
+      leaf-kind k (isBuiltIn e) f i = absurd (false≢true (no-leaf e i))
+      leaf-kind k (isFeelType e) f i = absurd (false≢true (no-leaf e i))
+      leaf-kind k (isIrrelevant e) f i = absurd (false≢true (no-leaf e i))
+      leaf-kind k (isDecimal e) f i = flag-here mostExponent 9 (v-kind kDecimal f ∙ decimal-is s (off kDecimal f)) (wide-as kDecimal f) (ap operandEnd e)
 
-    -- a number, a text or a temporal
-    key-value : (w : ℕ) → w ≡ widthOf (getD s 0 0) → 2 ≤ getD s 0 0 → getD s 0 0 < 9 → (k : ValueKind) → ViewV (getD s 0 0) k → kindOf (getD s 0 0) ≡ ofValue k
-        → walkOf levelV (readV l s) ≡ walk.End (w + 1) 1
-    key-value w we x y k (isNull e) f = absurd (omega arith)
-    key-value w we x y k (isBoolean e) f = absurd (omega arith)
-    key-value w we x y k (isNumber e) f = v-number w we f
-    key-value w we x y k (isString e) f = v-string w we f
-    key-value w we x y k (isTemporal a b) f = v-temporal w we f
-    key-value w we x y k (isRange e) f = absurd (omega arith)
-    key-value w we x y k (isList e) f = absurd (omega arith)
-    key-value w we x y k (isContext e) f = absurd (omega arith)
-    key-value w we x y k (isDefinition e) f = absurd (omega arith)
-    key-value w we x y k (isBuiltIn e) f = absurd (omega arith)
-    key-value w we x y k (isFeelType e) f = absurd (omega arith)
-    key-value w we x y k (isIrrelevant e) f = absurd (omega arith)
+      leaf-view : (j : Kind) → View (getD s 0 0) j → kindOf (getD s 0 0) ≡ j → isLeafCommand (getD s 0 0) ≡ true
+          → walkOf levelV (readV l s) ≡ flagWalk (getD s (widthOf (getD s 0 0)) 0) (operandEnd (getD s 0 0)) (widthOf (getD s 0 0) + 1)
+      leaf-view j (isValue k v) f i = leaf-kind k v f i
+      leaf-view j (isType k v) f i = let t = type-within (getD s 0 0) k v in absurd (beyond-leaf (getD s 0 0) (omega arith) i)
+      leaf-view j (isGap a b) f i = absurd (beyond-leaf (getD s 0 0) a i)
+      leaf-view j (isBeyond a) f i = absurd (beyond-leaf (getD s 0 0) (omega arith) i)
 
-    key-view : (w : ℕ) → w ≡ widthOf (getD s 0 0) → 2 ≤ getD s 0 0 → getD s 0 0 < 9 → (j : Kind) → View (getD s 0 0) j → kindOf (getD s 0 0) ≡ j → walkOf levelV (readV l s) ≡ walk.End (w + 1) 1
-    key-view w we x y j (isValue k v) f = key-value w we x y k v f
-    key-view w we x y j (isType k v) f = absurd (omega (arith, type-within (getD s 0 0) k v))
-    key-view w we x y j (isGap a b) f = absurd (omega arith)
-    key-view w we x y j (isBeyond a) f = absurd (omega arith)
-
-    pub v-key : (w : ℕ) → w ≡ widthOf (getD s 0 0) → 2 ≤ getD s 0 0 → getD s 0 0 < 9 → walkOf levelV (readV l s) ≡ walk.End (w + 1) 1
-    v-key w we x y = key-view w we x y (kindOf (getD s 0 0)) (view (getD s 0 0)) refl
+      pub v-leaf-is : isLeafCommand (getD s 0 0) ≡ true → walkOf levelV (readV l s) ≡ flagWalk (getD s (widthOf (getD s 0 0)) 0) (operandEnd (getD s 0 0)) (widthOf (getD s 0 0) + 1)
+      v-leaf-is i = leaf-view (kindOf (getD s 0 0)) (view (getD s 0 0)) refl i
 
     pub v-range-is : kindOf (getD s 0 0) ≡ ofValue kRange → getD s 1 0 ≤ 3 → getD s 2 0 ≤ 3 → walkOf levelV (readV l s) ≡ up 3 (walkBy levelVals 0 0 (readVals (readV (l - 1)) 2 (drop 3 s)))
     unfolding stepValue operandsV
@@ -333,15 +369,18 @@ module _ (l : ℕ) (s : List ℕ) (h : 0 < length s) (p : 0 < l) where
     v-definition c ce e = v-kind kDefinition e ∙ rw ce (definition-is (readT (l - 1)) s (off kDefinition e))
 
 -- ---- the short way past a leaf of data
-flag-end : (m x w : ℕ) → x ≤ m → w ≡ 1 → flagWalk x m ≡ walk.End (w + 1) 1
-flag-end m x w h e = rw (le-leb x m h, e)
+end-small : (b : ℕ) → operandEnd b ≤ 255
+unfolding operandEnd
+end-small b = go (eqb b 0) (eqb b 1) (eqb b 16)
+  where
+    go : (x y z : Bool) → pick x 3 (pick y 1 (pick z mostExponent 255)) ≤ 255
+    go true y z = omega arith
+    go false true z = omega arith
+    go false false true = omega arith
+    go false false false = omega arith
 
-module _ (l : ℕ) (s : List ℕ) (h : 0 < length s) (p : 0 < l) (o : widthOf (getD s 0 0) ≤ length s - 1) (q : getD s 1 0 ≤ operandEnd (getD s 0 0)) (i : getD s 0 0 < 9) where
-  leaf-of : (n : ℕ) → getD s 0 0 ≡ n → walkOf levelV (readV l s) ≡ walk.End (widthOf (getD s 0 0) + 1) 1
-  unfolding kindOf operands operandsV operandEnd
-  leaf-of zero e = v-null l s h p o (ap kindOf e) ∙ flag-end 3 (getD s 1 0) (widthOf (getD s 0 0)) (rw e at q) (width-is (getD s 0 0) (ofValue kNull) (ap kindOf e))
-  leaf-of (suc zero) e = v-boolean l s h p o (ap kindOf e) ∙ flag-end 1 (getD s 1 0) (widthOf (getD s 0 0)) (rw e at q) (width-is (getD s 0 0) (ofValue kBoolean) (ap kindOf e))
-  leaf-of (suc (suc n)) e = v-key l s h p o (widthOf (getD s 0 0)) refl (omega arith) i
-
-  pub leaf-is : walkOf levelV (readV l s) ≡ walk.End (widthOf (getD s 0 0) + 1) 1
-  leaf-is = leaf-of (getD s 0 0) refl
+pub leaf-is : (l : ℕ) (s : List ℕ) → 0 < length s → 0 < l → widthOf (getD s 0 0) ≤ length s - 1 → getD s (widthOf (getD s 0 0)) 0 ≤ operandEnd (getD s 0 0) → isLeafCommand (getD s 0 0) ≡ true
+    → walkOf levelV (readV l s) ≡ walk.End (widthOf (getD s 0 0) + 1) 1
+leaf-is l s h p o q i =
+    let y : getD s (widthOf (getD s 0 0)) 0 ≤ 255 = omega (arith, end-small (getD s 0 0)) in
+    v-leaf-is l s h p o y i ∙ rw (le-leb (getD s (widthOf (getD s 0 0)) 0) (operandEnd (getD s 0 0)) q)

@@ -10,7 +10,7 @@ use mathlib.Core.List.{List, [], _++_}
 use native.Mathlib.Omega.{arith}
 use lib.ListN.{length, take}
 use lib.Seq.{take-append-seam}
-use Rattle.form.specs.Trees.{l-null, l-boolean, l-number, l-string, l-temporal, Val, v-leaf, v-range, v-list, v-context, v-function, v-built-in, v-type, v-irrelevant}
+use Rattle.form.specs.Trees.{l-null, l-boolean, l-number, l-decimal, l-string, l-temporal, Val, v-leaf, v-range, v-list, v-context, v-function, v-built-in, v-type, v-irrelevant}
 use Rattle.form.specs.Limits.{valueLevels, valueRefusals}
 use Rattle.form.specs.Outcome.{done}
 use Rattle.form.specs.Form.{Bytes, encLeaf, encV, levelV, WfV}
@@ -25,6 +25,7 @@ unfolding encV encLeaf
 encV-some (v-leaf (l-null t)) = omega arith
 encV-some (v-leaf (l-boolean b)) = omega arith
 encV-some (v-leaf (l-number k)) = omega arith
+encV-some (v-leaf (l-decimal k p)) = omega arith
 encV-some (v-leaf (l-string n)) = omega arith
 encV-some (v-leaf (l-temporal t k)) = omega arith
 encV-some (v-range i j v w) = omega arith

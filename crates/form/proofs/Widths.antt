@@ -13,18 +13,19 @@ use lib.Seq.{drop-append-seam}
 use borrow.Author.Tests.{ltb-true, ltb-false}
 use Rattle.form.specs.Limits.{nameWidth}
 use Rattle.form.specs.Trees.{Ty, leaf, built, list, range, context, function, code, decode}
-use Rattle.form.specs.Trees.{Leaf, l-null, l-boolean, l-number, l-string, l-temporal, codeTemporal, decodeTemporal}
+use Rattle.form.specs.Trees.{Leaf, l-null, l-boolean, l-number, l-decimal, l-string, l-temporal, codeTemporal, decodeTemporal}
 use Rattle.form.specs.Trees.{no-fields, field, no-params, param, no-parameters, parameter, no-items, item, no-entries, entry}
-use Rattle.form.specs.Trees.{Val, v-leaf, v-range, v-list, v-context, v-function, v-built-in, v-type, v-irrelevant}
+use Rattle.form.specs.Trees.{Val, v-leaf, v-range, v-list, v-context, v-function, v-built-in, v-type, v-irrelevant, isDataLeaf}
 use Rattle.form.specs.Form.{bytes, numAt, enc, encLeaf, encV, countFields, countTys, countParams, countVals, countEntries}
-use Rattle.form.specs.Layout.{ValueKind, noCommand, kindOf, operands, operandsV, operandsT, noWidth, widthOf}
+use Rattle.form.specs.Layout.{ValueKind, noCommand, kindOf, operands, operandsV, operandsT, noWidth, widthOf, isLeafCommand}
 use Rattle.form.specs.Faults.{Shape}
 use Rattle.form.specs.Read.{Got, got, bad, front, andThen, readRun, readNamed, ascending, anyOrder, readT, readV, stepT, stepV}
 use Rattle.form.specs.Widths.{oldWidths, tableWidth, leafCommand, command, leafOperands, operandBytes, childBytes, readChildren}
 use Rattle.form.specs.Widths.{commandT, operandBytesT, childBytesT, readChildrenT, Behind, Widths}
 use Rattle.form.proofs.Table.{between}
+use Rattle.form.proofs.First.{length-front}
 use Rattle.form.proofs.Numbers.{length-bytes}
-use Rattle.form.proofs.CommandKinds.{width-is, width-beyond, range-width, width-none, key-width}
+use Rattle.form.proofs.CommandKinds.{width-is, width-beyond, range-width, width-none, key-width, leaf-low}
 use Rattle.form.proofs.Exact.{got-parts}
 use Rattle.form.proofs.ExactTypes.{enc-read, code-small, code-decode}
 use Rattle.form.proofs.ExactValues.{enc-readV, code-small-temporal}
@@ -32,7 +33,7 @@ use Rattle.form.proofs.ExactValues as values
 use Rattle.form.proofs.TypeLaws as type-laws
 use Rattle.form.proofs.ValueLaws as value-laws
 use Rattle.form.proofs.Nodes.{item-parts, named-parts, NodeT, nSimple, nList, nRange, nContext, nFunction, type-read}
-use Rattle.form.proofs.Nodes.{NodeV, nNull, nBoolean, nNumber, nString, nTemporal, nRangeV, nListV, nContextV, nDefinition, nBuiltIn, nType, nIrrelevant, value-read}
+use Rattle.form.proofs.Nodes.{NodeV, nNull, nBoolean, nNumber, nString, nTemporal, nRangeV, nListV, nContextV, nDefinition, nBuiltIn, nType, nIrrelevant, nDecimal, value-read}
 
 -- ---- the old table
 same : ℕ → Bool
@@ -56,12 +57,32 @@ none-exact : (b : ℕ) → (widthOf b ≡ noWidth → kindOf b ≡ noCommand) ×
 unfolding operands
 none-exact b = (width-none b, width-is b noCommand)
 
+-- ---- leaves of data
+leaf-exact : (x : Leaf) → isLeafCommand (leafCommand x) ≡ true
+leaf-exact (l-null t) = refl
+leaf-exact (l-boolean b) = refl
+leaf-exact (l-number k) = refl
+leaf-exact (l-decimal k p) = refl
+leaf-exact (l-string n) = refl
+leaf-exact (l-temporal t k) = let h = code-small-temporal t in leaf-low (0x04 + codeTemporal t) (omega arith)
+
+leaves-exact : (v : Val) → isLeafCommand (command v) ≡ isDataLeaf v
+leaves-exact (v-leaf x) = leaf-exact x
+leaves-exact (v-range i j v w) = refl
+leaves-exact (v-list vs) = refl
+leaves-exact (v-context es) = refl
+leaves-exact (v-function ps b r) = refl
+leaves-exact (v-built-in n) = refl
+leaves-exact (v-type t) = refl
+leaves-exact v-irrelevant = refl
+
 -- ---- the encodings in three parts
 leaf-parts : (x : Leaf) → encLeaf x ≡ leafCommand x ∷ (leafOperands x ++ [])
 unfolding encLeaf leafOperands
 leaf-parts (l-null t) = refl
 leaf-parts (l-boolean b) = refl
 leaf-parts (l-number k) = ap (λ (r : List ℕ). 0x02 ∷ r) (sym (append-nil (bytes 8 k)))
+leaf-parts (l-decimal k p) = ap (λ (r : List ℕ). 0x10 ∷ r) (sym (append-nil (bytes 8 k ++ (p ∷ []))))
 leaf-parts (l-string n) = ap (λ (r : List ℕ). 0x03 ∷ r) (sym (append-nil (bytes nameWidth n)))
 leaf-parts (l-temporal t k) = ap (λ (r : List ℕ). (0x04 + codeTemporal t) ∷ r) (sym (append-nil (bytes 8 k)))
 
@@ -81,6 +102,7 @@ unfolding leafOperands widthOf kindOf operands operandsV
 leaf-width (l-null t) = refl
 leaf-width (l-boolean b) = refl
 leaf-width (l-number k) = length-bytes 8 k
+leaf-width (l-decimal k p) = length-front 8 k (p ∷ [])
 leaf-width (l-string n) = length-bytes nameWidth n
 leaf-width (l-temporal t k) = let h = code-small-temporal t in length-bytes 8 k ∙ sym (key-width (0x04 + codeTemporal t) (omega arith) (omega arith))
 
@@ -182,6 +204,7 @@ value-behind l s h v n (nDefinition c k t m e ps j f) =
 value-behind l s h v n (nBuiltIn c k x) = behind 0x0D 1 _ s v 0 2 c refl k refl refl
 value-behind l s h v n (nType c t m e) = behind 0x0E 0 _ s v (0 + m) n c refl h (rw e) (omega arith)
 value-behind l s h v n (nIrrelevant c) = behind 0x0F 0 _ s v 0 1 c refl h refl refl
+value-behind l s h v n (nDecimal c k x) = behind 0x10 9 _ s v 0 10 c refl k refl refl
 
 -- ---- what is refused
 value-short : (l b : ℕ) (s : List ℕ) → length s < widthOf b → readV (suc l) (b ∷ s) ≡ bad Shape
@@ -205,6 +228,7 @@ pub widths : Widths
 widths = record {
   as-table = as-table;
   none-exact = none-exact;
+  leaves-exact = leaves-exact;
   value-parts = value-parts;
   value-width = value-width;
   value-behind = λ v. behind-operands (command v) (encV v) (operandBytes v) (childBytes v) (value-parts v) (value-width v);

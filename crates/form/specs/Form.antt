@@ -4,8 +4,8 @@ use Prim.Native.Nat.{ℕ, zero, suc, _+_, _*_, _/_, _%_, _<_, _≤_, _^_, max}
 use mathlib.Core.Bool.{Bool, true, false}
 use mathlib.Core.List.{List, [], _∷_, _++_}
 use lib.ListN.{take, drop}
-use Rattle.form.specs.Limits.{nameWidth, nameEnd}
-use Rattle.form.specs.Trees.{Ty, leaf, built, Built, list, range, context, function, Fields, no-fields, field, Tys, no-params, param, Leaf, l-null, l-boolean, l-number}
+use Rattle.form.specs.Limits.{nameWidth, nameEnd, mostExponent}
+use Rattle.form.specs.Trees.{Ty, leaf, built, Built, list, range, context, function, Fields, no-fields, field, Tys, no-params, param, Leaf, l-null, l-boolean, l-number, l-decimal}
 use Rattle.form.specs.Trees.{l-string, l-temporal, Params, no-parameters, parameter, Val, v-leaf, v-range, v-list, v-context, v-function, v-built-in, v-type, v-irrelevant}
 use Rattle.form.specs.Trees.{Vals, no-items, item, Entries, no-entries, entry, code, codeTemporal}
 
@@ -76,6 +76,7 @@ unfoldable pub encLeaf : Leaf → List ℕ
 encLeaf (l-null t) = 0x00 ∷ t ∷ []
 encLeaf (l-boolean b) = 0x01 ∷ bit b ∷ []
 encLeaf (l-number k) = 0x02 ∷ bytes 8 k
+encLeaf (l-decimal k p) = 0x10 ∷ (bytes 8 k ++ (p ∷ []))
 encLeaf (l-string n) = 0x03 ∷ bytes nameWidth n
 encLeaf (l-temporal t k) = (0x04 + codeTemporal t) ∷ bytes 8 k
 
@@ -173,6 +174,7 @@ unfoldable pub WfLeaf : Leaf → Type 0
 WfLeaf (l-null t) = t ≤ 3
 WfLeaf (l-boolean b) = Unit {0}
 WfLeaf (l-number k) = k < 2 ^ 64
+WfLeaf (l-decimal k p) = (k < 2 ^ 64) × (p ≤ mostExponent)
 WfLeaf (l-string n) = n < nameEnd
 WfLeaf (l-temporal t k) = k < 2 ^ 64
 

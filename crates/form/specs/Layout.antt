@@ -1,14 +1,15 @@
 -- The command bytes, and how many operand bytes each has.
 -- Assumes nothing.
-use Prim.Native.Nat.{ℕ}
+use Prim.Native.Nat.{ℕ, _+_}
 use mathlib.Core.Option.{Option, none, some}
+use mathlib.Core.Bool.{Bool, _||_}
 use lib.Dec.{ltb, eqb}
 use Rattle.form.specs.Limits.{nameWidth}
 use Rattle.form.specs.Outcome.{pick}
 
--- the commands 00 to 0F; 04 to 08 are one kind
+-- the commands 00 to 10; 04 to 08 are one kind
 pub data ValueKind : Type 0 where
-  kNull kBoolean kNumber kString kTemporal kRange kList kContext kDefinition kBuiltIn kType kIrrelevant : ValueKind
+  kNull kBoolean kNumber kString kTemporal kRange kList kContext kDefinition kBuiltIn kType kIrrelevant kDecimal : ValueKind
 
 -- the commands 20 to 2D; 20 to 29 are one kind
 pub data TypeKind : Type 0 where
@@ -34,12 +35,13 @@ kindOf b =
     (pick (eqb b 0x0D) (ofValue kBuiltIn)
     (pick (eqb b 0x0E) (ofValue kType)
     (pick (eqb b 0x0F) (ofValue kIrrelevant)
+    (pick (eqb b 0x10) (ofValue kDecimal)
     (pick (ltb b 0x20) noCommand
     (pick (ltb b 0x2A) (ofType tSimple)
     (pick (eqb b 0x2A) (ofType tList)
     (pick (eqb b 0x2B) (ofType tRange)
     (pick (eqb b 0x2C) (ofType tContext)
-    (pick (eqb b 0x2D) (ofType tFunction) noCommand)))))))))))))))))
+    (pick (eqb b 0x2D) (ofType tFunction) noCommand))))))))))))))))))
 
 -- the operand bytes of a command
 unfoldable pub operandsV : ValueKind → ℕ
@@ -55,6 +57,7 @@ operandsV kDefinition = 3
 operandsV kBuiltIn = 1
 operandsV kType = 0
 operandsV kIrrelevant = 0
+operandsV kDecimal = 9
 
 unfoldable pub operandsT : TypeKind → ℕ
 operandsT tSimple = 0
@@ -79,3 +82,11 @@ slot (some n) = n
 
 unfoldable pub widthOf : ℕ → ℕ
 widthOf b = slot (operands (kindOf b))
+
+-- ---- leaves of data: 00 to 08 and 10
+abbrev pub isLeafCommand : ℕ → Bool
+isLeafCommand b = ltb b 0x09 || eqb b 0x10
+
+-- the command of a leaf's type; 0 for every other byte
+unfoldable pub leafTypeCommand : ℕ → ℕ
+leafTypeCommand b = pick (eqb b 0x00) 0x29 (pick (ltb b 0x09) (b + 0x20) (pick (eqb b 0x10) 0x22 0x00))

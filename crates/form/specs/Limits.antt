@@ -1,5 +1,5 @@
 -- The numbers of document 01 that a later request may change: every definition and law has them from here. The code has them as constants of its own
--- (`NAME_WIDTH`, `MOST_BYTES`, `VALUE_LEVELS`, `TYPE_LEVELS` of `form`, `MOST_NAMES` of `paths`), which its proofs hold to these.
+-- (`NAME_WIDTH`, `MOST_BYTES`, `VALUE_LEVELS`, `TYPE_LEVELS`, `MOST_EXPONENT` of `form`, `MOST_NAMES` of `paths`), which its proofs hold to these.
 -- Assumes nothing.
 use Prim.Native.Nat.{ℕ, _^_}
 
@@ -22,6 +22,10 @@ valueLevels = 31
 -- the levels that a type reaches
 abbrev pub typeLevels : ℕ
 typeLevels = 32
+
+-- the largest exponent of a decimal number
+abbrev pub mostExponent : ℕ
+mostExponent = 18
 
 -- the most names of a path
 abbrev pub mostNames : ℕ

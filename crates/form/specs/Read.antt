@@ -5,12 +5,12 @@ use mathlib.Core.Bool.{Bool, true, false}
 use mathlib.Core.List.{List, [], _∷_}
 use lib.ListN.{length, take, drop}
 use lib.Dec.{ltb, leb, eqb}
-use Rattle.form.specs.Trees.{Ty, leaf, built, list, range, context, function, Fields, no-fields, field, Tys, no-params, param, l-null, l-boolean, l-number, l-string}
+use Rattle.form.specs.Trees.{Ty, leaf, built, list, range, context, function, Fields, no-fields, field, Tys, no-params, param, l-null, l-boolean, l-number, l-decimal, l-string}
 use Rattle.form.specs.Trees.{l-temporal, Params, no-parameters, parameter, Val, v-leaf, v-range, v-list, v-context, v-function, v-built-in, v-type, v-irrelevant, Vals}
 use Rattle.form.specs.Trees.{no-items, item, Entries, no-entries, entry, decode, decodeTemporal}
-use Rattle.form.specs.Limits.{nameWidth, mostBytes, valueLevels, typeLevels, valueRefusals, typeRefusals}
+use Rattle.form.specs.Limits.{nameWidth, mostExponent, mostBytes, valueLevels, typeLevels, valueRefusals, typeRefusals}
 use Rattle.form.specs.Form.{num, level, levelV}
-use Rattle.form.specs.Layout.{ValueKind, kNull, kBoolean, kNumber, kString, kTemporal, kRange, kList, kContext, kDefinition, kBuiltIn, kType, kIrrelevant, TypeKind, tSimple}
+use Rattle.form.specs.Layout.{ValueKind, kNull, kBoolean, kNumber, kString, kTemporal, kRange, kList, kContext, kDefinition, kBuiltIn, kType, kIrrelevant, kDecimal, TypeKind, tSimple}
 use Rattle.form.specs.Layout.{tList, tRange, tContext, tFunction, Kind, ofValue, ofType, noCommand, kindOf}
 use Rattle.form.specs.Outcome.{Outcome, done, refused, _>>=_, _>>_, pick, check}
 use Rattle.form.specs.Faults.{Fault, Shape, Names, Level, place}
@@ -86,6 +86,10 @@ readFlag m mk (x ∷ s) = orElse Shape (leb x m) (got (mk x) 2)
 unfoldable pub readKey : ℕ → (ℕ → Val) → List ℕ → Got Val
 readKey k mk s = operand k (λ x r. got (mk x) (1 + k)) s
 
+-- a coefficient of eight bytes, then an exponent
+unfoldable pub readDecimal : List ℕ → Got Val
+readDecimal s = operand 8 (λ k r. front (λ v. v) 8 (readFlag mostExponent (λ p. v-leaf (l-decimal k p)) r)) s
+
 -- ---- parents
 -- a 16-bit count, then a run
 unfoldable pub counted : {R Z : Type 0} → (R → Z) → (ℕ → List ℕ → Got R) → List ℕ → Got Z
@@ -144,6 +148,7 @@ stepValue child type kDefinition b s = readDefinition type s
 stepValue child type kBuiltIn b s = readFlag 85 v-built-in s
 stepValue child type kType b s = front v-type 1 (type s)
 stepValue child type kIrrelevant b s = got v-irrelevant 1
+stepValue child type kDecimal b s = readDecimal s
 
 unfoldable pub stepV : (List ℕ → Got Val) → (List ℕ → Got Ty) → Kind → ℕ → List ℕ → Got Val
 stepV child type (ofValue k) b s = stepValue child type k b s

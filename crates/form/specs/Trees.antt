@@ -32,11 +32,13 @@ mutual
 pub data Temporal : Type 0 where
   on-date at-time at-dateTime for-daysAndTime for-yearsAndMonths : Temporal
 
--- the values 00 to 08: a null with its trace, a number or temporal value with the number that its eight key bytes are
+-- the values 00 to 08 and 10: a null with its trace; a number or temporal value with the number that its eight key bytes are; a decimal number, coefficient
+-- divided by 10 to the power of the exponent, with the number of the coefficient's eight bytes and the exponent
 pub data Leaf : Type 0 where
   l-null : ℕ → Leaf
   l-boolean : Bool → Leaf
   l-number : ℕ → Leaf
+  l-decimal : ℕ → ℕ → Leaf
   l-string : ℕ → Leaf
   l-temporal : Temporal → ℕ → Leaf
 
@@ -70,7 +72,7 @@ abbrev pub simple : Ty → Bool
 simple (leaf s) = true
 simple (built x) = false
 
--- a leaf of data: a null, boolean, number, string or temporal
+-- a leaf of data: a null, boolean, number, decimal, string or temporal
 abbrev pub isDataLeaf : Val → Bool
 isDataLeaf (v-leaf l) = true
 isDataLeaf (v-range i j v w) = false
@@ -80,6 +82,25 @@ isDataLeaf (v-function ps b r) = false
 isDataLeaf (v-built-in n) = false
 isDataLeaf (v-type t) = false
 isDataLeaf v-irrelevant = false
+
+-- a leaf of data that is no decimal: past these the walks have a short way
+abbrev pub isShort : Leaf → Bool
+isShort (l-null x) = true
+isShort (l-boolean x) = true
+isShort (l-number x) = true
+isShort (l-decimal x p) = false
+isShort (l-string x) = true
+isShort (l-temporal k x) = true
+
+abbrev pub isShortLeaf : Val → Bool
+isShortLeaf (v-leaf l) = isShort l
+isShortLeaf (v-range i j v w) = false
+isShortLeaf (v-list vs) = false
+isShortLeaf (v-context es) = false
+isShortLeaf (v-function ps b r) = false
+isShortLeaf (v-built-in n) = false
+isShortLeaf (v-type t) = false
+isShortLeaf v-irrelevant = false
 
 -- the place of a simple type among the bytes 20 to 29
 abbrev pub code : Simple → ℕ

@@ -2,10 +2,11 @@
 -- Assumes nothing.
 use Prim.Native.Nat.{ℕ, _+_, _≤_, max}
 use mathlib.Core.Path.{_≡_}
-use mathlib.Core.Bool.{Bool}
+use mathlib.Core.Bool.{Bool, _&&_}
 use mathlib.Core.List.{List}
 use lib.ListN.{drop}
 use lib.Dec.{leb, eqb}
+use Rattle.form.specs.Limits.{mostExponent}
 use Rattle.form.specs.Outcome.{Outcome, done, refused, pick}
 use Rattle.form.specs.Faults.{Fault, Shape, place}
 use Rattle.form.specs.Read.{Got, got, bad}
@@ -66,13 +67,21 @@ pub record Short {X : Type 0} (isLeaf : X → Bool) (g : Got X) (n len : ℕ) : 
   pub size : n ≡ leafIn isLeaf g
   pub room : n ≤ len
 
--- the largest operand byte of a leaf of data: a null's trace, a boolean's byte; a key or a text has any
-unfoldable pub operandEnd : ℕ → ℕ
-operandEnd b = pick (eqb b 0x00) 3 (pick (eqb b 0x01) 1 255)
+-- n where len bytes are enough for them, 0 where not
+abbrev pub sizeWithin : ℕ → ℕ → ℕ
+sizeWithin n len = pick (leb n len) n 0
 
--- a leaf with one operand byte, at most m
-abbrev pub flagWalk : ℕ → ℕ → Walk
-flagWalk x m = pick (leb x m) (End 2 1) (Stop Shape)
+-- and the last of them, x, is at most m
+abbrev pub sizeBounded : ℕ → ℕ → ℕ → ℕ → ℕ
+sizeBounded n len x m = pick (leb n len && leb x m) n 0
+
+-- the largest that the last operand byte of a leaf of data may be: a null's trace, a boolean's byte, a decimal's exponent; a key or a text ends in any
+unfoldable pub operandEnd : ℕ → ℕ
+operandEnd b = pick (eqb b 0x00) 3 (pick (eqb b 0x01) 1 (pick (eqb b 0x10) mostExponent 255))
+
+-- a leaf of n bytes whose last one is at most m
+abbrev pub flagWalk : ℕ → ℕ → ℕ → Walk
+flagWalk x m n = pick (leb x m) (End n 1) (Stop Shape)
 
 -- a whole of n bytes, after its walk
 unfoldable pub settled : ℕ → ℕ → ℕ → ℕ → Outcome ℕ

@@ -7,18 +7,18 @@ use mathlib.Core.Logic.{_↔_}
 use mathlib.Core.List.{List, [], _∷_, _++_}
 use lib.ListN.{length, getD, drop}
 use Rattle.form.specs.Limits.{nameWidth}
-use Rattle.form.specs.Trees.{Ty, leaf, built, list, range, context, function, code, Leaf, l-null, l-boolean, l-number, l-string, l-temporal, codeTemporal}
-use Rattle.form.specs.Trees.{Val, v-leaf, v-range, v-list, v-context, v-function, v-built-in, v-type, v-irrelevant}
+use Rattle.form.specs.Trees.{Ty, leaf, built, list, range, context, function, code, Leaf, l-null, l-boolean, l-number, l-decimal, l-string, l-temporal, codeTemporal}
+use Rattle.form.specs.Trees.{Val, v-leaf, v-range, v-list, v-context, v-function, v-built-in, v-type, v-irrelevant, isDataLeaf}
 use Rattle.form.specs.Form.{bytes, bit, Bytes, enc, encFields, encTys, encParams, encV, encVals, encEntries, countFields, countTys, countParams, countVals, countEntries}
-use Rattle.form.specs.Layout.{noCommand, kindOf, noWidth, widthOf}
+use Rattle.form.specs.Layout.{noCommand, kindOf, noWidth, widthOf, isLeafCommand}
 use Rattle.form.specs.Faults.{Shape}
 use Rattle.form.specs.Read.{Got, got, bad, front, andThen, readFields, readTys, readParams, readVals, readEntries, readT, readV}
 
--- ---- the table that had the widths before they were worked out from ranges: the bytes 00 to 2D, 255 for none
+-- ---- the table that had the widths before they were worked out from ranges, and the width of 10: the bytes 00 to 2D, 255 for none
 unfoldable pub oldWidths : List ℕ
 oldWidths =
     1 ∷ 1 ∷ 8 ∷ nameWidth ∷ 8 ∷ 8 ∷ 8 ∷ 8 ∷ 8 ∷ 2 ∷ 2 ∷ 2 ∷ 3 ∷ 1 ∷ 0 ∷ 0
-    ∷ 255 ∷ 255 ∷ 255 ∷ 255 ∷ 255 ∷ 255 ∷ 255 ∷ 255 ∷ 255 ∷ 255 ∷ 255 ∷ 255 ∷ 255 ∷ 255 ∷ 255 ∷ 255
+    ∷ 9 ∷ 255 ∷ 255 ∷ 255 ∷ 255 ∷ 255 ∷ 255 ∷ 255 ∷ 255 ∷ 255 ∷ 255 ∷ 255 ∷ 255 ∷ 255 ∷ 255 ∷ 255
     ∷ 0 ∷ 0 ∷ 0 ∷ 0 ∷ 0 ∷ 0 ∷ 0 ∷ 0 ∷ 0 ∷ 0 ∷ 0 ∷ 0 ∷ 2 ∷ 1 ∷ []
 
 -- its answer: 255 beyond its end
@@ -30,6 +30,7 @@ abbrev pub leafCommand : Leaf → ℕ
 leafCommand (l-null t) = 0x00
 leafCommand (l-boolean b) = 0x01
 leafCommand (l-number k) = 0x02
+leafCommand (l-decimal k p) = 0x10
 leafCommand (l-string n) = 0x03
 leafCommand (l-temporal t k) = 0x04 + codeTemporal t
 
@@ -47,6 +48,7 @@ unfoldable pub leafOperands : Leaf → List ℕ
 leafOperands (l-null t) = t ∷ []
 leafOperands (l-boolean b) = bit b ∷ []
 leafOperands (l-number k) = bytes 8 k
+leafOperands (l-decimal k p) = bytes 8 k ++ (p ∷ [])
 leafOperands (l-string n) = bytes nameWidth n
 leafOperands (l-temporal t k) = bytes 8 k
 
@@ -125,6 +127,8 @@ pub record Widths : Type 0 where
   pub as-table : (b : ℕ) → widthOf b ≡ tableWidth b
   -- there is no width exactly for a byte that is no command
   pub none-exact : (b : ℕ) → (widthOf b ≡ noWidth) ↔ (kindOf b ≡ noCommand)
+  -- the commands of leaves of data are those of no other value
+  pub leaves-exact : (v : Val) → isLeafCommand (command v) ≡ isDataLeaf v
   -- ENCODED: the operands are as many as the command's width, and all behind them is children
   pub value-parts : (v : Val) → encV v ≡ command v ∷ (operandBytes v ++ childBytes v)
   pub value-width : (v : Val) → length (operandBytes v) ≡ widthOf (command v)

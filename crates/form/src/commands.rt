@@ -1,10 +1,10 @@
 // Commands and the widths of their operands. For the walks here and the leaves of the crates above.
 ghost use mathlib.Core.Path.{_≡_};
 ghost use Prim.Native.Nat.{_+_, _-_, _<_};
-ghost use lib.Dec.{ltb};
 ghost use Rattle.form.specs.Outcome.{pick};
-ghost use Rattle.form.specs.Layout.{noWidth, widthOf};
+ghost use Rattle.form.specs.Layout.{noWidth, widthOf, isLeafCommand, leafTypeCommand};
 ghost use Rattle.form.specs.Walks.{operandEnd};
+use crate::limits::MOST_EXPONENT;
 use crate::limits::NAME_WIDTH;
 
 // The commands of values.
@@ -40,6 +40,8 @@ pub const FEEL_TYPE: u8 = 0x0E;
 
 pub const IRRELEVANT: u8 = 0x0F;
 
+pub const DECIMAL: u8 = 0x10;
+
 // The commands of types.
 pub const ANY_TYPE: u8 = 0x20;
 
@@ -69,8 +71,8 @@ pub const CONTEXT_TYPE: u8 = 0x2C;
 
 pub const FUNCTION_TYPE: u8 = 0x2D;
 
-// The command of a boolean, a number, a string or a temporal value and that of its type differ by this.
-pub const LEAF_TO_TYPE: u8 = 0x20;
+// The command of a boolean, a whole number, a string or a temporal value and that of its type differ by this.
+const LEAF_TO_TYPE: u8 = 0x20;
 
 // ---- the widths of operands: each stands here, once; who has to do with any command asks for it
 
@@ -80,12 +82,13 @@ const NO_WIDTH: usize = 255;
 // How many operand bytes a leaf of data has, by ranges of its command; no width for every other byte. Apart from `width`, since the loops of the walks ask
 // for leaves alone.
 fn leaf_width(c: u8) -> usize
-    ensures { λ r. ⌜ r ≡ pick (ltb c 9) (widthOf c) noWidth ⌝ }
+    ensures { λ r. ⌜ r ≡ pick (isLeafCommand c) (widthOf c) noWidth ⌝ }
 {
     match c {
         NULL..=BOOLEAN => 1,
         NUMBER | DATE..=YEARS_AND_MONTHS => 8,
         STRING => NAME_WIDTH,
+        DECIMAL => 9,
         _ => NO_WIDTH,
     }
 }
@@ -96,7 +99,7 @@ pub fn width(c: u8) -> usize
     ensures { λ r. ⌜ r ≡ widthOf c ⌝ }
 {
     match c {
-        NULL..=YEARS_AND_MONTHS => leaf_width(c),
+        NULL..=YEARS_AND_MONTHS | DECIMAL => leaf_width(c),
         RANGE..=CONTEXT => 2,
         FUNCTION_DEFINITION..=IRRELEVANT => match c {
             FUNCTION_DEFINITION => 3,
@@ -116,19 +119,32 @@ pub fn width(c: u8) -> usize
 
 // The size of a leaf of data by its command, 0 for every other command.
 pub fn leaf_size(c: u8) -> usize
-    ensures { λ r. ⌜ r ≡ pick (ltb c 9) (widthOf c + 1) 0 ⌝ }
+    ensures { λ r. ⌜ r ≡ pick (isLeafCommand c) (widthOf c + 1) 0 ⌝ }
 {
     let w = leaf_width(c);
     if w == NO_WIDTH { 0 } else { w + 1 }
 }
 
-// The largest operand byte of a leaf of data.
+// The command of a leaf's type by its own command, 0 for every other command.
+pub fn leaf_type(c: u8) -> u8
+    ensures { λ r. ⌜ r ≡ leafTypeCommand c ⌝ }
+{
+    match c {
+        NULL => NULL_TYPE,
+        BOOLEAN..=YEARS_AND_MONTHS => c + LEAF_TO_TYPE,
+        DECIMAL => NUMBER_TYPE,
+        _ => 0,
+    }
+}
+
+// The largest that the last operand byte of a leaf of data may be.
 pub(crate) fn operand_end(c: u8) -> u8
     ensures { λ r. ⌜ r ≡ operandEnd c ⌝ }
 {
     match c {
         NULL => 3,
         BOOLEAN => 1,
+        DECIMAL => MOST_EXPONENT,
         _ => 255,
     }
 }

@@ -15,5 +15,8 @@ pub const VALUE_LEVELS: usize = 31;
 // The levels that a type reaches.
 pub const TYPE_LEVELS: usize = 32;
 
+// The largest exponent of a decimal number.
+pub const MOST_EXPONENT: u8 = 18;
+
 // The most names of a path.
 pub const MOST_NAMES: usize = 31;

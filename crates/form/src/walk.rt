@@ -2,10 +2,10 @@
 ghost use mathlib.Core.Path.{_≡_};
 ghost use Prim.Native.Nat.{_+_, _*_, _-_, _<_, _≤_, _^_};
 ghost use lib.ListN.{length, drop, getD};
-ghost use Rattle.form.specs.Trees.{simple, isDataLeaf};
+ghost use Rattle.form.specs.Trees.{simple, isShortLeaf};
 ghost use Rattle.form.specs.Form.{level, levelFields, levelTys, levelParams, levelV, levelVals, levelEntries};
 ghost use Rattle.form.specs.Read.{readT, readFields, readTys, readParams, readV, readVals, readEntries};
-ghost use Rattle.form.specs.Walks.{walkOf, walkBy, pairWalk, up, Told, Short, flagWalk, settled};
+ghost use Rattle.form.specs.Walks.{walkOf, walkBy, pairWalk, up, Told, Short, sizeWithin, sizeBounded, flagWalk, settled};
 ghost use Rattle.form.specs.Answers.{checked};
 use crate::Checked;
 use crate::bytes;
@@ -35,12 +35,13 @@ fn fault(f: usize, told: &mut usize) -> usize
     0
 }
 
-// A leaf with one operand byte, which is at most `most`.
-fn flag(x: u8, most: u8, told: &mut usize) -> usize
-    ensures { λ r. ⌜ Told (flagWalk x most) 2 r (now (told .exit)) ⌝ }
+// A leaf of `size` bytes whose last operand byte is x, and at most `most`.
+fn flag(x: u8, most: u8, size: usize, told: &mut usize) -> usize
+    requires { ⌜ 1 ≤ size ⌝ }
+    ensures { λ r. ⌜ Told (flagWalk x most size) size r (now (told .exit)) ⌝ }
 {
     if x <= most {
-        end(2, 1, told)
+        end(size, 1, told)
     } else {
         fault(SHAPE, told)
     }
@@ -158,10 +159,36 @@ fn walk_types(s: &[u8], k: usize, count: usize, left: usize, told: &mut usize) -
 
 // ---- values
 
-// The size of the value at `at` where it is a leaf of data, 0 where it is not: a short way past most values.
+// n where so many bytes stand from `at` on, 0 where not.
+fn within(s: &[u8], at: usize, n: usize) -> usize
+    requires { ⌜ at ≤ length (now s) ⌝ }
+    ensures { λ r. ⌜ r ≡ sizeWithin n (length (now (s .entry)) - at) ⌝ }
+{
+    if s.len() - at < n {
+        return 0;
+    }
+    n
+}
+
+// n where so many bytes stand from `at` on, of which the last is at most `most`, 0 where not.
+fn bounded(s: &[u8], at: usize, n: usize, most: u8) -> usize
+    requires { ⌜ (at ≤ length (now s)) × (1 ≤ n) ⌝ }
+    ensures { λ r. ⌜ r ≡ sizeBounded n (length (now (s .entry)) - at) (getD (now (s .entry)) (at + n - 1) 0) most ⌝ }
+{
+    if s.len() - at < n {
+        return 0;
+    }
+    if most < s[at + n - 1] {
+        return 0;
+    }
+    n
+}
+
+// The size of the value at `at` where it is a leaf of data but a decimal, 0 where it is not: a short way past most values. Each arm asks for the size of a
+// command that is known, so that the loops have it as a constant. A test for decimals would cost all others time.
 pub fn leaf_size_at(s: &[u8], at: usize, left: usize) -> usize
     requires { ⌜ at ≤ length (now s) ⌝ }
-    ensures { λ r. ⌜ Short isDataLeaf (readV left (drop at (now (s .entry)))) r (length (now (s .entry)) - at) ⌝ }
+    ensures { λ r. ⌜ Short isShortLeaf (readV left (drop at (now (s .entry)))) r (length (now (s .entry)) - at) ⌝ }
 {
     if left == 0 {
         return 0;
@@ -170,19 +197,22 @@ pub fn leaf_size_at(s: &[u8], at: usize, left: usize) -> usize
         return 0;
     }
     let c = s[at];
-    let n = commands::leaf_size(c);
-    if n < 2 {
-        return 0;
-    }
-    if s.len() - at < n {
-        return 0;
-    }
-    if c < 2 {
-        if commands::operand_end(c) < s[at + 1] {
-            return 0;
+    match c {
+        commands::NUMBER => within(s, at, commands::leaf_size(commands::NUMBER)),
+        commands::STRING => within(s, at, commands::leaf_size(commands::STRING)),
+        commands::NULL..=commands::BOOLEAN => {
+            bounded(
+                s,
+                at,
+                commands::leaf_size(commands::NULL),
+                commands::operand_end(c),
+            )
         }
+        commands::DATE..=commands::YEARS_AND_MONTHS => {
+            within(s, at, commands::leaf_size(commands::DATE))
+        }
+        _ => 0,
     }
-    n
 }
 
 // A definition behind its four bytes: the result type, then `count` names and types in any order.
@@ -229,16 +259,16 @@ fn walk_other(s: &[u8], left: usize, told: &mut usize) -> usize
         return fault(SHAPE, told);
     }
     match c {
-        commands::NULL => flag(s[1], 3, told),
-        commands::BOOLEAN => flag(s[1], 1, told),
-        commands::NUMBER..=commands::YEARS_AND_MONTHS => end(w + 1, 1, told),
+        commands::NULL..=commands::YEARS_AND_MONTHS | commands::DECIMAL => {
+            flag(s[w], commands::operand_end(c), w + 1, told)
+        }
         commands::FUNCTION_DEFINITION => walk_definition(
             &s[4..],
             bytes::wide(s[1]),
             left - 1,
             told,
         ),
-        commands::BUILT_IN_FUNCTION => flag(s[1], 85, told),
+        commands::BUILT_IN_FUNCTION => flag(s[1], 85, 2, told),
         commands::FEEL_TYPE => walk_types(&s[1..], 1, 1, left - 1, told),
         commands::IRRELEVANT => end(1, 1, told),
         _ => fault(SHAPE, told),

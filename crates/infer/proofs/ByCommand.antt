@@ -1,7 +1,7 @@
 -- What the writer of a value's type asks and leaves, by the value's command.
 -- Idea: every built value is one case: a part of the value is written behind a front that stands already (`Under`).
 -- Index: `Under`, `under-head`, `under-room`, `under-free`, `under-read`, `under-wrote`, `under-kept`, `under-done`, `Part`, `part-fits` (the one case); `in-range`, `in-list`, `in-context`,
--- `in-definition`, `in-type`, `type-done` (built values); `null-done`, `leaf-done`, `other-done` (one byte); `plain-free`, `plain-put`, `plain-told` (the short way past a leaf).
+-- `in-definition`, `in-type`, `type-done` (built values); `leaf-done`, `other-done` (one byte); `plain-free`, `plain-put`, `plain-told` (the short way past a leaf).
 -- Assumes nothing.
 use Prim.Native.Nat.{ℕ, _+_, _-_, _/_, _%_, _<_, _≤_}
 use mathlib.Core.Path.{_≡_, refl, sym, ap, ap₂, subst, _∙_}
@@ -12,10 +12,11 @@ use native.Mathlib.Omega.{arith}
 use lib.ListN.{length, getD, take, drop, set, length-append, length-set}
 use lib.Seq.{getD-drop}
 use borrow.Rule.Slice.PartMut.{putMid, same-len-mid, set-mid-at}
-use Rattle.form.specs.Trees.{Ty, code, Leaf, l-null, Params, Val, v-leaf, v-range, v-list, v-context, v-function, v-type, no-items, item}
+use Rattle.form.specs.Trees.{Ty, code, Leaf, Params, Val, v-leaf, v-range, v-list, v-context, v-function, v-type, no-items, item}
 use Rattle.form.specs.Trees.{Entries}
 use Rattle.form.specs.Form.{bytes, numAt, Bytes, enc, encV, WfV, WfVals, WfEntries}
-use Rattle.form.specs.Layout.{kindOf, operandsV, operands, widthOf, ValueKind, kNull, kRange, kList, kContext, kDefinition, kType}
+use Rattle.form.proofs.CommandKinds.{leaf-low}
+use Rattle.form.specs.Layout.{kindOf, operandsV, operands, widthOf, isLeafCommand, leafTypeCommand, ValueKind, kRange, kList, kContext, kDefinition, kType}
 use Rattle.form.specs.Answers.{onto}
 use Rattle.form.proofs.Exact.{bytes-drop}
 use Rattle.form.proofs.Runs.{rest, length-rest}
@@ -31,7 +32,7 @@ use Rattle.types.proofs.Entries.{size-got}
 use Rattle.types.proofs.Instances.{front-bytes}
 use Rattle.values.specs.At.{valueAt, itemsAt, entriesAt, Definition, definition, sizeDefinition, definitionAt}
 use Rattle.values.proofs.Reading.{some-byte, some-level, v-inside, IsVal, is-null, is-boolean, is-number, is-string, is-temporal, is-range, is-list, is-context, is-definition, is-built-in, is-type}
-use Rattle.values.proofs.Reading.{is-irrelevant, is-val, as-null, as-leaf, as-range, as-list, as-context, as-definition, as-type, encoded}
+use Rattle.values.proofs.Reading.{is-irrelevant, is-decimal, is-val, as-leaf, as-range, as-list, as-context, as-definition, as-type, encoded}
 use Rattle.output.proofs.OntoLaws.{onto-first, onto-two, onto-three, length-onto}
 use Rattle.infer.specs.Typing.{typeBy, Fits, FitVal, FitDefinition, Fitting, Plain, Starts, Wrote, Typed, typeText, fieldsText, innerText, signatureText}
 use Rattle.infer.proofs.Trees.{fine, list-is, range-is, context-is, leaf-is, built-in-is, irrelevant-is, function-is, type-is, count-is}
@@ -125,18 +126,14 @@ unfolding enc
 leaf-text m x = ap enc (leaf-is m x)
 
 module _ (m : Bool) (l : ℕ) (s : List ℕ) where
-  null-of : {v : Val} → IsVal l s kNull v → Simply m v 41 (widthOf (getD s 0 0))
-  unfolding enc sizeVal kindOf operands operandsV widthOf
-  null-of (is-null x c) = (ap enc (leaf-is m (l-null x)), ap (λ (z : ℕ). widthOf z + 1) c)
-
-  leaf-of : (v : Val) → valueAt l s ≡ some v → (getD s 0 0 ≡ 0 → ⊥) → getD s 0 0 < 9 → Simply m v (getD s 0 0 + 32) (widthOf (getD s 0 0))
-  leaf-of v e g h =
+  leaf-of : (v : Val) → valueAt l s ≡ some v → isLeafCommand (getD s 0 0) ≡ true → Simply m v (leafTypeCommand (getD s 0 0)) (widthOf (getD s 0 0))
+  leaf-of v e h =
       let L = as-leaf l s v e h in
-      subst (λ x. Simply m x (getD s 0 0 + 32) (widthOf (getD s 0 0))) (sym (L .is)) (leaf-text m (L .x) ∙ ap (λ (z : ℕ). z ∷ []) (L .type g), L .size)
+      subst (λ x. Simply m x (leafTypeCommand (getD s 0 0)) (widthOf (getD s 0 0))) (sym (L .is)) (leaf-text m (L .x) ∙ ap (λ (z : ℕ). z ∷ []) (L .type), L .size)
 
   -- none of the commands that have an arm of their own
   abbrev Other : Type 0
-  Other = (((((Unit {0} × (getD s 0 0 ≡ 0 → ⊥)) × (getD s 0 0 ≡ 9 → ⊥)) × (getD s 0 0 ≡ 10 → ⊥)) × (getD s 0 0 ≡ 11 → ⊥)) × (getD s 0 0 ≡ 12 → ⊥)) × (getD s 0 0 ≡ 14 → ⊥)
+  Other = (((((Unit {0} × (getD s 0 0 ≡ 16 → ⊥)) × (getD s 0 0 ≡ 9 → ⊥)) × (getD s 0 0 ≡ 10 → ⊥)) × (getD s 0 0 ≡ 11 → ⊥)) × (getD s 0 0 ≡ 12 → ⊥)) × (getD s 0 0 ≡ 14 → ⊥)
 
   other-of : {j : ValueKind} (v : Val) → IsVal l s j v → Other → 9 ≤ getD s 0 0 → Simply m v 32 (widthOf (getD s 0 0))
   unfolding enc sizeVal kindOf operands operandsV widthOf
@@ -152,6 +149,7 @@ module _ (m : Bool) (l : ℕ) (s : List ℕ) where
   other-of v (is-built-in c k) g h = (ap enc (built-in-is m (getD s 1 0)), ap (λ (z : ℕ). widthOf z + 1) c)
   other-of v (is-type t c e) g h = absurd (g .1 c)
   other-of v (is-irrelevant c) g h = (ap enc (irrelevant-is m), ap (λ (z : ℕ). widthOf z + 1) c)
+  other-of v (is-decimal x p c) g h = absurd (g .0 .0 .0 .0 .0 .1 c)
 
 -- ---- the built values
 module _ (m : Bool) (l : ℕ) (s old : List ℕ) (spare : ℕ) (bs : Bytes s) where
@@ -365,24 +363,19 @@ module _ (m : Bool) (l : ℕ) (s old spare : List ℕ) (p : FitVal m (valueAt l 
   simply-done : (b n : ℕ) → Simply m (O .x) b n → (k : ℕ) → k ≡ n → Typed sizeVal (typeText m) (valueAt l s) old (set old 0 b) (k + 1) 1
   simply-done b n N k e = simple-wrote m l s (O .x) (O .read) b (N .0) (k + 1) (ap (λ (z : ℕ). z + 1) e ∙ N .1) old one-free
 
-  pub null-ends : getD s 0 0 ≡ 0 → widthOf (getD s 0 0) + 1 ≤ length s
-  null-ends c = simply-ends _ _ (null-of m l s (as-null l s (O .x) (O .read) c))
+  -- a leaf; b is the command of its type
+  module _ (h : isLeafCommand (getD s 0 0) ≡ true) where
+    pub leaf-ends : widthOf (getD s 0 0) + 1 ≤ length s
+    leaf-ends = simply-ends _ _ (leaf-of m l s (O .x) (O .read) h)
 
-  pub null-done : getD s 0 0 ≡ 0 → (k : ℕ) → k ≡ widthOf (getD s 0 0) → Typed sizeVal (typeText m) (valueAt l s) old (set old 0 41) (k + 1) 1
-  null-done c = simply-done _ _ (null-of m l s (as-null l s (O .x) (O .read) c))
+    pub leaf-done : (b : ℕ) → b ≡ leafTypeCommand (getD s 0 0) → (k : ℕ) → k ≡ widthOf (getD s 0 0) → Typed sizeVal (typeText m) (valueAt l s) old (set old 0 b) (k + 1) 1
+    leaf-done b t = simply-done b _ (subst (λ (z : ℕ). Simply m (O .x) z (widthOf (getD s 0 0))) (sym t) (leaf-of m l s (O .x) (O .read) h))
 
-  plain-done : (n : ℕ) → Plain (getD s 0 0) n → Typed sizeVal (typeText m) (valueAt l s) old (set old 0 (getD s 0 0 + 32)) n 1
-  plain-done n P =
-      subst (λ (z : ℕ). Typed sizeVal (typeText m) (valueAt l s) old (set old 0 (getD s 0 0 + 32)) z 1) (sym (P .size))
-      (simply-done _ _ (leaf-of m l s (O .x) (O .read) (λ e. omega (arith, P .some)) (P .low)) (widthOf (getD s 0 0)) refl)
+  plain-done : (b : ℕ) → b ≡ leafTypeCommand (getD s 0 0) → (n : ℕ) → Plain (getD s 0 0) n → Typed sizeVal (typeText m) (valueAt l s) old (set old 0 b) n 1
+  plain-done b t n P =
+      subst (λ (z : ℕ). Typed sizeVal (typeText m) (valueAt l s) old (set old 0 b) z 1) (sym (P .size)) (leaf-done (leaf-low (getD s 0 0) (P .low)) b t (widthOf (getD s 0 0)) refl)
 
   module _ (other : Other m l s) where
-    pub leaf-ends : getD s 0 0 < 9 → widthOf (getD s 0 0) + 1 ≤ length s
-    leaf-ends h = simply-ends _ _ (leaf-of m l s (O .x) (O .read) (other .0 .0 .0 .0 .0 .1) h)
-
-    pub leaf-done : getD s 0 0 < 9 → (k : ℕ) → k ≡ widthOf (getD s 0 0) → Typed sizeVal (typeText m) (valueAt l s) old (set old 0 (getD s 0 0 + 32)) (k + 1) 1
-    leaf-done h = simply-done _ _ (leaf-of m l s (O .x) (O .read) (other .0 .0 .0 .0 .0 .1) h)
-
     pub other-ends : 9 ≤ getD s 0 0 → widthOf (getD s 0 0) + 1 ≤ length s
     other-ends h = simply-ends _ _ (other-of m l s (O .x) (kind .1) other h)
 
@@ -422,13 +415,9 @@ module _ (m : Bool) (l : ℕ) (s : List ℕ) (i : ℕ) (xs : List ℕ) (j : ℕ)
   pub plain-put : (b : ℕ) → putMid j (length xs - j) xs (set (behind j xs) 0 b) ≡ set xs j b
   plain-put b = let z : j + 0 ≡ j = omega arith in set-mid-at j (length xs - j) 0 xs b (omega (arith, one-there)) ∙ ap (λ (k : ℕ). set xs k b) z
 
-  module _ (k : ℕ) (P : Plain (getD (behind i s) 0 0) k) where
-    byte-is : getD (behind i s) 0 0 ≡ getD s i 0
-    byte-is = let z : i + 0 ≡ i = omega arith in ap (λ (r : List ℕ). getD r 0 0) (rest s i) ∙ getD-drop i s 0 0 ∙ ap (λ (k : ℕ). getD s k 0) z
+  byte-is : getD (behind i s) 0 0 ≡ getD s i 0
+  byte-is = let z : i + 0 ≡ i = omega arith in ap (λ (r : List ℕ). getD r 0 0) (rest s i) ∙ getD-drop i s 0 0 ∙ ap (λ (k : ℕ). getD s k 0) z
 
-    pub plain-byte : getD s i 0 < 9
-    plain-byte = omega (arith, byte-is, P .low)
-
-    pub plain-told : Typed sizeVal (typeText m) (valueAt l (behind i s)) (behind j xs) (set (behind j xs) 0 (getD s i 0 + 32)) k 1
-    plain-told =
-        subst (λ (b : ℕ). Typed sizeVal (typeText m) (valueAt l (behind i s)) (behind j xs) (set (behind j xs) 0 (b + 32)) k 1) byte-is (plain-done m l (behind i s) (behind j xs) spare p there k P)
+  pub plain-told : (b : ℕ) → b ≡ leafTypeCommand (getD s i 0) → (k : ℕ) → Plain (getD (behind i s) 0 0) k
+      → Typed sizeVal (typeText m) (valueAt l (behind i s)) (behind j xs) (set (behind j xs) 0 b) k 1
+  plain-told b t k P = plain-done m l (behind i s) (behind j xs) spare p there b (t ∙ ap leafTypeCommand (sym byte-is)) k P

@@ -1,7 +1,7 @@
 -- The loop that writes the entries of a context: what is left of them, and what stands at the front of the output.
 -- Idea: what was written and the text of what is left make the text of all entries (`EntriesInv`).
 -- Index: `EntriesInv`, `entries-start`, `entries-done`; `entry-name`, `entry-room`, `entry-fits`, `name-len`, `entry-read`, `entry-wrote`, `entry-next` (an entry);
--- `entry-some`, `entry-low`, `entry-leaf-read`, `entry-leaf-wrote`, `entry-leaf` (an entry that is a leaf).
+-- `entry-some`, `entry-byte`, `entry-free`, `entry-leaf-read`, `entry-leaf-wrote`, `entry-leaf` (an entry that is a leaf).
 -- Assumes nothing.
 use Prim.Native.Nat.{ℕ, suc, _+_, _-_, _<_, _≤_}
 use mathlib.Core.Path.{_≡_, refl, sym, ap, subst, _∙_}
@@ -14,6 +14,7 @@ use borrow.Rule.Slice.PartMut.{putMid, same-len-mid}
 use Rattle.form.specs.Limits.{nameWidth, mostBytes}
 use Rattle.form.specs.Trees.{Entries, no-entries}
 use Rattle.form.specs.Form.{bytes, numAt, Bytes, encFields, WfV}
+use Rattle.form.specs.Layout.{leafTypeCommand}
 use Rattle.form.proofs.Exact.{bytes-drop}
 use Rattle.form.proofs.Numbers.{length-bytes}
 use Rattle.form.proofs.Runs.{length-rest}
@@ -30,7 +31,7 @@ use Rattle.output.proofs.OntoLaws.{length-over}
 use Rattle.infer.specs.Typing.{typeBy, fieldsBy, FitVal, FitEntries, Plain, Starts, Wrote, Typed, typeText, fieldsText}
 use Rattle.infer.proofs.Trees.{fine, fields-none, fields-entry, data-entry}
 use Rattle.infer.proofs.OutputFront.{starts, lent-starts, over-starts, open-fit, fit, typed, typed-is, behind}
-use Rattle.infer.proofs.ByCommand.{plain-free, plain-put, plain-byte, plain-told}
+use Rattle.infer.proofs.ByCommand.{plain-free, plain-put, plain-told}
 use Rattle.output.specs.Output.{over}
 use Rattle.values.proofs.EntriesAt.{This, this, none-left, size-none}
 
@@ -171,32 +172,28 @@ module _ {m : Bool} {l : ℕ} {s : List ℕ} {n : ℕ} {old spare₀ out spare :
     pub entry-byte : at + nameWidth < length s
     entry-byte = omega (arith, entry-some, length-rest s (at + nameWidth))
 
-    module _ (xs : List ℕ) (k : ℕ) (named : xs ≡ over to (bytes nameWidth (numAt nameWidth at s)) out) (P : Plain (getD (behind (at + nameWidth) s) 0 0) k) where
+    module _ (xs : List ℕ) (named : xs ≡ over to (bytes nameWidth (numAt nameWidth at s)) out) where
       abbrev fits : FitVal m (valueAt l (behind (at + nameWidth) s)) (length (behind (to + nameWidth) xs)) (length spare)
       fits = entry-fits xs (name-len xs named)
-
-      abbrev b : ℕ
-      b = getD s (at + nameWidth) 0 + 32
-
-      told : Typed sizeVal (typeText m) (valueAt l (behind (at + nameWidth) s)) (behind (to + nameWidth) xs) (set (behind (to + nameWidth) xs) 0 b) k 1
-      told = plain-told m l s (at + nameWidth) xs (to + nameWidth) spare fits bs k P
-
-      pub entry-low : getD s (at + nameWidth) 0 < 9
-      entry-low = plain-byte m l s (at + nameWidth) xs (to + nameWidth) spare fits bs k P
 
       pub entry-free : to + nameWidth < length xs
       entry-free = plain-free m l s (at + nameWidth) xs (to + nameWidth) spare fits bs
 
-      pub entry-leaf-read : at + nameWidth + k ≤ length s
-      entry-leaf-read = entry-read xs (set (behind (to + nameWidth) xs) 0 b) k 1 named told
+      -- b is the command of the leaf's type
+      module _ (b : ℕ) (t : b ≡ leafTypeCommand (getD s (at + nameWidth) 0)) (k : ℕ) (P : Plain (getD (behind (at + nameWidth) s) 0 0) k) where
+        told : Typed sizeVal (typeText m) (valueAt l (behind (at + nameWidth) s)) (behind (to + nameWidth) xs) (set (behind (to + nameWidth) xs) 0 b) k 1
+        told = plain-told m l s (at + nameWidth) xs (to + nameWidth) spare fits bs b t k P
 
-      pub entry-leaf-wrote : to + nameWidth + 1 ≤ length s
-      entry-leaf-wrote = entry-wrote xs (set (behind (to + nameWidth) xs) 0 b) k 1 named told
+        pub entry-leaf-read : at + nameWidth + k ≤ length s
+        entry-leaf-read = entry-read xs (set (behind (to + nameWidth) xs) 0 b) k 1 named told
 
-      pub entry-leaf : EntriesInv m l s n old spare₀ (set xs (to + nameWidth) b) spare (at + nameWidth + k) (to + nameWidth + 1) (i + 1)
-      entry-leaf =
-          subst (λ (z : List ℕ). EntriesInv m l s n old spare₀ z spare (at + nameWidth + k) (to + nameWidth + 1) (i + 1)) (plain-put m l s (at + nameWidth) xs (to + nameWidth) spare fits bs b)
-          (entry-next xs (set (behind (to + nameWidth) xs) 0 b) k 1 named told spare refl)
+        pub entry-leaf-wrote : to + nameWidth + 1 ≤ length s
+        entry-leaf-wrote = entry-wrote xs (set (behind (to + nameWidth) xs) 0 b) k 1 named told
+
+        pub entry-leaf : EntriesInv m l s n old spare₀ (set xs (to + nameWidth) b) spare (at + nameWidth + k) (to + nameWidth + 1) (i + 1)
+        entry-leaf =
+            subst (λ (z : List ℕ). EntriesInv m l s n old spare₀ z spare (at + nameWidth + k) (to + nameWidth + 1) (i + 1)) (plain-put m l s (at + nameWidth) xs (to + nameWidth) spare fits bs b)
+            (entry-next xs (set (behind (to + nameWidth) xs) 0 b) k 1 named told spare refl)
 
   pub entries-done : n ≤ i → Typed sizeEntries (fieldsText m) (entriesAt l n 0 s) old out at to
   entries-done h =

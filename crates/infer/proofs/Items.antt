@@ -1,7 +1,7 @@
 -- The loop that writes one type for all items: what is left of them, and the type so far at the front of the output.
 -- Idea: the type so far, joined with the types of what is left, is the type of all items (`ItemsInv`).
 -- Index: `ItemsInv`, `items-none`, `items-first`, `items-start`, `items-done`; `item-room`, `item-fits`, `item-read`, `item-sides`, `item-reduced`, `item-next` (an item);
--- `item-some`, `item-low`, `leaf-read`, `leaf-sides`, `leaf-reduced`, `leaf-next` (an item that is a leaf).
+-- `item-some`, `item-byte`, `item-free`, `leaf-read`, `leaf-sides`, `leaf-reduced`, `leaf-next` (an item that is a leaf).
 -- Assumes nothing.
 use Prim.Native.Nat.{ℕ, _+_, _-_, _<_, _≤_}
 use mathlib.Core.Path.{_≡_, refl, sym, ap, subst, _∙_}
@@ -14,6 +14,7 @@ use borrow.Rule.Slice.PartMut.{putMid, same-len-mid}
 use Rattle.form.specs.Limits.{mostBytes, valueLevels, typeLevels}
 use Rattle.form.specs.Trees.{null, Ty, leaf, Val, Vals, no-items, item}
 use Rattle.form.specs.Form.{Bytes, enc, encV, level, levelV, Wf, WfV, WfVals}
+use Rattle.form.specs.Layout.{leafTypeCommand}
 use Rattle.form.proofs.Exact.{Found, bytes-drop}
 use Rattle.form.proofs.Runs.{length-rest}
 use Rattle.order.specs.Order.{fixed}
@@ -30,7 +31,7 @@ use Rattle.output.proofs.OntoLaws.{onto-first}
 use Rattle.infer.specs.Typing.{typeBy, joined, taken, inner, FitVal, FitItems, Plain, Starts, Wrote, Typed, typeText, innerText, Sides, Reduced, Joined}
 use Rattle.infer.proofs.Trees.{Fine, fine, Sound, sound, type-reduced, joined-reduced, data-item}
 use Rattle.infer.proofs.OutputFront.{starts-onto, starts-read, lent-front, lent-back, Opened, open-fit, fit, typed, typed-is, sides, reduced, joined-is, behind}
-use Rattle.infer.proofs.ByCommand.{plain-free, plain-put, plain-byte, plain-told}
+use Rattle.infer.proofs.ByCommand.{plain-free, plain-put, plain-told}
 
 pub record ItemsInv (m equal : Bool) (l : ℕ) (v : List ℕ) (n : ℕ) (old spare₀ out spare : List ℕ) (at to i : ℕ) : Type 0 where
   -- all, what is left of them, and the type so far
@@ -264,21 +265,16 @@ module _ {m equal : Bool} {l : ℕ} {s : List ℕ} {n : ℕ} {old spare₀ out s
     pub item-free : to < length out
     item-free = plain-free m l s at out to spare item-fits bs
 
-    module _ (levels : l ≤ valueLevels) (k : ℕ) (P : Plain (getD (behind at s) 0 0) k) where
-      abbrev b : ℕ
-      b = getD s at 0 + 32
-
+    -- b is the command of the leaf's type
+    module _ (levels : l ≤ valueLevels) (b : ℕ) (t : b ≡ leafTypeCommand (getD s at 0)) (k : ℕ) (P : Plain (getD (behind at s) 0 0) k) where
       abbrev ys : List ℕ
       ys = set (behind to out) 0 b
 
       told : Typed sizeVal (typeText m) (valueAt l (behind at s)) (behind to out) ys k 1
-      told = plain-told m l s at out to spare item-fits bs k P
+      told = plain-told m l s at out to spare item-fits bs b t k P
 
       put : putMid to (length out - to) out ys ≡ set out to b
       put = plain-put m l s at out to spare item-fits bs b
-
-      pub item-low : getD s at 0 < 9
-      item-low = plain-byte m l s at out to spare item-fits bs k P
 
       pub leaf-read : at + k ≤ length s
       leaf-read = item-read levels ys spare k 1 told refl

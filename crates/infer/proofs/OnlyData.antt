@@ -10,13 +10,12 @@ use mathlib.Core.Option.{Option, some}
 use mathlib.Core.List.{List}
 use native.Mathlib.Omega.{arith}
 use lib.ListN.{length, getD, take, drop}
-use lib.Dec.{ltb}
 use Rattle.form.specs.Trees.{Val, Vals, no-items, item, Entries}
 use Rattle.form.specs.Limits.{nameWidth}
 use Rattle.form.specs.Outcome.{pick}
 use Rattle.form.specs.Form.{numAt}
-use Rattle.form.specs.Layout.{ValueKind, kRange, kList, kContext, widthOf}
-use Rattle.form.proofs.CommandKinds.{key-width, leaf-wide}
+use Rattle.form.specs.Layout.{ValueKind, kRange, kList, kContext, widthOf, isLeafCommand}
+use Rattle.form.proofs.CommandKinds.{key-width, leaf-wide, leaf-low}
 use Rattle.form.proofs.Runs.{rest}
 use Rattle.order.specs.Order.{fixed}
 use Rattle.order.specs.Size.{sizeVal, sizeVals, sizeEntries}
@@ -26,7 +25,7 @@ use Rattle.types.specs.At.{Ok}
 use Rattle.types.proofs.Reading.{is-ok, ok-got}
 use Rattle.types.proofs.ChildAt.{entry-ok}
 use Rattle.values.specs.At.{valueAt, itemsAt, entriesAt}
-use Rattle.values.proofs.Reading.{IsVal, is-null, is-boolean, is-number, is-string, is-temporal, is-range, is-list, is-context, is-definition, is-built-in, is-type, is-irrelevant}
+use Rattle.values.proofs.Reading.{IsVal, is-null, is-boolean, is-number, is-string, is-temporal, is-range, is-list, is-context, is-definition, is-built-in, is-type, is-irrelevant, is-decimal}
 use Rattle.values.proofs.Reading.{is-val, as-leaf, as-range, as-list, as-context, some-byte, some-level, v-inside, items-inside, entries-inside, Nth, nth, no-nth}
 use Rattle.values.proofs.EntriesAt.{This, this, none-left}
 use Rattle.infer.specs.Typing.{dataBy, addSize, Plain}
@@ -199,32 +198,35 @@ module _ {l : ℕ} {v : List ℕ} {n at i : ℕ} (I : EntriesInv l v n at i) whe
         }
 
 -- ---- a value by its command
--- ---- a leaf c, and no null: the size n of the command k, which has the width of c
-pub plain : (c k n : ℕ) → n ≡ pick (ltb k 9) (widthOf k + 1) 0 → widthOf c ≡ widthOf k → k < 9 → 0 < c → c < 9 → (0 < n → Plain c n) × (n ≡ 0 → 0 < c → 9 ≤ c)
-plain c k n e w l z h = let s : n ≡ widthOf k + 1 = leaf-wide k n e l in (λ p. record { some = z; low = h; size = omega (arith, s, w) }, λ p q. absurd (omega (arith, s, p)))
+-- a leaf c, and no null: the size n of the command k, which has the width of c
+pub plain : (c k n : ℕ) → n ≡ pick (isLeafCommand k) (widthOf k + 1) 0 → widthOf c ≡ widthOf k → k < 9 → 0 < c → c < 9 → (0 < n → Plain c n) × (n ≡ 0 → 0 < c → 9 ≤ c)
+plain c k n e w l z h =
+    let s : n ≡ widthOf k + 1 = leaf-wide k n e (leaf-low k l) in
+    (λ p. record { some = z; low = h; size = omega (arith, s, w) }, λ p q. absurd (omega (arith, s, p)))
 
 pub same-key : (c k : ℕ) → 4 ≤ c → c < 9 → 4 ≤ k → k < 9 → widthOf c ≡ widthOf k
 same-key c k p q r t = key-width c p q ∙ sym (key-width k r t)
 
 -- leaves are data, and their size is the width of the command and one
-data-leaf : (l : ℕ) (s : List ℕ) (v : Val) → valueAt l s ≡ some v → getD s 0 0 < 9 → (isData v ≡ true) × (widthOf (getD s 0 0) + 1 ≡ sizeVal v)
+data-leaf : (l : ℕ) (s : List ℕ) (v : Val) → valueAt l s ≡ some v → isLeafCommand (getD s 0 0) ≡ true → (isData v ≡ true) × (widthOf (getD s 0 0) + 1 ≡ sizeVal v)
 unfolding isDataBy
 data-leaf l s v e h = let L = as-leaf l s v e h in (ap isData (L .is), L .size ∙ ap sizeVal (sym (L .is)))
 
-not-data : {j : ValueKind} (l : ℕ) (s : List ℕ) (v : Val) → IsVal l s j v → 12 ≤ getD s 0 0 → isData v ≡ false
+not-data : {j : ValueKind} (l : ℕ) (s : List ℕ) (v : Val) → IsVal l s j v → 12 ≤ getD s 0 0 → (getD s 0 0 ≡ 16 → ⊥) → isData v ≡ false
 unfolding isDataBy
-not-data l s v (is-null x c) h = absurd (omega arith)
-not-data l s v (is-boolean x c) h = absurd (omega arith)
-not-data l s v (is-number x c) h = absurd (omega arith)
-not-data l s v (is-string x c) h = absurd (omega arith)
-not-data l s v (is-temporal x c d) h = absurd (omega arith)
-not-data l s v (is-range i j a b c k p) h = absurd (omega arith)
-not-data l s v (is-list vs c k p) h = absurd (omega arith)
-not-data l s v (is-context es c k p) h = absurd (omega arith)
-not-data l s v (is-definition r ps b c k p) h = refl
-not-data l s v (is-built-in c k) h = refl
-not-data l s v (is-type t c p) h = refl
-not-data l s v (is-irrelevant c) h = refl
+not-data l s v (is-null x c) h n = absurd (omega arith)
+not-data l s v (is-boolean x c) h n = absurd (omega arith)
+not-data l s v (is-number x c) h n = absurd (omega arith)
+not-data l s v (is-string x c) h n = absurd (omega arith)
+not-data l s v (is-temporal x c d) h n = absurd (omega arith)
+not-data l s v (is-range i j a b c k p) h n = absurd (omega arith)
+not-data l s v (is-list vs c k p) h n = absurd (omega arith)
+not-data l s v (is-context es c k p) h n = absurd (omega arith)
+not-data l s v (is-definition r ps b c k p) h n = refl
+not-data l s v (is-built-in c k) h n = refl
+not-data l s v (is-type t c p) h n = refl
+not-data l s v (is-irrelevant c) h n = refl
+not-data l s v (is-decimal x p c) h n = absurd (n c)
 
 -- a run of children behind three bytes, which says all of a parent
 pub record Run {X : Type 0} (test : X → Bool) (sz : X → ℕ) (at : List ℕ → Option X) (s : List ℕ) (W : Data) : Type 0 where
@@ -292,19 +294,19 @@ module _ (l : ℕ) (s : List ℕ) (p : Ok (valueAt l s)) where
   whole-is : (v : Val) → valueAt l s ≡ some v → dataBy isData sizeVal (valueAt l s) ≡ told (isData v) (sizeVal v)
   whole-is v e = by-got isData sizeVal (valueAt l s) v e
 
-  pub leaf-done : (w : ℕ) → w ≡ widthOf (getD s 0 0) → getD s 0 0 < 9 → Yes (w + 1) ≡ dataBy isData sizeVal (valueAt l s)
+  pub leaf-done : (w : ℕ) → w ≡ widthOf (getD s 0 0) → isLeafCommand (getD s 0 0) ≡ true → Yes (w + 1) ≡ dataBy isData sizeVal (valueAt l s)
   leaf-done w q h = tree (λ v e.
       let d = data-leaf l s v e h in
       sym (whole-is v e ∙ ap (λ b. told b (sizeVal v)) (d .0) ∙ ap Yes (omega (arith, d .1))))
 
   leaf-known : (n : ℕ) → Plain (getD s 0 0) n → Yes n ≡ dataBy isData sizeVal (valueAt l s)
-  leaf-known n P = ap Yes (P .size) ∙ leaf-done (widthOf (getD s 0 0)) refl (P .low)
+  leaf-known n P = ap Yes (P .size) ∙ leaf-done (widthOf (getD s 0 0)) refl (leaf-low (getD s 0 0) (P .low))
 
-  pub leaf-fits : (w : ℕ) → w ≡ widthOf (getD s 0 0) → getD s 0 0 < 9 → w + 1 ≤ length s
+  pub leaf-fits : (w : ℕ) → w ≡ widthOf (getD s 0 0) → isLeafCommand (getD s 0 0) ≡ true → w + 1 ≤ length s
   leaf-fits w q h = tree (λ v e. omega (arith, data-leaf l s v e h .1, v-inside l s v e))
 
-  pub other-done : 12 ≤ getD s 0 0 → No ≡ dataBy isData sizeVal (valueAt l s)
-  other-done h = tree (λ v e. sym (whole-is v e ∙ ap (λ b. told b (sizeVal v)) (not-data l s v (is-val l s v e .1) h)))
+  pub other-done : 12 ≤ getD s 0 0 → (getD s 0 0 ≡ 16 → ⊥) → No ≡ dataBy isData sizeVal (valueAt l s)
+  other-done h n = tree (λ v e. sym (whole-is v e ∙ ap (λ b. told b (sizeVal v)) (not-data l s v (is-val l s v e .1) h n)))
 
   pub ranges : getD s 0 0 ≡ 9 → Run (areData fixed) sizeVals (itemsAt (l - 1) 2) s (dataBy isData sizeVal (valueAt l s))
   ranges h = tree (λ v e. run-range l s (as-range l s v e h) (v-inside l s v e) (whole-is v e))

@@ -32,7 +32,7 @@ abbrev pub addSize : ℕ → Data → Data
 addSize k (data-is.Yes n) = data-is.Yes (n + k)
 addSize k data-is.No = data-is.No
 
--- n bytes of a boolean, a number, a string or a temporal with the command c
+-- n bytes of a boolean, a whole number, a string or a temporal with the command c
 pub record Plain (c n : ℕ) : Type 0 where
   pub some : 0 < c
   pub low : c < 9

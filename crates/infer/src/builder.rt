@@ -101,15 +101,8 @@ fn write_type(least: bool, v: &[u8], out: &mut [u8], spare: &mut [u8], left: usi
 {
     let c = v[0];
     match c {
-        commands::NULL => {
-            out[0] = commands::NULL_TYPE;
-            Ends {
-                read: commands::width(c) + 1,
-                wrote: 1,
-            }
-        }
-        commands::BOOLEAN..=commands::YEARS_AND_MONTHS => {
-            out[0] = c + commands::LEAF_TO_TYPE;
+        commands::NULL..=commands::YEARS_AND_MONTHS | commands::DECIMAL => {
+            out[0] = commands::leaf_type(c);
             Ends {
                 read: commands::width(c) + 1,
                 wrote: 1,
@@ -195,7 +188,7 @@ fn write_items(
     while i < n {
         let k = data::leaf(&v[at..]);
         if k != 0 {
-            out[to] = v[at] + commands::LEAF_TO_TYPE;
+            out[to] = commands::leaf_type(v[at]);
             at = at + k;
             to = join(least, equal, out, to, 1, spare);
             i += 1;
@@ -235,7 +228,7 @@ fn write_entries(
         output::copy_name(v, at, out, to);
         let k = data::leaf(&v[p..]);
         if k != 0 {
-            out[w] = v[p] + commands::LEAF_TO_TYPE;
+            out[w] = commands::leaf_type(v[p]);
             at = p + k;
             to = w + 1;
             i += 1;

@@ -18,7 +18,8 @@ pub(crate) enum Data {
     No,
 }
 
-// The size of the value at the front where it is a boolean, a number, a string or a temporal, 0 where it is not: a short way past most values.
+// The size of the value at the front where it is a boolean, a whole number, a string or a temporal, 0 where it is not: a short way past most values, without the
+// decimals, whose test would cost all others time.
 // Each arm asks for the size of a command that is known, so that the loops have it as a constant.
 pub(crate) fn leaf(v: &[u8]) -> usize
     requires { ⌜ 0 < length (now v) ⌝ }
@@ -46,14 +47,16 @@ fn add_size(d: Data, k: usize, n: usize) -> Data
     }
 }
 
-// Whether the value at the front is data: 00 to 0B throughout.
+// Whether the value at the front is data: 00 to 0B and 10 throughout.
 pub(crate) fn is_data(v: &[u8], left: usize) -> Data
     requires { ⌜ Ok (valueAt left (now v)) ⌝ }
     ensures { λ r. ⌜ r ≡ dataBy isData sizeVal (valueAt left (now (v .entry))) ⌝ }
 {
     let c = v[0];
     match c {
-        commands::NULL..=commands::YEARS_AND_MONTHS => Data::Yes(commands::width(c) + 1),
+        commands::NULL..=commands::YEARS_AND_MONTHS | commands::DECIMAL => {
+            Data::Yes(commands::width(c) + 1)
+        }
         commands::RANGE => add_size(are_data(&v[3..], 2, left - 1), 3, v.len()),
         commands::LIST => add_size(
             are_data(&v[3..], form::bytes::word_at(v, 1), left - 1),

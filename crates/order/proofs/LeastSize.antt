@@ -6,11 +6,11 @@
 use Prim.Native.Nat.{ℕ, _+_, _<_, _≤_, max}
 use native.Mathlib.Omega.{arith}
 use mathlib.Core.Path.{_≡_, refl}
-use mathlib.Core.List.{_++_}
+use mathlib.Core.List.{[], _∷_, _++_}
 use lib.ListN.{length, length-append}
 use Rattle.form.specs.Limits.{nameWidth, nameEnd}
-use Rattle.form.specs.Trees.{null, Ty, leaf, built, function, Leaf, l-null, l-boolean, l-number, l-string, l-temporal, Params, no-parameters, parameter, Val, v-leaf, v-range, v-list, v-context}
-use Rattle.form.specs.Trees.{v-function, v-built-in, v-type, v-irrelevant, Vals, no-items, item, Entries, no-entries, entry}
+use Rattle.form.specs.Trees.{null, Ty, leaf, built, function, Leaf, l-null, l-boolean, l-number, l-decimal, l-string, l-temporal, Params, no-parameters, parameter, Val, v-leaf}
+use Rattle.form.specs.Trees.{v-range, v-list, v-context, v-function, v-built-in, v-type, v-irrelevant, Vals, no-items, item, Entries, no-entries, entry}
 use Rattle.form.specs.Form.{enc, encLeaf, encParams, encV, encVals, encEntries, countParams, countVals, countEntries, countTys, level, levelFields, levelTys, levelParams, levelV, levelVals}
 use Rattle.form.specs.Form.{levelEntries, Wf, WfParams, WfV, WfVals, WfEntries}
 use Rattle.form.proofs.First.{length-front}
@@ -32,6 +32,7 @@ unfolding encLeaf
 length-leaf (l-null t) = refl
 length-leaf (l-boolean b) = refl
 length-leaf (l-number k) = omega (arith, length-bytes 8 k)
+length-leaf (l-decimal k p) = omega (arith, length-front 8 k (p ∷ []))
 length-leaf (l-string n) = omega (arith, length-bytes nameWidth n)
 length-leaf (l-temporal t k) = omega (arith, length-bytes 8 k)
 
@@ -74,6 +75,7 @@ pub size-one : (l : Leaf) → 1 ≤ sizeLeaf l
 size-one (l-null t) = omega arith
 size-one (l-boolean b) = omega arith
 size-one (l-number z) = omega arith
+size-one (l-decimal z p) = omega arith
 size-one (l-string n) = omega arith
 size-one (l-temporal k z) = omega arith
 

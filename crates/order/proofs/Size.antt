@@ -12,8 +12,8 @@ use mathlib.Core.List.{_++_}
 use lib.ListN.{length, length-append}
 use lib.Dec.{eqb, ltb, leb}
 use borrow.Author.Tests.{eqb-true, leb-true, leb-false, le-leb}
-use Rattle.form.specs.Trees.{any, Ty, leaf, built, Built, list, range, context, function, Fields, no-fields, field, Tys, no-params, param, l-null, l-boolean, l-number, l-string, l-temporal, Val}
-use Rattle.form.specs.Trees.{v-leaf, v-range, v-list, v-context, v-function, v-built-in, v-type, v-irrelevant}
+use Rattle.form.specs.Trees.{any, Ty, leaf, built, Built, list, range, context, function, Fields, no-fields, field, Tys, no-params, param, l-null, l-boolean, l-number, l-decimal, l-string, l-temporal}
+use Rattle.form.specs.Trees.{Val, v-leaf, v-range, v-list, v-context, v-function, v-built-in, v-type, v-irrelevant}
 use Rattle.form.specs.Limits.{nameWidth}
 use Rattle.form.specs.Form.{enc, encBuilt, encFields, encTys, countFields, level, levelBuilt, levelFields, levelTys}
 use Rattle.form.proofs.First.{length-front}
@@ -209,6 +209,7 @@ unfolding sizeVal
 size-val-positive (v-leaf (l-null x)) = omega arith
 size-val-positive (v-leaf (l-boolean x)) = omega arith
 size-val-positive (v-leaf (l-number x)) = omega arith
+size-val-positive (v-leaf (l-decimal x p)) = omega arith
 size-val-positive (v-leaf (l-string x)) = omega arith
 size-val-positive (v-leaf (l-temporal k x)) = omega arith
 size-val-positive (v-range i j v w) = omega arith

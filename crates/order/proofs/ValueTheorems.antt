@@ -3,7 +3,11 @@
 -- Index: `value-theorems`, `document-values`, `inferred-type`.
 -- Assumes nothing.
 use native.Mathlib.Omega.{arith}
+use mathlib.Core.Path.{_≡_, refl}
+use Rattle.form.specs.Trees.{Leaf, l-null, l-boolean, l-number, l-decimal, l-string, l-temporal, on-date, at-time, at-dateTime, for-daysAndTime, for-yearsAndMonths, v-leaf}
 use Rattle.form.specs.Form.{Wf}
+use Rattle.form.specs.Layout.{leafTypeCommand}
+use Rattle.form.specs.Widths.{leafCommand, commandT}
 use Rattle.order.specs.Order.{Order, Laws, fixed}
 use Rattle.order.specs.Values.{least}
 use Rattle.order.specs.Inferred.{typeOf}
@@ -32,9 +36,24 @@ value-theorems O L =
 pub document-values : ValueTheorems fixed
 document-values = value-theorems fixed fixed-laws
 
+-- a leaf's type by its command
+leaf-types : (x : Leaf) → leafTypeCommand (leafCommand x) ≡ commandT (typeOf (v-leaf x))
+unfolding leafTypeCommand typeOf
+leaf-types (l-null t) = refl
+leaf-types (l-boolean b) = refl
+leaf-types (l-number k) = refl
+leaf-types (l-decimal k p) = refl
+leaf-types (l-string n) = refl
+leaf-types (l-temporal on-date k) = refl
+leaf-types (l-temporal at-time k) = refl
+leaf-types (l-temporal at-dateTime k) = refl
+leaf-types (l-temporal for-daysAndTime k) = refl
+leaf-types (l-temporal for-yearsAndMonths k) = refl
+
 pub inferred-type : InferredType
 inferred-type =
     record {
+      leaf-types = leaf-types;
       inferred-well-formed = λ v h s. wf-type-of v h (omega (arith, length-encV v));
       inferred-length = λ v. omega (arith, length-encV v, length-enc (typeOf v), size-type-of v);
       inferred-level = level-type-of;

@@ -13,7 +13,7 @@ use Rattle.order.specs.Values.{leafType, typesOf, conforms, isDataBy, le
 abbrev pub valueConformsTo : Val → Ty → Bool
 valueConformsTo v t = conforms fixed v t
 
--- Data values: 00 to 0B throughout
+-- Data values: 00 to 0B and 10 throughout
 abbrev pub isData : Val → Bool
 isData v = isDataBy fixed v
 

@@ -178,7 +178,7 @@ pub record ValueSentences : Type 0 where
 
 -- ---- Least type
 pub record LeastTypeSentences : Type 0 where
-  -- data values (00 to 0B throughout)
+  -- data values (00 to 0B and 10 throughout)
   pub data-leaf : (l : Leaf) → isData (v-leaf l) ≡ true
   pub data-range : (i j : ℕ) (v w : Val) → isData (v-range i j v w) ≡ isData v && isData w
   pub data-list : (vs : Vals) → isData (v-list vs) ≡ allItems isData vs

@@ -1,7 +1,8 @@
 -- The number of bytes of a type and of a value, counted on the tree.
 -- Assumes nothing.
 use Prim.Native.Nat.{ℕ, _+_}
-use Rattle.form.specs.Trees.{Ty, leaf, built, Built, list, range, context, function, Fields, no-fields, field, Tys, no-params, param, Leaf, l-null, l-boolean, l-number, l-string, l-temporal}
+use Rattle.form.specs.Trees.{Ty, leaf, built, Built, list, range, context, function, Fields, no-fields, field, Tys, no-params, param, Leaf, l-null, l-boolean, l-number, l-decimal}
+use Rattle.form.specs.Trees.{l-string, l-temporal}
 use Rattle.form.specs.Trees.{Params, no-parameters, parameter, Val, v-leaf, v-range, v-list, v-context, v-function, v-built-in, v-type, v-irrelevant, Vals, no-items, item, Entries, no-entries}
 use Rattle.form.specs.Trees.{entry}
 use Rattle.form.specs.Limits.{nameWidth}
@@ -29,6 +30,7 @@ abbrev pub sizeLeaf : Leaf → ℕ
 sizeLeaf (l-null t) = 2
 sizeLeaf (l-boolean b) = 2
 sizeLeaf (l-number k) = 9
+sizeLeaf (l-decimal k p) = 10
 sizeLeaf (l-string n) = 1 + nameWidth
 sizeLeaf (l-temporal t k) = 9
 

@@ -6,7 +6,9 @@ use mathlib.Core.Path.{_≡_}
 use mathlib.Core.Bool.{true}
 use mathlib.Core.Logic.{_↔_}
 use lib.ListN.{length}
-use Rattle.form.specs.Trees.{Ty, Val}
+use Rattle.form.specs.Trees.{Ty, Leaf, Val, v-leaf}
+use Rattle.form.specs.Layout.{leafTypeCommand}
+use Rattle.form.specs.Widths.{leafCommand, commandT}
 use Rattle.form.specs.Form.{enc, encV, level, levelV, Wf, WfV}
 use Rattle.order.specs.Order.{Order}
 use Rattle.order.specs.Types.{le, reduce}
@@ -25,8 +27,9 @@ pub record ValueTheorems (O : Order) : Type 0 where
   pub least-length : (v : Val) → WfV v → length (enc (least O v)) ≤ length (encV v)
   pub least-level : (v : Val) → level (least O v) ≤ levelV v + 1
 
--- the type that the Rust infers is well-formed, never longer than its value, at most one level deeper
+-- the type that the Rust infers: of a leaf the one that the code has by the leaf's command; well-formed, never longer than its value, at most one level deeper
 pub record InferredType : Type 0 where
+  pub leaf-types : (x : Leaf) → leafTypeCommand (leafCommand x) ≡ commandT (typeOf (v-leaf x))
   pub inferred-well-formed : (v : Val) → WfV v → length (encV v) < 65536 → Wf (typeOf v)
   pub inferred-length : (v : Val) → length (enc (typeOf v)) ≤ length (encV v)
   pub inferred-level : (v : Val) → level (typeOf v) ≤ levelV v + 1

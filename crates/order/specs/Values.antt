@@ -4,9 +4,9 @@ use Prim.Native.Nat.{ℕ}
 use mathlib.Core.Bool.{Bool, true, false, cond, _&&_}
 use lib.Dec.{eqb}
 use Rattle.form.specs.Trees.{Simple, any, boolean, number, string, date, time, dateTime, daysAndTime, yearsAndMonths, null, Ty, leaf, built, list, range, context, function, Fields, no-fields}
-use Rattle.form.specs.Trees.{field, Tys, no-params, param, Temporal, on-date, at-time, at-dateTime, for-daysAndTime, for-yearsAndMonths, Leaf, l-null, l-boolean, l-number, l-string, l-temporal}
-use Rattle.form.specs.Trees.{Params, no-parameters, parameter, Val, v-leaf, v-range, v-list, v-context, v-function, v-built-in, v-type, v-irrelevant, Vals, no-items, item, Entries, no-entries}
-use Rattle.form.specs.Trees.{entry}
+use Rattle.form.specs.Trees.{field, Tys, no-params, param, Temporal, on-date, at-time, at-dateTime, for-daysAndTime, for-yearsAndMonths, Leaf, l-null, l-boolean, l-number, l-decimal}
+use Rattle.form.specs.Trees.{l-string, l-temporal, Params, no-parameters, parameter, Val, v-leaf, v-range, v-list, v-context, v-function, v-built-in, v-type, v-irrelevant, Vals, no-items, item}
+use Rattle.form.specs.Trees.{Entries, no-entries, entry}
 use Rattle.order.specs.Order.{up, Order}
 use Rattle.order.specs.Types.{allFields, cmp, cmps, reduce, sup}
 
@@ -22,6 +22,7 @@ abbrev pub leafType : Leaf → Simple
 leafType (l-null t) = null
 leafType (l-boolean b) = boolean
 leafType (l-number z) = number
+leafType (l-decimal z p) = number
 leafType (l-string n) = string
 leafType (l-temporal k z) = temporalType k
 
@@ -89,7 +90,7 @@ module _ (O : Order) where
     hasValue no-entries n u = false
     hasValue (entry m v es) n u = cond (eqb n m) (conforms v u) (hasValue es n u)
 
-  -- Data: 00 to 0B throughout; with the strict reading also function definitions.
+  -- Data: 00 to 0B and 10 throughout; with the strict reading also function definitions.
   unfoldable mutual
     pub isDataBy : Val → Bool
     isDataBy (v-leaf l) = true

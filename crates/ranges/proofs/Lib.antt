@@ -1,6 +1,9 @@
 pub mod Fronts
 pub mod Questions
 pub mod Keys
+pub mod Numbers
 pub mod Ends
 pub mod Builtins
 pub mod Signed
+pub mod Ratios
+pub mod DecimalOrder

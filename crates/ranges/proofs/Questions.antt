@@ -1,6 +1,6 @@
 -- The small questions: refusals first, then the answer from the command and the byte behind it.
--- Index: `asked-refused`, `Fine`, `fine`, `some-byte`, `asked-done` (the reader's answer); `kind-done` (by the command); `Leads`, `null-leads`, `boolean-leads`, `lead-byte`, `lead-done`, `lead-no`
--- (by a leaf's byte); `range-no`, `ranged`, `range-done` (ranges); `interval-refused`, `interval-done`, `interval-same`, `odd-is` (interval types).
+-- Index: `asked-refused`, `Fine`, `fine`, `some-byte`, `asked-done` (the reader's answer); `kind-done`, `number-done` (by the command); `Leads`, `null-leads`, `boolean-leads`,
+-- `lead-byte`, `lead-done`, `lead-no` (by a leaf's byte); `range-no`, `ranged`, `range-done` (ranges); `interval-refused`, `interval-done`, `interval-same`, `odd-is` (interval types).
 -- Assumes nothing.
 use Prim.Native.Nat.{ℕ, zero, suc, _<_, _≤_, _%_}
 use mathlib.Core.Path.{_≡_, refl, sym, ap, _∙_}
@@ -10,9 +10,10 @@ use mathlib.Core.List.{List}
 use native.Mathlib.Omega.{arith}
 use lib.ListN.{length, getD}
 use lib.Dec.{eqb, leb}
-use borrow.Author.Tests.{le-leb, lt-leb, leb-true}
+use borrow.Author.Tests.{le-leb, lt-leb, leb-true, ne-eqb}
 use Rattle.form.specs.Trees.{Leaf, l-boolean, Val, v-leaf, v-range, v-list, v-context, v-function, v-built-in, v-type, v-irrelevant}
 use Rattle.form.specs.Limits.{valueLevels, valueRefusals}
+use Rattle.form.specs.Layout.{leafTypeCommand}
 use Rattle.form.specs.Outcome.{Outcome, done, refused, _>>=_, _>>_, check}
 use Rattle.form.specs.Form.{bit, levelV}
 use Rattle.form.specs.Read.{got, readV, readValue, checkValue}
@@ -21,13 +22,15 @@ use Rattle.form.specs.Answers.{checked}
 use Rattle.form.specs.declared.Checked.{Checked}
 use Rattle.form.specs.declared.Checked.the-variants as checked-is
 use Rattle.form.proofs.Accepted.{whole-got, level-told}
+use Rattle.form.proofs.CommandKinds.{low-type, no-type, no-leaf-high}
+use Rattle.form.proofs.ExactValues.{code-small-temporal}
 use Rattle.form.proofs.Nodes.{value-read}
 use Rattle.types.proofs.Reading.{got-seen}
 use Rattle.values.specs.At.{valueAt}
 use Rattle.values.proofs.CallContracts.{value-refused}
-use Rattle.ranges.specs.Ranges.{isValidRange, nullWith, theBoolean, ofLeaf}
-use Rattle.ranges.specs.Calls.{asked, ofKind, interval, isValidRangeCall, Ranged, RangeOf, RangeIs}
-use Rattle.ranges.proofs.Fronts.{Front, f-null, f-boolean, f-number, f-string, f-temporal, f-other, front-read, command-is}
+use Rattle.ranges.specs.Ranges.{isValidRange, nullWith, theBoolean, aNumber, ofLeaf}
+use Rattle.ranges.specs.Calls.{asked, ofKind, interval, isNumberCall, isValidRangeCall, Ranged, RangeOf, RangeIs}
+use Rattle.ranges.proofs.Fronts.{Front, f-null, f-boolean, f-number, f-decimal, f-string, f-temporal, f-other, front-read, command-is}
 
 -- ---- what the reader's answer says
 pub asked-refused : (test : Val → Bool) (s : List ℕ) {c : Checked} {n : ℕ} → c ≡ checked-is.Refused n → checked c ≡ checkValue s → refused n ≡ asked test s
@@ -61,6 +64,20 @@ module _ {s : List ℕ} (F : Fine s) where
   pub kind-done : (c : ℕ) {o : Outcome Bool} → o ≡ done (eqb (getD s 0 0) c) → o ≡ ofKind c s
   kind-done c e = asked-done (λ w. eqb (command w) c) e (ap (λ b. eqb b c) (sym told))
 
+-- ---- a number, by the type of its command
+number-told : (s : List ℕ) (v : Val) (n : ℕ) → Front s v n → eqb (leafTypeCommand (getD s 0 0)) 0x22 ≡ ofLeaf aNumber v
+unfolding leafTypeCommand
+number-told s v n (f-null c k) = ap (λ b. eqb (leafTypeCommand b) 0x22) c
+number-told s v n (f-boolean c k x) = ap (λ b. eqb (leafTypeCommand b) 0x22) c
+number-told s v n (f-number c k) = ap (λ b. eqb (leafTypeCommand b) 0x22) c
+number-told s v n (f-decimal c k x) = ap (λ b. eqb (leafTypeCommand b) 0x22) c
+number-told s v n (f-string c k) = ap (λ b. eqb (leafTypeCommand b) 0x22) c
+number-told s v n (f-temporal t c k) = let g = code-small-temporal t in ne-eqb (leafTypeCommand (getD s 0 0)) 0x22 (λ e. omega (arith, low-type (getD s 0 0) (omega arith) (omega arith)))
+number-told s v n (f-other w k o) = ap (λ t. eqb t 0x22) (sym (no-type (getD s 0 0) (o .no-leaf))) ∙ sym (o .no aNumber)
+
+pub number-done : {s : List ℕ} → Fine s → {t : ℕ} {o : Outcome Bool} → t ≡ leafTypeCommand (getD s 0 0) → o ≡ done (eqb t 0x22) → o ≡ isNumberCall s
+number-done {s} F e p = asked-done F (ofLeaf aNumber) p (ap (λ t. eqb t 0x22) e ∙ number-told s (F .v) (length s) (front F))
+
 -- ---- a leaf with the command c and the byte x
 abbrev pub Leads : (Leaf → Bool) → ℕ → ℕ → Type 0
 Leads f c x = (s : List ℕ) (v : Val) (n : ℕ) → Front s v n → (getD s 0 0 ≡ c → (ofLeaf f v ≡ eqb (getD s 1 0) x) × (1 < length s)) × ((getD s 0 0 ≡ c → ⊥) → ofLeaf f v ≡ false)
@@ -69,9 +86,10 @@ pub null-leads : (x : ℕ) → Leads (nullWith x) 0 x
 null-leads x s v n (f-null c k) = (λ h. (refl, omega arith), λ h. absurd (h c))
 null-leads x s v n (f-boolean c k y) = (λ h. absurd (omega arith), λ h. refl)
 null-leads x s v n (f-number c k) = (λ h. absurd (omega arith), λ h. refl)
+null-leads x s v n (f-decimal c k y) = (λ h. absurd (omega arith), λ h. refl)
 null-leads x s v n (f-string c k) = (λ h. absurd (omega arith), λ h. refl)
 null-leads x s v n (f-temporal t c k) = (λ h. absurd (omega arith), λ h. refl)
-null-leads x s v n (f-other w k o) = (λ h. absurd (omega (arith, o .high)), λ h. o .no (nullWith x))
+null-leads x s v n (f-other w k o) = (λ h. absurd (omega (arith, no-leaf-high (getD s 0 0) (o .no-leaf))), λ h. o .no (nullWith x))
 
 one-or-none : (b : Bool) (y : ℕ) → y ≤ 1 → theBoolean b (l-boolean (eqb y 1)) ≡ eqb y (bit b)
 one-or-none true y h = refl
@@ -83,9 +101,10 @@ pub boolean-leads : (b : Bool) → Leads (theBoolean b) 1 (bit b)
 boolean-leads b s v n (f-null c k) = (λ h. absurd (omega arith), λ h. refl)
 boolean-leads b s v n (f-boolean c k y) = (λ h. (one-or-none b (getD s 1 0) y, omega arith), λ h. absurd (h c))
 boolean-leads b s v n (f-number c k) = (λ h. absurd (omega arith), λ h. refl)
+boolean-leads b s v n (f-decimal c k y) = (λ h. absurd (omega arith), λ h. refl)
 boolean-leads b s v n (f-string c k) = (λ h. absurd (omega arith), λ h. refl)
 boolean-leads b s v n (f-temporal t c k) = (λ h. absurd (omega arith), λ h. refl)
-boolean-leads b s v n (f-other w k o) = (λ h. absurd (omega (arith, o .high)), λ h. o .no (theBoolean b))
+boolean-leads b s v n (f-other w k o) = (λ h. absurd (omega (arith, no-leaf-high (getD s 0 0) (o .no-leaf))), λ h. o .no (theBoolean b))
 
 module _ {f : Leaf → Bool} {c : ℕ} (x : ℕ) (L : Leads f c x) {s : List ℕ} (F : Fine s) where
   pub lead-byte : getD s 0 0 ≡ c → 1 < length s

@@ -1,5 +1,6 @@
 -- The order of keys is that of the whole numbers they mean (`key-order`). A key below 2^63 means itself, one from 2^63 on minus (2^64 less it): both sides of each law are
 -- comparisons of naturals once the signs are known.
+-- Index: `key-order`; `test-yes`, `below-zero`, `from-zero`, `order-test` (for decimals).
 -- Assumes nothing.
 use mathlib.Core.Path.{_≡_, refl, sym, ap, subst, _∙_}
 use mathlib.Core.Bool.{Bool, true, false, cond, false≢true}
@@ -10,25 +11,25 @@ use lib.Dec.{T, leb}
 use lib.IntN.{ℤ, pos, negsuc}
 use lib.Signed.{leZ, _≤ℤ_}
 use borrow.Author.Tests.{leb-true, leb-false, le-leb, lt-leb, lt-ltb, eq-eqb}
-use Rattle.ranges.specs.Ranges.{negative, signedLe, key, inOrder}
-use Rattle.ranges.specs.Signed.{meaning, Holds64, KeyOf, KeyOrder}
+use Rattle.ranges.specs.Ranges.{negative, meaning, signedLe, key, inOrder}
+use Rattle.ranges.specs.Signed.{Holds64, KeyOf, KeyOrder}
 
 -- a test that passed
-test-yes : (q : Bool) → T q → q ≡ true
+pub test-yes : (q : Bool) → T q → q ≡ true
 test-yes true t = refl
 test-yes false t = absurd t
 
 -- a key from 2^63 on, and one below
-below-zero : (k : ℕ) → k < 2 ^ 64 → negative k ≡ true → meaning k ≡ negsuc (2 ^ 64 - suc k)
+pub below-zero : (k : ℕ) → k < 2 ^ 64 → negative k ≡ true → meaning k ≡ negsuc (2 ^ 64 - suc k)
 unfolding meaning
 below-zero k h e = rw (e, lt-ltb k (2 ^ 64) h)
 
-from-zero : (k : ℕ) → negative k ≡ false → meaning k ≡ pos k
+pub from-zero : (k : ℕ) → negative k ≡ false → meaning k ≡ pos k
 unfolding meaning
 from-zero k e = rw e
 
 -- the order of the meanings, as a test
-order-test : (a b : ℕ) → a < 2 ^ 64 → b < 2 ^ 64 → signedLe a b ≡ leZ (meaning a) (meaning b)
+pub order-test : (a b : ℕ) → a < 2 ^ 64 → b < 2 ^ 64 → signedLe a b ≡ leZ (meaning a) (meaning b)
 order-test a b h g = go (negative a) refl (negative b) refl
   where
     flipped : (q : Bool) → leb a b ≡ q → q ≡ leb (2 ^ 64 - suc b) (2 ^ 64 - suc a)

@@ -4,18 +4,19 @@ use mathlib.Core.Path.{_≡_}
 use mathlib.Core.Bool.{Bool, true, false}
 use mathlib.Core.Option.{Option, some}
 use mathlib.Core.List.{List}
-use Prim.Native.Nat.{ℕ}
-use lib.ListN.{getD}
+use Prim.Native.Nat.{ℕ, _+_, _≤_}
+use lib.ListN.{length, getD}
 use lib.Dec.{leb, eqb}
-use Rattle.form.specs.Limits.{valueLevels}
+use Rattle.form.specs.Limits.{valueLevels, mostExponent}
+use Rattle.form.specs.Layout.{widthOf, leafTypeCommand}
 use Rattle.values.specs.At.{valueAt}
-use Rattle.form.specs.Outcome.{Outcome, done, _>>=_, _>>_, check, fits}
+use Rattle.form.specs.Outcome.{Outcome, done, _>>=_, _>>_, check, fits, pick}
 use Rattle.form.specs.Trees.{Val}
 use Rattle.form.specs.Form.{enc}
 use Rattle.form.specs.Read.{readValue}
 use Rattle.form.specs.Options.{WhereRead}
 use Rattle.form.specs.Widths.{command}
-use Rattle.ranges.specs.Ranges.{opened, closed, undefined, isValidRange, nullWith, theBoolean, ofLeaf, bifType}
+use Rattle.ranges.specs.Ranges.{opened, closed, undefined, isValidRange, nullWith, theBoolean, aNumber, ofLeaf, bifType}
 
 -- a question that every value answers; 1 to 5
 abbrev pub asked : (Val → Bool) → List ℕ → Outcome Bool
@@ -32,7 +33,7 @@ abbrev pub isNullCall : List ℕ → Outcome Bool
 isNullCall v = ofKind 0x00 v
 
 abbrev pub isNumberCall : List ℕ → Outcome Bool
-isNumberCall v = ofKind 0x02 v
+isNumberCall v = asked (ofLeaf aNumber) v
 
 abbrev pub isStringCall : List ℕ → Outcome Bool
 isStringCall v = ofKind 0x03 v
@@ -91,3 +92,13 @@ RangeOf v r = WhereRead (Unit {0}) (λ w. r ≡ isValidRange w) v
 
 abbrev pub RangeIs : List ℕ → Bool → Type 0
 RangeIs v r = RangeOf (valueAt valueLevels v) r
+
+-- the exponent of the number that stands at `at`: a whole one has 0
+unfoldable pub exponentAt : List ℕ → ℕ → ℕ
+exponentAt v at = pick (eqb (getD v at 0) 0x10) (getD v (at + 9) 0) 0
+
+-- a number stands at `at`, whole or decimal: it ends within the bytes, its exponent in its bounds
+pub record NumberAt (v : List ℕ) (at : ℕ) : Type 0 where
+  pub number : leafTypeCommand (getD v at 0) ≡ 0x22
+  pub inside : at + 1 + widthOf (getD v at 0) ≤ length v
+  pub exponent : exponentAt v at ≤ mostExponent

@@ -1,3 +1,4 @@
 pub mod Ranges
 pub mod Calls
 pub mod Signed
+pub mod Decimals

@@ -1,16 +1,12 @@
 -- What a key means: document 01's "signed 64-bit", "ordered as whole numbers".
 -- Assumes nothing.
 use mathlib.Core.Path.{_≡_}
-use mathlib.Core.Bool.{true, cond}
+use mathlib.Core.Bool.{true}
 use mathlib.Core.Logic.{_↔_, _⊎_}
 use Prim.Native.Nat.{ℕ, _<_, _^_}
-use lib.IntN.{ℤ, pos, _-ℤ_}
+use lib.IntN.{ℤ}
 use lib.Signed.{mag, _≤ℤ_}
-use Rattle.ranges.specs.Ranges.{negative, signedLe, key, inOrder}
-
--- the whole number of a key, in two's complement: from 2^63 on the key less 2^64
-unfoldable pub meaning : ℕ → ℤ
-meaning k = cond (negative k) (pos k -ℤ pos (2 ^ 64)) (pos k)
+use Rattle.ranges.specs.Ranges.{meaning, signedLe, key, inOrder}
 
 -- a whole number from -2^63 to 2^63 - 1. (`mag` is n both of n and of -(n + 1).)
 abbrev pub Holds64 : ℤ → Type 0

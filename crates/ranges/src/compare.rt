@@ -1,15 +1,12 @@
-// The ends of a range: their keys, and whether they are in order.
+// The ends of a range: their keys and exponents, and whether they are in order.
 ghost use mathlib.Core.Path.{_≡_};
-ghost use mathlib.Core.Bool.{true, false};
 ghost use Prim.Native.Nat.{_+_, _≤_};
 ghost use lib.ListN.{length};
 ghost use Rattle.form.specs.Form.{numAt};
-ghost use Rattle.ranges.specs.Ranges.{signedLe};
-ghost use Rattle.ranges.specs.Calls.{Ranged, RangeIs};
+ghost use Rattle.form.specs.Limits.{mostExponent};
+ghost use Rattle.ranges.specs.Calls.{Ranged, RangeIs, NumberAt, exponentAt};
+use crate::decimals;
 use form::commands;
-
-// The least key that is negative as a signed number, 2^63.
-const NEGATIVE: usize = 9223372036854775808;
 
 // The key that stands at `at`, as the number of its eight bytes.
 fn key_at(s: &[u8], at: usize) -> usize
@@ -23,20 +20,15 @@ fn key_at(s: &[u8], at: usize) -> usize
     a + (b + (c + d * 65536) * 65536) * 65536
 }
 
-// Whether a is at most b, as signed 64-bit numbers.
-fn signed_le(a: usize, b: usize) -> bool
-    ensures { λ r. ⌜ r ≡ signedLe a b ⌝ }
+// The exponent of the number that stands at `at`: 0 for a whole one.
+fn exponent_at(v: &[u8], at: usize) -> u8
+    requires { ⌜ NumberAt (now v) at ⌝ }
+    ensures { λ r. ⌜ (r ≡ exponentAt (now (v .entry)) at) × (r ≤ mostExponent) ⌝ }
 {
-    if a < NEGATIVE {
-        if b < NEGATIVE {
-            return a <= b;
-        }
-        return false;
+    if v[at] == commands::DECIMAL {
+        return v[at + 9];
     }
-    if b < NEGATIVE {
-        return true;
-    }
-    a <= b
+    0
 }
 
 // Whether the ends of a range that was read are in order: the start behind three bytes, the end behind it.
@@ -61,7 +53,23 @@ pub(crate) fn in_order(v: &[u8]) -> bool
             }
             i < 2
         }
-        commands::NUMBER..=commands::YEARS_AND_MONTHS => {
+        commands::NUMBER | commands::DECIMAL => {
+            let e = commands::width(c) + 4;
+            let d = v[e];
+            if d == commands::NULL {
+                return j < 2;
+            }
+            if commands::leaf_type(d) != commands::NUMBER_TYPE {
+                return false;
+            }
+            decimals::decimal_le(
+                key_at(v, 4),
+                exponent_at(v, 3),
+                key_at(v, e + 1),
+                exponent_at(v, e),
+            )
+        }
+        commands::STRING..=commands::YEARS_AND_MONTHS => {
             let e = commands::width(c) + 4;
             let d = v[e];
             if d == commands::NULL {
@@ -73,7 +81,7 @@ pub(crate) fn in_order(v: &[u8]) -> bool
             if c == commands::STRING {
                 return form::bytes::name_at(v, 4) <= form::bytes::name_at(v, e + 1);
             }
-            signed_le(key_at(v, 4), key_at(v, e + 1))
+            decimals::signed_le(key_at(v, 4), key_at(v, e + 1))
         }
         _ => false,
     }

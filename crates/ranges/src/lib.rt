@@ -6,6 +6,7 @@ ghost use Rattle.ranges.specs.Calls.{isNullCall, isNumberCall, isStringC
 ghost use Rattle.ranges.specs.Calls.{isTrueCall, isFalseCall, isInvalidCoercionCall, isValidRangeCall, openedCall, closedCall, undefinedCall, bifTypeCall};
 
 mod compare;
+mod decimals;
 mod kinds;
 
 use form::Checked;
@@ -25,7 +26,12 @@ pub fn is_null(v: &[u8]) -> Verdict
 pub fn is_number(v: &[u8]) -> Verdict
     ensures { λ r. ⌜ verdict r ≡ isNumberCall (now (v .entry)) ⌝ }
 {
-    kinds::of_kind(v, commands::NUMBER)
+    match form::check_value(v) {
+        Checked::Refused(n) => Verdict::Refused(n),
+        Checked::Accepted { level: _ } => kinds::answer(
+            commands::leaf_type(v[0]) == commands::NUMBER_TYPE,
+        ),
+    }
 }
 
 // `Value::is_string`.

@@ -4,16 +4,17 @@
 -- Assumes nothing.
 use Prim.Native.Nat.{ℕ, _+_, _-_, _<_, _≤_}
 use mathlib.Core.Path.{_≡_, refl, sym, ap, _∙_}
-use mathlib.Core.Bool.{Bool, true, false, _||_}
+use mathlib.Core.Bool.{Bool, true, false, _||_, false≢true}
 use mathlib.Core.Option.{Option, none, some}
 use mathlib.Core.List.{List, [], _∷_}
 use native.Mathlib.Omega.{arith}
 use lib.ListN.{length, getD, take}
 use lib.Dec.{eqb}
-use borrow.Author.Tests.{ne-eqb, le-leb, lt-leb}
+use borrow.Author.Tests.{eq-eqb, ne-eqb, eqb-true, eqb-false, le-leb, lt-leb}
 use Rattle.form.specs.Trees.{Simple, any, boolean, number, string, date, time, dateTime, daysAndTime, yearsAndMonths, null, code, Ty, leaf, built, Built, list, range, context, function, Fields}
-use Rattle.form.specs.Trees.{decodeTemporal, Leaf, l-null, l-boolean, l-number, l-string, l-temporal, Val, v-leaf, v-range, v-list, v-context, v-function, v-built-in, v-type, v-irrelevant}
+use Rattle.form.specs.Trees.{decodeTemporal, Leaf, l-null, l-boolean, l-number, l-decimal, l-string, l-temporal, Val, v-leaf, v-range, v-list, v-context, v-function, v-built-in, v-type, v-irrelevant}
 use Rattle.form.specs.Form.{Bytes, encV, encLeaf}
+use Rattle.form.proofs.CommandKinds.{leaf-low, low-type, plain-type-in}
 use Rattle.form.proofs.ExactValues.{code-decode}
 use Rattle.order.specs.Order.{same}
 use Rattle.order.specs.Values.{leafType}
@@ -27,7 +28,7 @@ use Rattle.types.proofs.Entries.{size-got}
 use Rattle.values.specs.At.{valueAt, sizeAtV}
 use Rattle.values.proofs.Reading as values
 use Rattle.values.proofs.Reading.{v-inside, IsVal, is-null, is-boolean, is-number, is-string, is-temporal, is-range, is-list, is-context, is-definition, is-built-in, is-type}
-use Rattle.values.proofs.Reading.{is-irrelevant, is-val, as-null}
+use Rattle.values.proofs.Reading.{is-irrelevant, is-decimal, is-val, as-null}
 use Rattle.retrieval.specs.declared.builder.Retrieved.the-variants.{Yes, No}
 use Rattle.retrieval.specs.Retrieve.{copied, retrieveLeaf, byRange, byFunction, byAny, byList, byContext, retrieve}
 use Rattle.retrieval.specs.Filling.{outerKind, Retrieves}
@@ -35,7 +36,7 @@ use Rattle.retrieval.proofs.BuilderContract.{retrieves, gave-some, gave
 use Rattle.form.specs.Options.{map}
 use Rattle.output.specs.Output.{fill}
 use Rattle.values.proofs.Reading.{front-text}
-use Rattle.form.specs.Layout.{ValueKind, kNull}
+use Rattle.form.specs.Layout.{ValueKind, kNull, isLeafCommand, leafTypeCommand}
 
 -- ---- the test, by the type's command
 or-none : (b : Bool) → b || false ≡ b
@@ -51,8 +52,9 @@ kind-range c d e = sym (ap (outerKind c) e ∙ or-none (eqb c 9))
 pub kind-function : (c d : ℕ) → d ≡ 0x2D → eqb c 12 ≡ outerKind c d
 kind-function c d e = sym (ap (outerKind c) e)
 
-pub kind-simple : (c d : ℕ) → 0x21 ≤ d → d ≤ 0x28 → eqb (d - 0x20) c ≡ outerKind c d
-kind-simple c d h k = rw (ne-eqb d 0x20 (λ e. omega arith), le-leb 0x21 d h, le-leb d 0x28 k, ne-eqb d 0x2B (λ e. omega arith), ne-eqb d 0x2D (λ e. omega arith)) (sym (or-none (eqb (d - 0x20) c)))
+pub kind-simple : (c d : ℕ) {e : ℕ} → e ≡ leafTypeCommand c → 0x21 ≤ d → d ≤ 0x28 → eqb e d ≡ outerKind c d
+kind-simple c d z h k = rw (z, ne-eqb d 0x20 (λ e. omega arith), le-leb 0x21 d h, le-leb d 0x28 k, ne-eqb d 0x2B (λ e. omega arith), ne-eqb d 0x2D (λ e. omega arith))
+    (sym (or-none (eqb (leafTypeCommand c) d)))
 
 pub kind-below : (c d : ℕ) → d < 0x20 → false ≡ outerKind c d
 kind-below c d h = rw (ne-eqb d 0x20 (λ e. omega arith), lt-leb 0x21 d (omega arith), ne-eqb d 0x2B (λ e. omega arith), ne-eqb d 0x2D (λ e. omega arith))
@@ -61,85 +63,106 @@ pub kind-above : (c d : ℕ) → 0x28 < d → (d ≡ 0x2B → ⊥) → (d ≡ 0x
 kind-above c d h f g = rw (ne-eqb d 0x20 (λ e. omega arith), le-leb 0x21 d (omega arith), lt-leb d 0x28 h, ne-eqb d 0x2B f, ne-eqb d 0x2D g)
 
 -- ---- a leaf's own type, and Any
-leaf-kind : (s : Simple) (c : ℕ) → 0 < c → c < 9 → (eqb (code s) 0 || eqb (code s) c) ≡ outerKind c (0x20 + code s)
-leaf-kind any c h k = refl
-leaf-kind boolean c h k = sym (or-none (eqb 1 c))
-leaf-kind number c h k = sym (or-none (eqb 2 c))
-leaf-kind string c h k = sym (or-none (eqb 3 c))
-leaf-kind date c h k = sym (or-none (eqb 4 c))
-leaf-kind time c h k = sym (or-none (eqb 5 c))
-leaf-kind dateTime c h k = sym (or-none (eqb 6 c))
-leaf-kind daysAndTime c h k = sym (or-none (eqb 7 c))
-leaf-kind yearsAndMonths c h k = sym (or-none (eqb 8 c))
-leaf-kind null c h k = ne-eqb 9 c (λ e. omega arith)
+-- both 20 on
+shifted : (n k : ℕ) → eqb n k ≡ eqb (0x20 + k) (0x20 + n)
+shifted n k = go (eqb n k) refl
+  where
+    go : (q : Bool) → eqb n k ≡ q → q ≡ eqb (0x20 + k) (0x20 + n)
+    go true e = sym (eq-eqb (0x20 + k) (0x20 + n) (let z = eqb-true n k e in omega arith))
+    go false e = sym (ne-eqb (0x20 + k) (0x20 + n) (λ w. eqb-false n k e (omega arith)))
+
+-- the leaf's type y
+leaf-kind : (s : Simple) (c y : ℕ) → 0x20 + y ≡ leafTypeCommand c → y ≤ 8 → (eqb (code s) 0 || eqb (code s) y) ≡ outerKind c (0x20 + code s)
+leaf-kind any c y e k = refl
+leaf-kind boolean c y e k = shifted 1 y ∙ ap (λ (z : ℕ). eqb z 0x21) e ∙ sym (or-none (eqb (leafTypeCommand c) 0x21))
+leaf-kind number c y e k = shifted 2 y ∙ ap (λ (z : ℕ). eqb z 0x22) e ∙ sym (or-none (eqb (leafTypeCommand c) 0x22))
+leaf-kind string c y e k = shifted 3 y ∙ ap (λ (z : ℕ). eqb z 0x23) e ∙ sym (or-none (eqb (leafTypeCommand c) 0x23))
+leaf-kind date c y e k = shifted 4 y ∙ ap (λ (z : ℕ). eqb z 0x24) e ∙ sym (or-none (eqb (leafTypeCommand c) 0x24))
+leaf-kind time c y e k = shifted 5 y ∙ ap (λ (z : ℕ). eqb z 0x25) e ∙ sym (or-none (eqb (leafTypeCommand c) 0x25))
+leaf-kind dateTime c y e k = shifted 6 y ∙ ap (λ (z : ℕ). eqb z 0x26) e ∙ sym (or-none (eqb (leafTypeCommand c) 0x26))
+leaf-kind daysAndTime c y e k = shifted 7 y ∙ ap (λ (z : ℕ). eqb z 0x27) e ∙ sym (or-none (eqb (leafTypeCommand c) 0x27))
+leaf-kind yearsAndMonths c y e k = shifted 8 y ∙ ap (λ (z : ℕ). eqb z 0x28) e ∙ sym (or-none (eqb (leafTypeCommand c) 0x28))
+leaf-kind null c y e k = ne-eqb 9 y (λ z. omega arith)
 
 -- a command that is no leaf's
-other-kind : (s : Simple) (c : ℕ) → 9 ≤ c → eqb (code s) 0 ≡ outerKind c (0x20 + code s)
+other-kind : (s : Simple) (c : ℕ) → leafTypeCommand c ≡ 0 → eqb (code s) 0 ≡ outerKind c (0x20 + code s)
 other-kind any c h = refl
-other-kind boolean c h = sym (or-none (eqb 1 c) ∙ ne-eqb 1 c (λ e. omega arith))
-other-kind number c h = sym (or-none (eqb 2 c) ∙ ne-eqb 2 c (λ e. omega arith))
-other-kind string c h = sym (or-none (eqb 3 c) ∙ ne-eqb 3 c (λ e. omega arith))
-other-kind date c h = sym (or-none (eqb 4 c) ∙ ne-eqb 4 c (λ e. omega arith))
-other-kind time c h = sym (or-none (eqb 5 c) ∙ ne-eqb 5 c (λ e. omega arith))
-other-kind dateTime c h = sym (or-none (eqb 6 c) ∙ ne-eqb 6 c (λ e. omega arith))
-other-kind daysAndTime c h = sym (or-none (eqb 7 c) ∙ ne-eqb 7 c (λ e. omega arith))
-other-kind yearsAndMonths c h = sym (or-none (eqb 8 c) ∙ ne-eqb 8 c (λ e. omega arith))
+other-kind boolean c h = rw h
+other-kind number c h = rw h
+other-kind string c h = rw h
+other-kind date c h = rw h
+other-kind time c h = rw h
+other-kind dateTime c h = rw h
+other-kind daysAndTime c h = rw h
+other-kind yearsAndMonths c h = rw h
 other-kind null c h = refl
 
 -- neither a list type nor a context type
 abbrev Neither : Ty → Type 0
 Neither t = (cmd t ≡ 0x2A → ⊥) × (cmd t ≡ 0x2C → ⊥)
 
-built-leaf : (y : Built) (v : Val) (c : ℕ) → c < 9 → Neither (built y) → none ≡ copied (outerKind c (cmd (built y))) v
+built-leaf : (y : Built) (v : Val) (c : ℕ) → isLeafCommand c ≡ true → Neither (built y) → none ≡ copied (outerKind c (cmd (built y))) v
 built-leaf (list u) v c h n = absurd (n .0 refl)
-built-leaf (range u) v c h n = ap (λ b. copied b v) (sym (sym (kind-range c 0x2B refl) ∙ ne-eqb c 9 (λ e. omega arith)))
+built-leaf (range u) v c h n = ap (λ b. copied b v) (sym (sym (kind-range c 0x2B refl) ∙ ne-eqb c 9 (λ e. false≢true (sym (ap isLeafCommand e) ∙ h))))
 built-leaf (context fs) v c h n = absurd (n .1 refl)
-built-leaf (function ps r) v c h n = ap (λ b. copied b v) (sym (sym (kind-function c 0x2D refl) ∙ ne-eqb c 12 (λ e. omega arith)))
+built-leaf (function ps r) v c h n = ap (λ b. copied b v) (sym (sym (kind-function c 0x2D refl) ∙ ne-eqb c 12 (λ e. false≢true (sym (ap isLeafCommand e) ∙ h))))
 
-simple-leaf : (s : Simple) (x : Leaf) (c : ℕ) → 0 < c → c < 9 → code (leafType x) ≡ c → copied (same s any || same s (leafType x)) (v-leaf x) ≡ copied (outerKind c (0x20 + code s)) (v-leaf x)
-simple-leaf s x c h k e = ap (λ b. copied b (v-leaf x)) (ap (λ (z : ℕ). eqb (code s) 0 || eqb (code s) z) e ∙ leaf-kind s c h k)
+-- a leaf that is no null, by its command
+pub record Plain (x : Leaf) (c : ℕ) : Type 0 where
+  pub leafy : isLeafCommand c ≡ true
+  pub some : c ≡ 0 → ⊥
+  pub type : 0x20 + code (leafType x) ≡ leafTypeCommand c
 
-leaf-by : (x : Leaf) (t : Ty) (c : ℕ) → 0 < c → c < 9 → code (leafType x) ≡ c → Neither t → retrieveLeaf x t ≡ copied (outerKind c (cmd t)) (v-leaf x)
-leaf-by (l-null x) t c h k e n = absurd (omega arith)
-leaf-by (l-boolean x) (leaf s) c h k e n = simple-leaf s (l-boolean x) c h k e
-leaf-by (l-boolean x) (built y) c h k e n = built-leaf y (v-leaf (l-boolean x)) c k n
-leaf-by (l-number x) (leaf s) c h k e n = simple-leaf s (l-number x) c h k e
-leaf-by (l-number x) (built y) c h k e n = built-leaf y (v-leaf (l-number x)) c k n
-leaf-by (l-string x) (leaf s) c h k e n = simple-leaf s (l-string x) c h k e
-leaf-by (l-string x) (built y) c h k e n = built-leaf y (v-leaf (l-string x)) c k n
-leaf-by (l-temporal d x) (leaf s) c h k e n = simple-leaf s (l-temporal d x) c h k e
-leaf-by (l-temporal d x) (built y) c h k e n = built-leaf y (v-leaf (l-temporal d x)) c k n
+simple-leaf : (s : Simple) (x : Leaf) (c : ℕ) → Plain x c → copied (same s any || same s (leafType x)) (v-leaf x) ≡ copied (outerKind c (0x20 + code s)) (v-leaf x)
+simple-leaf s x c p = ap (λ b. copied b (v-leaf x)) (leaf-kind s c (code (leafType x)) (p .type) (omega (arith, p .type, plain-type-in c (p .leafy) (p .some))))
+
+leaf-by : (x : Leaf) (t : Ty) (c : ℕ) → Plain x c → Neither t → retrieveLeaf x t ≡ copied (outerKind c (cmd t)) (v-leaf x)
+leaf-by (l-null x) t c p n = absurd (omega (arith, p .type, plain-type-in c (p .leafy) (p .some)))
+leaf-by (l-boolean x) (leaf s) c p n = simple-leaf s (l-boolean x) c p
+leaf-by (l-boolean x) (built y) c p n = built-leaf y (v-leaf (l-boolean x)) c (p .leafy) n
+leaf-by (l-number x) (leaf s) c p n = simple-leaf s (l-number x) c p
+leaf-by (l-number x) (built y) c p n = built-leaf y (v-leaf (l-number x)) c (p .leafy) n
+leaf-by (l-decimal x q) (leaf s) c p n = simple-leaf s (l-decimal x q) c p
+leaf-by (l-decimal x q) (built y) c p n = built-leaf y (v-leaf (l-decimal x q)) c (p .leafy) n
+leaf-by (l-string x) (leaf s) c p n = simple-leaf s (l-string x) c p
+leaf-by (l-string x) (built y) c p n = built-leaf y (v-leaf (l-string x)) c (p .leafy) n
+leaf-by (l-temporal d x) (leaf s) c p n = simple-leaf s (l-temporal d x) c p
+leaf-by (l-temporal d x) (built y) c p n = built-leaf y (v-leaf (l-temporal d x)) c (p .leafy) n
 
 range-by : (t : Ty) → Neither t → byRange t ≡ outerKind 9 (cmd t)
-range-by (leaf s) n = other-kind s 9 (omega arith)
+unfolding leafTypeCommand
+range-by (leaf s) n = other-kind s 9 refl
 range-by (built (list u)) n = refl
 range-by (built (range u)) n = refl
 range-by (built (context fs)) n = refl
 range-by (built (function ps r)) n = refl
 
 function-by : (t : Ty) → Neither t → byFunction t ≡ outerKind 12 (cmd t)
-function-by (leaf s) n = other-kind s 12 (omega arith)
+unfolding leafTypeCommand
+function-by (leaf s) n = other-kind s 12 refl
 function-by (built (list u)) n = refl
 function-by (built (range u)) n = refl
 function-by (built (context fs)) n = refl
 function-by (built (function ps r)) n = refl
 
-any-by : (t : Ty) (c : ℕ) → 12 < c → Neither t → byAny t ≡ outerKind c (cmd t)
-any-by (leaf s) c h n = other-kind s c (omega arith)
-any-by (built (list u)) c h n = refl
-any-by (built (range u)) c h n = sym (sym (kind-range c 0x2B refl) ∙ ne-eqb c 9 (λ e. omega arith))
-any-by (built (context fs)) c h n = refl
-any-by (built (function ps r)) c h n = sym (sym (kind-function c 0x2D refl) ∙ ne-eqb c 12 (λ e. omega arith))
+any-by : (t : Ty) (c : ℕ) → 12 < c → leafTypeCommand c ≡ 0 → Neither t → byAny t ≡ outerKind c (cmd t)
+any-by (leaf s) c h z n = other-kind s c z
+any-by (built (list u)) c h z n = refl
+any-by (built (range u)) c h z n = sym (sym (kind-range c 0x2B refl) ∙ ne-eqb c 9 (λ e. omega arith))
+any-by (built (context fs)) c h z n = refl
+any-by (built (function ps r)) c h z n = sym (sym (kind-function c 0x2D refl) ∙ ne-eqb c 12 (λ e. omega arith))
 
 list-by : (t : Ty) (v : Val) (f : Ty → Option Val) → Neither t → byList t v f ≡ copied (outerKind 10 (cmd t)) v
-list-by (leaf s) v f n = ap (λ b. copied b v) (other-kind s 10 (omega arith))
+unfolding leafTypeCommand
+list-by (leaf s) v f n = ap (λ b. copied b v) (other-kind s 10 refl)
 list-by (built (list u)) v f n = absurd (n .0 refl)
 list-by (built (range u)) v f n = refl
 list-by (built (context fs)) v f n = absurd (n .1 refl)
 list-by (built (function ps r)) v f n = refl
 
 context-by : (t : Ty) (v : Val) (f : Fields → Option Val) → Neither t → byContext t v f ≡ copied (outerKind 11 (cmd t)) v
-context-by (leaf s) v f n = ap (λ b. copied b v) (other-kind s 11 (omega arith))
+unfolding leafTypeCommand
+context-by (leaf s) v f n = ap (λ b. copied b v) (other-kind s 11 refl)
 context-by (built (list u)) v f n = absurd (n .0 refl)
 context-by (built (range u)) v f n = refl
 context-by (built (context fs)) v f n = absurd (n .1 refl)
@@ -149,21 +172,25 @@ at-command : (v : Val) (d i c : ℕ) → c ≡ i → copied (outerKind i d) v �
 at-command v d i c e = ap (λ (z : ℕ). copied (outerKind z d) v) (sym e)
 
 by-kind : {j : ValueKind} (l : ℕ) (s : List ℕ) (v : Val) (t : Ty) → IsVal l s j v → (getD s 0 0 ≡ 0 → ⊥) → Neither t → retrieve v t ≡ copied (outerKind (getD s 0 0) (cmd t)) v
-unfolding retrieve
+unfolding retrieve leafTypeCommand
 by-kind l s v t (is-null x c) z n = absurd (z c)
-by-kind l s v t (is-boolean x c) z n = leaf-by (l-boolean x) t 1 (omega arith) (omega arith) refl n ∙ at-command (v-leaf (l-boolean x)) (cmd t) 1 (getD s 0 0) c
-by-kind l s v t (is-number x c) z n = leaf-by (l-number x) t 2 (omega arith) (omega arith) refl n ∙ at-command (v-leaf (l-number x)) (cmd t) 2 (getD s 0 0) c
-by-kind l s v t (is-string x c) z n = leaf-by (l-string x) t 3 (omega arith) (omega arith) refl n ∙ at-command (v-leaf (l-string x)) (cmd t) 3 (getD s 0 0) c
+by-kind l s v t (is-boolean x c) z n = leaf-by (l-boolean x) t (getD s 0 0) (record { leafy = ap isLeafCommand c; some = z; type = ap leafTypeCommand (sym c) }) n
+by-kind l s v t (is-number x c) z n = leaf-by (l-number x) t (getD s 0 0) (record { leafy = ap isLeafCommand c; some = z; type = ap leafTypeCommand (sym c) }) n
+by-kind l s v t (is-string x c) z n = leaf-by (l-string x) t (getD s 0 0) (record { leafy = ap isLeafCommand c; some = z; type = ap leafTypeCommand (sym c) }) n
 by-kind l s v t (is-temporal x c d) z n =
-    leaf-by (l-temporal (decodeTemporal (getD s 0 0 - 4)) x) t (getD s 0 0) (omega arith) d
-    (omega (arith, temporal-code (decodeTemporal (getD s 0 0 - 4)), code-decode (getD s 0 0 - 4) (omega arith))) n
+    leaf-by (l-temporal (decodeTemporal (getD s 0 0 - 4)) x) t (getD s 0 0) (record {
+      leafy = leaf-low (getD s 0 0) d;
+      some = z;
+      type = omega (arith, temporal-code (decodeTemporal (getD s 0 0 - 4)), code-decode (getD s 0 0 - 4) (omega arith), low-type (getD s 0 0) (omega arith) d);
+    }) n
+by-kind l s v t (is-decimal x p c) z n = leaf-by (l-decimal x p) t (getD s 0 0) (record { leafy = ap isLeafCommand c; some = z; type = ap leafTypeCommand (sym c) }) n
 by-kind l s v t (is-range i j a b c k p) z n = ap (λ q. copied q (v-range i j a b)) (range-by t n) ∙ at-command (v-range i j a b) (cmd t) 9 (getD s 0 0) c
 by-kind l s v t (is-list vs c k p) z n = list-by t (v-list vs) _ n ∙ at-command (v-list vs) (cmd t) 10 (getD s 0 0) c
 by-kind l s v t (is-context es c k p) z n = context-by t (v-context es) _ n ∙ at-command (v-context es) (cmd t) 11 (getD s 0 0) c
 by-kind l s v t (is-definition r ps b c k p) z n = ap (λ q. copied q (v-function ps b r)) (function-by t n) ∙ at-command (v-function ps b r) (cmd t) 12 (getD s 0 0) c
-by-kind l s v t (is-built-in c k) z n = ap (λ q. copied q (v-built-in (getD s 1 0))) (any-by t 13 (omega arith) n) ∙ at-command (v-built-in (getD s 1 0)) (cmd t) 13 (getD s 0 0) c
-by-kind l s v t (is-type a c p) z n = ap (λ q. copied q (v-type a)) (any-by t 14 (omega arith) n) ∙ at-command (v-type a) (cmd t) 14 (getD s 0 0) c
-by-kind l s v t (is-irrelevant c) z n = ap (λ q. copied q v-irrelevant) (any-by t 15 (omega arith) n) ∙ at-command v-irrelevant (cmd t) 15 (getD s 0 0) c
+by-kind l s v t (is-built-in c k) z n = ap (λ q. copied q (v-built-in (getD s 1 0))) (any-by t 13 (omega arith) refl n) ∙ at-command (v-built-in (getD s 1 0)) (cmd t) 13 (getD s 0 0) c
+by-kind l s v t (is-type a c p) z n = ap (λ q. copied q (v-type a)) (any-by t 14 (omega arith) refl n) ∙ at-command (v-type a) (cmd t) 14 (getD s 0 0) c
+by-kind l s v t (is-irrelevant c) z n = ap (λ q. copied q v-irrelevant) (any-by t 15 (omega arith) refl n) ∙ at-command v-irrelevant (cmd t) 15 (getD s 0 0) c
 
 -- another value by a list type, and by a context type
 not-list : {j : ValueKind} (l : ℕ) (s : List ℕ) (v : Val) (u : Ty) → IsVal l s j v → (getD s 0 0 ≡ 0 → ⊥) → (getD s 0 0 ≡ 10 → ⊥) → retrieve v (built (list u)) ≡ none
@@ -180,6 +207,7 @@ not-list l s v u (is-definition r ps b c k p) z n = refl
 not-list l s v u (is-built-in c k) z n = refl
 not-list l s v u (is-type a c p) z n = refl
 not-list l s v u (is-irrelevant c) z n = refl
+not-list l s v u (is-decimal x p c) z n = refl
 
 not-context : {j : ValueKind} (l : ℕ) (s : List ℕ) (v : Val) (fs : Fields) → IsVal l s j v → (getD s 0 0 ≡ 0 → ⊥) → (getD s 0 0 ≡ 11 → ⊥) → retrieve v (built (context fs)) ≡ none
 unfolding retrieve
@@ -195,6 +223,7 @@ not-context l s v fs (is-definition r ps b c k p) z n = refl
 not-context l s v fs (is-built-in c k) z n = refl
 not-context l s v fs (is-type a c p) z n = refl
 not-context l s v fs (is-irrelevant c) z n = refl
+not-context l s v fs (is-decimal x p c) z n = refl
 
 -- Null
 null-text : {l : ℕ} {s : List ℕ} {v : Val} (t : Ty) → IsVal l s kNull v → (map encV (retrieve v t) ≡ some (0 ∷ 0 ∷ [])) × (2 ≡ sizeVal v)

@@ -10,8 +10,8 @@ use mathlib.Core.Option.{Option, none, some}
 use lib.Dec.{eqb, ltb}
 use borrow.Author.Tests.{eqb-true, eqb-false, eq-eqb, ne-eqb, ltb-true, ltb-false}
 use Rattle.form.specs.Trees.{Simple, any, boolean, number, string, date, time, dateTime, daysAndTime, yearsAndMonths, null, code, Tys, Ty, leaf, built, list, range, context, function, Fields}
-use Rattle.form.specs.Trees.{no-fields, field, on-date, at-time, at-dateTime, for-daysAndTime, for-yearsAndMonths, Leaf, l-null, l-boolean, l-number, l-string, l-temporal, Val, v-leaf, v-range}
-use Rattle.form.specs.Trees.{v-list, v-context, v-function, v-built-in, v-type, v-irrelevant, Vals, no-items, item, Entries, no-entries, entry, nothing}
+use Rattle.form.specs.Trees.{no-fields, field, on-date, at-time, at-dateTime, for-daysAndTime, for-yearsAndMonths, Leaf, l-null, l-boolean, l-number, l-decimal, l-string, l-temporal, Val, v-leaf}
+use Rattle.form.specs.Trees.{v-range, v-list, v-context, v-function, v-built-in, v-type, v-irrelevant, Vals, no-items, item, Entries, no-entries, entry, nothing}
 use Rattle.form.specs.Form.{levelV, levelVals, levelEntries, countVals, countEntries, WfLeaf, WfV, WfVals, WfEntries}
 use Rattle.order.specs.Order.{up, fixed, same, flat}
 use Rattle.order.specs.Ascending.{Asc, AscFields}
@@ -66,6 +66,8 @@ less-leaf (l-boolean x) (leaf s) w e = same-less (v-leaf (l-boolean x)) w (copie
 less-leaf (l-boolean x) (built y) w e = absurd (none-some e)
 less-leaf (l-number x) (leaf s) w e = same-less (v-leaf (l-number x)) w (copied-is (same s any || same s (leafType (l-number x))) (v-leaf (l-number x)) w e)
 less-leaf (l-number x) (built y) w e = absurd (none-some e)
+less-leaf (l-decimal x p) (leaf s) w e = same-less (v-leaf (l-decimal x p)) w (copied-is (same s any || same s (leafType (l-decimal x p))) (v-leaf (l-decimal x p)) w e)
+less-leaf (l-decimal x p) (built y) w e = absurd (none-some e)
 less-leaf (l-string x) (leaf s) w e = same-less (v-leaf (l-string x)) w (copied-is (same s any || same s (leafType (l-string x))) (v-leaf (l-string x)) w e)
 less-leaf (l-string x) (built y) w e = absurd (none-some e)
 less-leaf (l-temporal k x) (leaf s) w e = same-less (v-leaf (l-temporal k x)) w (copied-is (same s any || same s (leafType (l-temporal k x))) (v-leaf (l-temporal k x)) w e)
@@ -233,6 +235,7 @@ not-null : (l : Leaf) → Bool
 not-null (l-null x) = false
 not-null (l-boolean x) = true
 not-null (l-number x) = true
+not-null (l-decimal x p) = true
 not-null (l-string x) = true
 not-null (l-temporal k x) = true
 
@@ -241,6 +244,7 @@ unfolding not-null
 kind-null (l-null x) h = absurd (false≢true h)
 kind-null (l-boolean x) h = refl
 kind-null (l-number x) h = refl
+kind-null (l-decimal x p) h = refl
 kind-null (l-string x) h = refl
 kind-null (l-temporal on-date x) h = refl
 kind-null (l-temporal at-time x) h = refl
@@ -261,6 +265,9 @@ leaf-there (l-boolean x) (built y) h = absurd (false≢true h)
 leaf-there (l-number x) (leaf s) h = copied-there (v-leaf (l-number x)) (leaf s) (same s any || same s (leafType (l-number x))) refl
     (own-kind s (leafType (l-number x)) (kind-null (l-number x) refl) h) h
 leaf-there (l-number x) (built y) h = absurd (false≢true h)
+leaf-there (l-decimal x p) (leaf s) h = copied-there (v-leaf (l-decimal x p)) (leaf s) (same s any || same s (leafType (l-decimal x p))) refl
+    (own-kind s (leafType (l-decimal x p)) (kind-null (l-decimal x p) refl) h) h
+leaf-there (l-decimal x p) (built y) h = absurd (false≢true h)
 leaf-there (l-string x) (leaf s) h = copied-there (v-leaf (l-string x)) (leaf s) (same s any || same s (leafType (l-string x))) refl
     (own-kind s (leafType (l-string x)) (kind-null (l-string x) refl) h) h
 leaf-there (l-string x) (built y) h = absurd (false≢true h)
@@ -403,6 +410,7 @@ unfolding retrieve conforms cmp
 null-there (v-leaf (l-null x)) h = refl
 null-there (v-leaf (l-boolean x)) h = absurd (false≢true h)
 null-there (v-leaf (l-number x)) h = absurd (false≢true h)
+null-there (v-leaf (l-decimal x p)) h = absurd (false≢true h)
 null-there (v-leaf (l-string x)) h = absurd (false≢true h)
 null-there (v-leaf (l-temporal on-date x)) h = absurd (false≢true h)
 null-there (v-leaf (l-temporal at-time x)) h = absurd (false≢true h)

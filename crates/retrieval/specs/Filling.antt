@@ -4,11 +4,12 @@ use mathlib.Core.Path.{_≡_}
 use mathlib.Core.Bool.{Bool, _&&_, _||_}
 use mathlib.Core.Option.{Option, none, some}
 use mathlib.Core.List.{List}
-use Prim.Native.Nat.{ℕ, _-_}
+use Prim.Native.Nat.{ℕ}
 use lib.ListN.{length}
 use lib.Dec.{leb, eqb}
 use Rattle.form.specs.Trees.{Ty, Val}
 use Rattle.form.specs.Form.{encV}
+use Rattle.form.specs.Layout.{leafTypeCommand}
 use Rattle.order.specs.Size.{size, sizeVal}
 use Rattle.retrieval.specs.Retrieve.{retrieve}
 use Rattle.retrieval.specs.declared.builder.Retrieved.{Retrieved}
@@ -18,7 +19,7 @@ use Rattle.form.specs.Options.{map, WhereBoth}
 
 -- whether a type with command d copies a value with command c: Any, and the outer kind of leaves, ranges and functions
 abbrev pub outerKind : ℕ → ℕ → Bool
-outerKind c d = eqb d 0x20 || ((leb 0x21 d && (leb d 0x28 && eqb (d - 0x20) c)) || ((eqb d 0x2B && eqb c 0x09) || (eqb d 0x2D && eqb c 0x0C)))
+outerKind c d = eqb d 0x20 || ((leb 0x21 d && (leb d 0x28 && eqb (leafTypeCommand c) d)) || ((eqb d 0x2B && eqb c 0x09) || (eqb d 0x2D && eqb c 0x0C)))
 
 -- the sizes of the type and of the value, and the length of the answer; or Err
 unfoldable pub answered : ℕ → ℕ → Option (List ℕ) → Retrieved

@@ -3,7 +3,7 @@
 use Prim.Native.Nat.{ℕ}
 use mathlib.Core.Bool.{Bool, true, false, cond, _||_}
 use mathlib.Core.Option.{Option, none, some}
-use Rattle.form.specs.Trees.{any, null, Ty, leaf, built, list, range, context, function, Fields, Leaf, l-null, l-boolean, l-number, l-string, l-temporal, Val, v-leaf, v-range}
+use Rattle.form.specs.Trees.{any, null, Ty, leaf, built, list, range, context, function, Fields, Leaf, l-null, l-boolean, l-number, l-decimal, l-string, l-temporal, Val, v-leaf, v-range}
 use Rattle.form.specs.Trees.{v-list, v-context, v-function, v-built-in, v-type, v-irrelevant, Vals, no-items, item, Entries, no-entries, entry}
 use Rattle.order.specs.Order.{same}
 use Rattle.order.specs.Types.{lookup}
@@ -24,6 +24,8 @@ retrieveLeaf (l-boolean x) (leaf s) = copied (same s any || same s (leafType (l-
 retrieveLeaf (l-boolean x) (built y) = none
 retrieveLeaf (l-number x) (leaf s) = copied (same s any || same s (leafType (l-number x))) (v-leaf (l-number x))
 retrieveLeaf (l-number x) (built y) = none
+retrieveLeaf (l-decimal x p) (leaf s) = copied (same s any || same s (leafType (l-decimal x p))) (v-leaf (l-decimal x p))
+retrieveLeaf (l-decimal x p) (built y) = none
 retrieveLeaf (l-string x) (leaf s) = copied (same s any || same s (leafType (l-string x))) (v-leaf (l-string x))
 retrieveLeaf (l-string x) (built y) = none
 retrieveLeaf (l-temporal k x) (leaf s) = copied (same s any || same s (leafType (l-temporal k x))) (v-leaf (l-temporal k x))

@@ -32,7 +32,7 @@ fn outer_kind(c: u8, d: u8) -> bool
 {
     match d {
         commands::ANY_TYPE => true,
-        commands::BOOLEAN_TYPE..=commands::YEARS_AND_MONTHS_TYPE => d - commands::LEAF_TO_TYPE == c,
+        commands::BOOLEAN_TYPE..=commands::YEARS_AND_MONTHS_TYPE => commands::leaf_type(c) == d,
         commands::RANGE_TYPE => c == commands::RANGE,
         commands::FUNCTION_TYPE => c == commands::FUNCTION_DEFINITION,
         _ => false,

@@ -1,18 +1,18 @@
 -- A value against a type by their commands: a value of one kind conforms to no other kind's types but Any, and a null to all.
--- Index: `kind`, `kind-is`, `kind-plain`, `kind-other`, `leaf-is`, `small-is`, `long-is`, `definition-is` (a value that was read, by its command); `kinds-differ`, `to-any` (conformance by kinds);
--- `leaf-null`, `leaf-same`, `simple-is`, `simple-cmd` (leaves); `held-function`, `counts-differ` (definitions).
+-- Index: `kind`, `kind-is`, `kind-leaf`, `kind-other`, `leaf-is`, `small-is`, `long-is`, `definition-is` (a value that was read, by its command); `kinds-differ`, `to-any` (conformance by kinds);
+-- `short-data`, `leaf-null`, `leaf-same`, `simple-is`, `simple-cmd` (leaves); `held-function`, `counts-differ` (definitions).
 -- Assumes nothing.
-use Prim.Native.Nat.{ℕ, zero, suc, _+_, _-_, _≤_}
+use Prim.Native.Nat.{ℕ, zero, suc, _+_, _-_, _<_, _≤_}
 use mathlib.Core.Path.{_≡_, refl, sym, ap, _∙_}
 use mathlib.Core.Bool.{true, false, _&&_, true≢false}
 use mathlib.Core.Option.{some}
 use mathlib.Core.List.{List}
 use native.Mathlib.Omega.{arith}
 use lib.ListN.{length, getD, drop}
-use lib.Dec.{eqb, leb}
-use borrow.Author.Tests.{ne-eqb, le-leb, lt-leb}
+use lib.Dec.{eqb}
+use borrow.Author.Tests.{ne-eqb}
 use Rattle.form.specs.Trees.{Simple, any, Ty, leaf, built, list, range, context, function, Tys, no-params, param, code, simple, Leaf, Params, Val, v-leaf, v-range, v-list, v-context, v-function}
-use Rattle.form.specs.Trees.{v-built-in, v-type, v-irrelevant, isDataLeaf, decodeTemporal}
+use Rattle.form.specs.Trees.{v-built-in, v-type, v-irrelevant, isDataLeaf, isShortLeaf, decodeTemporal}
 use Rattle.form.specs.Limits.{nameWidth}
 use Rattle.form.specs.Form.{countTys}
 use Rattle.form.specs.Outcome.{pick}
@@ -29,9 +29,10 @@ use Rattle.types.proofs.Reading.{cmd}
 use Rattle.types.proofs.ByCommand.{le-null, le-other, le-leaves, same-simple, count-sig}
 use Rattle.values.specs.At.{valueAt, Definition, definition, definitionAt}
 use Rattle.values.specs.Held.{definitionConforms}
-use Rattle.values.proofs.Reading.{IsVal, is-null, is-boolean, is-number, is-string, is-temporal, is-range, is-list, is-context, is-definition, is-built-in, is-type}
+use Rattle.values.proofs.Reading.{IsVal, is-null, is-boolean, is-number, is-string, is-temporal, is-range, is-list, is-context, is-definition, is-built-in, is-type, is-decimal}
 use Rattle.values.proofs.Reading.{is-irrelevant, is-val, as-definition, paramsAt, no-parameter, definition-parts, first-parameter}
-use Rattle.form.specs.Layout.{ValueKind, kDefinition}
+use Rattle.form.specs.Layout.{ValueKind, kDefinition, isLeafCommand, leafTypeCommand}
+use Rattle.form.proofs.CommandKinds.{leaf-low, low-type}
 
 -- the command of the types of a value's kind; Any's for a value that has none
 abbrev pub kind : Val → ℕ
@@ -47,17 +48,16 @@ kind v-irrelevant = 0x20
 -- ---- by the command of a value that was read
 -- by the value's own command
 unfoldable pub kindAt : ℕ → ℕ
-kindAt c = pick (eqb c 0x00) 0x29 (pick (leb c 0x08) (c + 0x20) (pick (eqb c 0x09) 0x2B (pick (eqb c 0x0A) 0x2A (pick (eqb c 0x0B) 0x2C (pick (eqb c 0x0C) 0x2D 0x20)))))
+kindAt c = pick (isLeafCommand c) (leafTypeCommand c) (pick (eqb c 0x09) 0x2B (pick (eqb c 0x0A) 0x2A (pick (eqb c 0x0B) 0x2C (pick (eqb c 0x0C) 0x2D 0x20))))
 
-pub kind-plain : (c : ℕ) → 1 ≤ c → c ≤ 8 → kindAt c ≡ c + 32
+pub kind-leaf : (c : ℕ) → isLeafCommand c ≡ true → kindAt c ≡ leafTypeCommand c
 unfolding kindAt
-kind-plain c h k = rw (ne-eqb c 0 (λ e. omega arith), le-leb c 8 k)
+kind-leaf c h = rw h
 
-pub kind-other : (c : ℕ) → 13 ≤ c → kindAt c ≡ 32
+pub kind-other : (c : ℕ) → 13 ≤ c → isLeafCommand c ≡ false → kindAt c ≡ 32
 unfolding kindAt
-kind-other c h = rw (
-  ne-eqb c 0 (λ e. omega arith),
-  lt-leb c 8 (omega arith),
+kind-other c h n = rw (
+  n,
   ne-eqb c 9 (λ e. omega arith),
   ne-eqb c 10 (λ e. omega arith),
   ne-eqb c 11 (λ e. omega arith),
@@ -66,12 +66,14 @@ kind-other c h = rw (
 )
 
 kind-of : {j : ValueKind} (l : ℕ) (s : List ℕ) (x : Val) → IsVal l s j x → kind x ≡ kindAt (getD s 0 0)
-unfolding kindAt
+unfolding kindAt leafTypeCommand
 kind-of l s x (is-null y c) = ap kindAt (sym c)
 kind-of l s x (is-boolean y c) = ap kindAt (sym c)
 kind-of l s x (is-number y c) = ap kindAt (sym c)
 kind-of l s x (is-string y c) = ap kindAt (sym c)
-kind-of l s x (is-temporal y h i) = omega (arith, temporal-code (decodeTemporal (getD s 0 0 - 4)), code-decode (getD s 0 0 - 4) (omega arith), kind-plain (getD s 0 0) (omega arith) (omega arith))
+kind-of l s x (is-temporal y h i) =
+    let k = kind-leaf (getD s 0 0) (leaf-low (getD s 0 0) i) in
+    omega (arith, temporal-code (decodeTemporal (getD s 0 0 - 4)), code-decode (getD s 0 0 - 4) (omega arith), low-type (getD s 0 0) (omega arith) i)
 kind-of l s x (is-range i j a b c k p) = ap kindAt (sym c)
 kind-of l s x (is-list vs c k p) = ap kindAt (sym c)
 kind-of l s x (is-context es c k p) = ap kindAt (sym c)
@@ -79,21 +81,23 @@ kind-of l s x (is-definition r ps b c k p) = ap kindAt (sym c)
 kind-of l s x (is-built-in c k) = ap kindAt (sym c)
 kind-of l s x (is-type t c p) = ap kindAt (sym c)
 kind-of l s x (is-irrelevant c) = ap kindAt (sym c)
+kind-of l s x (is-decimal y p c) = ap kindAt (sym c)
 
--- a command up to 8 is a leaf's and no other, and behind 9 to 11 stand two bytes more
+-- a command below 9 is that of a leaf but a decimal and no other, and behind 9 to 11 stand two bytes more
 shaped : {j : ValueKind} (l : ℕ) (s : List ℕ) (x : Val) → IsVal l s j x
-    → (getD s 0 0 ≤ 8 → isDataLeaf x ≡ true) × (9 ≤ getD s 0 0 → getD s 0 0 ≤ 11 → 3 ≤ length s) × (isDataLeaf x ≡ true → getD s 0 0 ≤ 8)
+    → (getD s 0 0 < 9 → isShortLeaf x ≡ true) × (9 ≤ getD s 0 0 → getD s 0 0 ≤ 11 → 3 ≤ length s) × (isShortLeaf x ≡ true → getD s 0 0 < 9)
 shaped l s x (is-null y c) = (λ h. refl, λ h k. omega arith, λ h. omega arith)
 shaped l s x (is-boolean y c) = (λ h. refl, λ h k. omega arith, λ h. omega arith)
 shaped l s x (is-number y c) = (λ h. refl, λ h k. omega arith, λ h. omega arith)
 shaped l s x (is-string y c) = (λ h. refl, λ h k. omega arith, λ h. omega arith)
-shaped l s x (is-temporal y h i) = (λ h. refl, λ h k. omega arith, λ h. omega arith)
+shaped l s x (is-temporal y h i) = (λ h. refl, λ h k. omega arith, λ h. i)
 shaped l s x (is-range i j a b c k p) = (λ h. absurd (omega arith), λ h i. k, λ h. absurd (true≢false (sym h)))
 shaped l s x (is-list vs c k p) = (λ h. absurd (omega arith), λ h i. k, λ h. absurd (true≢false (sym h)))
 shaped l s x (is-context es c k p) = (λ h. absurd (omega arith), λ h i. k, λ h. absurd (true≢false (sym h)))
 shaped l s x (is-definition r ps b c k p) = (λ h. absurd (omega arith), λ h k. omega arith, λ h. absurd (true≢false (sym h)))
 shaped l s x (is-built-in c p) = (λ h. absurd (omega arith), λ h k. omega arith, λ h. absurd (true≢false (sym h)))
 shaped l s x (is-type t c p) = (λ h. absurd (omega arith), λ h k. omega arith, λ h. absurd (true≢false (sym h)))
+shaped l s x (is-decimal y p c) = (λ h. absurd (omega arith), λ h k. omega arith, λ h. absurd (true≢false (sym h)))
 shaped l s x (is-irrelevant c) = (λ h. absurd (omega arith), λ h k. omega arith, λ h. absurd (true≢false (sym h)))
 
 -- what a definition is made of
@@ -112,13 +116,13 @@ module _ (l : ℕ) (s : List ℕ) (x : Val) (e : valueAt l s ≡ some x) where
   pub kind-is : kind x ≡ kindAt (getD s 0 0)
   kind-is = kind-of l s x (is-val l s x e .1)
 
-  pub leaf-is : getD s 0 0 ≤ 8 → isDataLeaf x ≡ true
+  pub leaf-is : getD s 0 0 < 9 → isShortLeaf x ≡ true
   leaf-is = shaped l s x (is-val l s x e .1) .0
 
   pub long-is : 9 ≤ getD s 0 0 → getD s 0 0 ≤ 11 → 3 ≤ length s
   long-is = shaped l s x (is-val l s x e .1) .1
 
-  pub small-is : isDataLeaf x ≡ true → getD s 0 0 ≤ 8
+  pub small-is : isShortLeaf x ≡ true → getD s 0 0 < 9
   small-is = shaped l s x (is-val l s x e .1) .2
 
   pub definition-is : getD s 0 0 ≡ 12 → IsDefinition l s x
@@ -181,6 +185,16 @@ pub to-any : (x : Val) (u : Ty) → cmd u ≡ 32 → conforms fixed x u ≡ true
 to-any x u e = ap (conforms fixed x) (any-type u e) ∙ of-any x
 
 -- ---- a leaf of data
+pub short-data : (x : Val) → isShortLeaf x ≡ true → isDataLeaf x ≡ true
+short-data (v-leaf f) e = refl
+short-data (v-range i j a b) e = e
+short-data (v-list vs) e = e
+short-data (v-context es) e = e
+short-data (v-function ps b r) e = e
+short-data (v-built-in x) e = e
+short-data (v-type t) e = e
+short-data v-irrelevant e = e
+
 leaf-tree : (x : Val) → isDataLeaf x ≡ true → (f : Leaf) × (x ≡ v-leaf f)
 leaf-tree (v-leaf f) e = (f, refl)
 leaf-tree (v-range i j a b) e = absurd (true≢false (sym e))

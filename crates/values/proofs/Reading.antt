@@ -7,28 +7,28 @@
 -- Assumes nothing.
 use Prim.Native.Nat.{ℕ, zero, suc, _+_, _-_, _<_, _≤_}
 use mathlib.Core.Path.{_≡_, refl, sym, ap, subst, _∙_}
-use mathlib.Core.Bool.{Bool}
+use mathlib.Core.Bool.{Bool, true, false≢true}
 use mathlib.Core.Option.{Option, some}
 use mathlib.Core.List.{List}
 use native.Mathlib.Omega.{arith}
 use native.Mathlib.Numerals.{add-one}
 use lib.ListN.{length, getD, take, drop, length-drop}
 use lib.Dec.{eqb}
-use Rattle.form.specs.Trees.{Ty, Params, no-parameters, parameter, l-null, l-boolean, l-number, l-string, l-temporal, Val, v-leaf, v-range, v-list, v-context, v-function, v-built-in, v-type}
-use Rattle.form.specs.Trees.{v-irrelevant, Vals, no-items, item, Entries, no-entries, entry, isDataLeaf, decodeTemporal, Leaf, code}
+use Rattle.form.specs.Trees.{Ty, Params, no-parameters, parameter, l-null, l-boolean, l-number, l-decimal, l-string, l-temporal, Val, v-leaf, v-range, v-list, v-context, v-function, v-built-in}
+use Rattle.form.specs.Trees.{v-type, v-irrelevant, Vals, no-items, item, Entries, no-entries, entry, isShortLeaf, decodeTemporal, Leaf, code}
 use Rattle.form.specs.Limits.{nameWidth}
 use Rattle.form.specs.Form.{numAt, levelV, Bytes, encV, WfV}
-use Rattle.form.specs.Layout.{ValueKind, kNull, kBoolean, kNumber, kString, kTemporal, kRange, kList, kContext, kDefinition, kBuiltIn, kType, kIrrelevant, ofValue, kindOf, operands}
-use Rattle.form.specs.Layout.{operandsV, widthOf}
+use Rattle.form.specs.Layout.{ValueKind, kNull, kBoolean, kNumber, kString, kTemporal, kRange, kList, kContext, kDefinition, kBuiltIn, kType, kIrrelevant, kDecimal, ofValue, kindOf}
+use Rattle.form.specs.Layout.{operands, operandsV, widthOf, isLeafCommand, leafTypeCommand}
 use Rattle.form.specs.Walks.{walkOf, sizeIn, Short}
 use Rattle.form.specs.Walks as walks
 use Rattle.form.specs.Read.{got, andThen, readRun, readNamed, readT, readV, readVals, readEntries, readParams, ascending, anyOrder}
 use Rattle.form.proofs.Runs.{step}
 use Rattle.form.proofs.WalkAnswers.{short-end, told-ended}
-use Rattle.form.proofs.CommandKinds.{kind-temporal, width-is}
+use Rattle.form.proofs.CommandKinds.{kind-temporal, width-is, low-type}
 use Rattle.form.proofs.ValueLaws.{leaf-level}
 use Rattle.form.proofs.Exact.{then-parts, Found}
-use Rattle.form.proofs.Nodes.{NodeV, nNull, nBoolean, nNumber, nString, nTemporal, nRangeV, nListV, nContextV, nDefinition, nBuiltIn, nType, nIrrelevant, value-read, node-of}
+use Rattle.form.proofs.Nodes.{NodeV, nNull, nBoolean, nNumber, nString, nTemporal, nRangeV, nListV, nContextV, nDefinition, nBuiltIn, nType, nIrrelevant, nDecimal, value-read, node-of}
 use Rattle.order.specs.Ascending.{Asc}
 use Rattle.order.specs.Size.{size, sizeParams, sizeVal, sizeVals, sizeEntries}
 use Rattle.order.specs.Values.{leafType}
@@ -107,6 +107,7 @@ value-step left s ih h v n (nDefinition c k t m p ps j q) =
 value-step left s ih h v n (nBuiltIn c k x) = record { sized = refl; ascend = tt; inside = k }
 value-step left s ih h v n (nType c t m p) = let F = type-told left (drop 1 s) t m p in record { sized = omega (arith, F .sized); ascend = tt; inside = omega (arith, simp length-drop at (F .inside)) }
 value-step left s ih h v n (nIrrelevant c) = record { sized = refl; ascend = tt; inside = omega arith }
+value-step left s ih h v n (nDecimal c k x) = record { sized = refl; ascend = tt; inside = k }
 
 pub value-told : (l : ℕ) → Tells sizeVal Free (readV l)
 value-told zero s v n e = absurd (let h = value-read zero s v n e .some-level in omega arith)
@@ -129,6 +130,7 @@ pub data IsVal (l : ℕ) (s : List ℕ) : ValueKind → Val → Type 0 where
   is-built-in : getD s 0 0 ≡ 13 → 2 ≤ length s → IsVal l s kBuiltIn (v-built-in (getD s 1 0))
   is-type : (t : Ty) → getD s 0 0 ≡ 14 → typeAt (l - 1) (drop 1 s) ≡ some t → IsVal l s kType (v-type t)
   is-irrelevant : getD s 0 0 ≡ 15 → IsVal l s kIrrelevant v-irrelevant
+  is-decimal : (x p : ℕ) → getD s 0 0 ≡ 16 → IsVal l s kDecimal (v-leaf (l-decimal x p))
 
 -- two values, one behind the other, are a run of two
 two-items : (l : ℕ) (s : List ℕ) (a b : Val) (m n : ℕ) → readV l s ≡ got a m → readV l (drop m s) ≡ got b n → itemsAt l 2 s ≡ some (item a (item b no-items))
@@ -155,34 +157,36 @@ node-val l s v n (nDefinition c k t m p ps j q) =
 node-val l s v n (nBuiltIn c k x) = is-built-in c k
 node-val l s v n (nType c t m p) = is-type t c (got-seen (readT (l - 1) (drop 1 s)) t m p)
 node-val l s v n (nIrrelevant c) = is-irrelevant c
+node-val l s v n (nDecimal c k x) = is-decimal (numAt 8 1 s) (getD s 9 0) c
 
 -- a leaf: its size is that of its command's operands and one more, and its type is the command's
 pub record LeafVal (s : List ℕ) (v : Val) : Type 0 where
   pub x : Leaf
   pub is : v ≡ v-leaf x
   pub size : widthOf (getD s 0 0) + 1 ≡ sizeVal (v-leaf x)
-  pub type : (getD s 0 0 ≡ 0 → ⊥) → 32 + code (leafType x) ≡ getD s 0 0 + 32
+  pub type : 0x20 + code (leafType x) ≡ leafTypeCommand (getD s 0 0)
 
-leaf-val : {j : ValueKind} {l : ℕ} {s : List ℕ} {v : Val} → IsVal l s j v → getD s 0 0 < 9 → LeafVal s v
-unfolding sizeVal kindOf operands operandsV widthOf
-leaf-val (is-null x c) h = record { x = l-null x; is = refl; size = ap (λ (z : ℕ). widthOf z + 1) c; type = λ z. absurd (z c) }
-leaf-val (is-boolean x c) h = record { x = l-boolean x; is = refl; size = ap (λ (z : ℕ). widthOf z + 1) c; type = λ z. ap (λ (k : ℕ). k + 32) (sym c) }
-leaf-val (is-number x c) h = record { x = l-number x; is = refl; size = ap (λ (z : ℕ). widthOf z + 1) c; type = λ z. ap (λ (k : ℕ). k + 32) (sym c) }
-leaf-val (is-string x c) h = record { x = l-string x; is = refl; size = ap (λ (z : ℕ). widthOf z + 1) c; type = λ z. ap (λ (k : ℕ). k + 32) (sym c) }
+leaf-val : {j : ValueKind} {l : ℕ} {s : List ℕ} {v : Val} → IsVal l s j v → isLeafCommand (getD s 0 0) ≡ true → LeafVal s v
+unfolding sizeVal kindOf operands operandsV widthOf leafTypeCommand
+leaf-val (is-null x c) h = record { x = l-null x; is = refl; size = ap (λ (z : ℕ). widthOf z + 1) c; type = ap leafTypeCommand (sym c) }
+leaf-val (is-boolean x c) h = record { x = l-boolean x; is = refl; size = ap (λ (z : ℕ). widthOf z + 1) c; type = ap leafTypeCommand (sym c) }
+leaf-val (is-number x c) h = record { x = l-number x; is = refl; size = ap (λ (z : ℕ). widthOf z + 1) c; type = ap leafTypeCommand (sym c) }
+leaf-val (is-string x c) h = record { x = l-string x; is = refl; size = ap (λ (z : ℕ). widthOf z + 1) c; type = ap leafTypeCommand (sym c) }
 leaf-val {s = s} (is-temporal x c d) h =
     record {
       x = l-temporal (decodeTemporal (getD s 0 0 - 4)) x;
       is = refl;
       size = ap (λ (z : ℕ). z + 1) (width-is (getD s 0 0) (ofValue kTemporal) (kind-temporal (getD s 0 0) c d));
-      type = λ z. omega (arith, temporal-code (decodeTemporal (getD s 0 0 - 4)), code-decode (getD s 0 0 - 4) (omega arith));
+      type = omega (arith, temporal-code (decodeTemporal (getD s 0 0 - 4)), code-decode (getD s 0 0 - 4) (omega arith), low-type (getD s 0 0) (omega arith) d);
     }
-leaf-val (is-range i j a b c k e) h = absurd (omega arith)
-leaf-val (is-list vs c k e) h = absurd (omega arith)
-leaf-val (is-context es c k e) h = absurd (omega arith)
-leaf-val (is-definition r ps b c k e) h = absurd (omega arith)
-leaf-val (is-built-in c k) h = absurd (omega arith)
-leaf-val (is-type t c e) h = absurd (omega arith)
-leaf-val (is-irrelevant c) h = absurd (omega arith)
+leaf-val (is-range i j a b c k e) h = absurd (false≢true (sym (ap isLeafCommand c) ∙ h))
+leaf-val (is-list vs c k e) h = absurd (false≢true (sym (ap isLeafCommand c) ∙ h))
+leaf-val (is-context es c k e) h = absurd (false≢true (sym (ap isLeafCommand c) ∙ h))
+leaf-val (is-definition r ps b c k e) h = absurd (false≢true (sym (ap isLeafCommand c) ∙ h))
+leaf-val (is-built-in c k) h = absurd (false≢true (sym (ap isLeafCommand c) ∙ h))
+leaf-val (is-type t c e) h = absurd (false≢true (sym (ap isLeafCommand c) ∙ h))
+leaf-val (is-irrelevant c) h = absurd (false≢true (sym (ap isLeafCommand c) ∙ h))
+leaf-val (is-decimal x p c) h = record { x = l-decimal x p; is = refl; size = ap (λ (z : ℕ). widthOf z + 1) c; type = ap leafTypeCommand (sym c) }
 
 module _ (l : ℕ) (s : List ℕ) (v : Val) (q : valueAt l s ≡ some v) where
   opened : {P : Type 0} → ((n : ℕ) → readV l s ≡ got v n → P) → P
@@ -204,7 +208,7 @@ module _ (l : ℕ) (s : List ℕ) (v : Val) (q : valueAt l s ≡ some v) where
   of-kind : (k : ValueKind) → kindOf (getD s 0 0) ≡ ofValue k → IsVal l s k v
   of-kind k c = opened (λ n e. node-val l s v n (node-of k l s v n c e))
 
-  pub as-leaf : getD s 0 0 < 9 → LeafVal s v
+  pub as-leaf : isLeafCommand (getD s 0 0) ≡ true → LeafVal s v
   as-leaf h = leaf-val (is-val .1) h
 
   pub as-null : getD s 0 0 ≡ 0 → IsVal l s kNull v
@@ -325,8 +329,8 @@ unfolding valueAt sizeAtV
 skip-is l s = walk-size levelV sizeAtV (λ v. refl) refl (readV l) (value-told l) s (readV l s) refl
 
 -- the short way past a leaf of data
-pub pass-short : (l : ℕ) (s : List ℕ) (n : ℕ) → Short isDataLeaf (readV l s) n (length s - 0) → (n ≡ 0 → ⊥) → walks.Told (walkOf levelV (readV l s)) (length s) n 1
-pass-short l s n h z = told-ended (short-end levelV isDataLeaf leaf-level (readV l s) n (length s - 0) h z) (omega arith) (omega (arith, h .room)) (omega arith) refl refl
+pub pass-short : (l : ℕ) (s : List ℕ) (n : ℕ) → Short isShortLeaf (readV l s) n (length s - 0) → (n ≡ 0 → ⊥) → walks.Told (walkOf levelV (readV l s)) (length s) n 1
+pass-short l s n h z = told-ended (short-end levelV isShortLeaf leaf-level (readV l s) n (length s - 0) h z) (omega arith) (omega (arith, h .room)) (omega arith) refl refl
 
 pub size-got : (r : Option Val) (v : Val) → r ≡ some v → sizeAtV r ≡ sizeVal v
 unfolding sizeAtV

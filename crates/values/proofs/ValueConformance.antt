@@ -10,13 +10,15 @@ use mathlib.Core.Option.{Option, none, some}
 use mathlib.Core.List.{List}
 use native.Mathlib.Omega.{arith}
 use lib.ListN.{length, getD, take, drop, length-drop}
-use lib.Dec.{leb, eqb}
-use borrow.Author.Tests.{leb-true, leb-false, eqb-true, eqb-false}
-use Rattle.form.specs.Trees.{Ty, leaf, decode, built, list, range, context, simple, Val, v-list, v-context, Vals, no-items, item, isDataLeaf}
+use lib.Dec.{leb}
+use borrow.Author.Tests.{leb-true, leb-false}
+use Rattle.form.specs.Trees.{Ty, leaf, decode, built, list, range, context, simple, Val, v-list, v-context, Vals, no-items, item, isDataLeaf, isShortLeaf}
 use Rattle.form.specs.Form.{numAt}
 use Rattle.form.specs.Read.{readV}
+use Rattle.form.specs.Layout.{isLeafCommand, leafTypeCommand}
 use Rattle.form.specs.Walks.{Short}
 use Rattle.form.proofs.Options.{none-some}
+use Rattle.form.proofs.CommandKinds.{leaf-low, leaf-type-in, plain-type-in, no-leaf-high}
 use Rattle.form.proofs.Runs.{rest, first-at}
 use Rattle.order.specs.Order.{fixed}
 use Rattle.order.specs.Size.{size, sizeFields, sizeVal, sizeVals, sizeEntries}
@@ -35,9 +37,10 @@ use Rattle.types.proofs.Short.{Passed, passed, not-passed}
 use Rattle.types.proofs.Pairs.{mapO, both, taken, yes-of, no-when, mapped, met-yes, met-no, met-as, Readable, Sized, Pair}
 use Rattle.values.specs.At.{valueAt, itemsAt, entriesAt, sizeAtV}
 use Rattle.values.specs.Held.{heldBy, held, leafConforms, heldItems, entriesConform, heldEntries}
-use Rattle.values.proofs.Reading.{value-told, some-byte, some-level, v-inside, size-got, nth, no-nth}
+use Rattle.values.proofs.Reading.{value-told, as-leaf, some-byte, some-level, v-inside, size-got, nth, no-nth}
 use Rattle.values.proofs.Forward.{rangeOf, node-range, no-range, node-list, node-context}
-use Rattle.values.proofs.ByKind.{kind, kindAt, kind-plain, kind-other, kind-is, leaf-is, long-is, small-is, kinds-differ, to-any, leaf-null, leaf-same, simple-is, simple-cmd}
+use Rattle.values.proofs.ByKind.{kind, kindAt, kind-leaf, kind-other, kind-is, leaf-is, long-is, small-is, kinds-differ, to-any, short-data, leaf-null, leaf-same, simple-is}
+use Rattle.values.proofs.ByKind.{simple-cmd}
 
 pub readable-value : (l : ℕ) → Readable sizeVal (valueAt l)
 readable-value l = record { positive = size-val-positive; inside = λ s x e. v-inside l s x e }
@@ -72,14 +75,14 @@ module _ (test : Val → Ty → Bool) (l m : ℕ) (v t : List ℕ) (u : ℕ) whe
   no-type z = never (λ x y e f. omega (arith, types.some-byte m t y f))
 
 -- ---- the returns of `leaf`
-module _ (l : ℕ) (s : List ℕ) (n room : ℕ) (h : Short isDataLeaf (readV l s) n room) where
-  passed-leaf : (n ≡ 0 → ⊥) → Passed sizeVal isDataLeaf (valueAt l s) n
+module _ (l : ℕ) (s : List ℕ) (n room : ℕ) (h : Short isShortLeaf (readV l s) n room) where
+  passed-leaf : (n ≡ 0 → ⊥) → Passed sizeVal isShortLeaf (valueAt l s) n
   unfolding valueAt
-  passed-leaf z = passed sizeVal isDataLeaf (readV l s) (λ x m r. value-told l s x m r .sized) n room h z
+  passed-leaf z = passed sizeVal isShortLeaf (readV l s) (λ x m r. value-told l s x m r .sized) n room h z
 
-  no-leaf : n ≡ 0 → (x : Val) → valueAt l s ≡ some x → isDataLeaf x ≡ false
+  no-leaf : n ≡ 0 → (x : Val) → valueAt l s ≡ some x → isShortLeaf x ≡ false
   unfolding valueAt
-  no-leaf z x e = not-passed sizeVal isDataLeaf (readV l s) (λ y m r. value-told l s y m r .sized) n room h size-val-positive z x e
+  no-leaf z x e = not-passed sizeVal isShortLeaf (readV l s) (λ y m r. value-told l s y m r .sized) n room h size-val-positive z x e
 
 -- a test that is three
 three : (a b c : Bool) → a ≡ true → b ≡ true → c ≡ true → a && (b && c) ≡ true
@@ -100,30 +103,31 @@ module _ (l m : ℕ) (v : List ℕ) (at : ℕ) (t : List ℕ) (bt : ℕ) where
     where
       go : (q : Bool) (x : Val) (y : Ty) → simple y ≡ q → cmd y ≡ getD t bt 0 → leafConforms x y ≡ false
       go true x y s c = absurd (let k = simple-cmd y s in omega arith)
-      go false x y s c = rw s (and-false (isDataLeaf x))
+      go false x y s c = rw s (and-false (isShortLeaf x))
 
-  module _ (n room : ℕ) (h : Short isDataLeaf (readV l (drop at v)) n room) where
+  module _ (n room : ℕ) (h : Short isShortLeaf (readV l (drop at v)) n room) where
     pub leaf-none : n ≡ 0 → (u : ℕ) → Met (heldBy leafConforms (valueAt l (drop at v)) (typeAt m (drop bt t))) 0 u
     leaf-none z u = fails leafConforms l m (drop at v) (drop bt t) u (λ x y e f. ap (λ q. q && (simple y && conforms fixed x y)) (no-leaf l (drop at v) n room h z x e))
 
     module _ (z : n ≡ 0 → ⊥) where
-      P : Passed sizeVal isDataLeaf (valueAt l (drop at v)) n
+      P : Passed sizeVal isShortLeaf (valueAt l (drop at v)) n
       P = passed-leaf l (drop at v) n room h z
 
       leaf-kind : kind (P .x) ≡ kindAt (getD v at 0)
       leaf-kind = kind-is l (drop at v) (P .x) (P .read) ∙ ap kindAt (first-at v at)
 
-      -- its command is at most 8
-      pub small : getD v at 0 ≤ 8
-      small = let f = first-at v at in omega (arith, small-is l (drop at v) (P .x) (P .read) (P .leafy))
+      -- its command is a leaf's
+      leafy : isLeafCommand (getD v at 0) ≡ true
+      leafy = leaf-low (getD v at 0) (let f = first-at v at in omega (arith, small-is l (drop at v) (P .x) (P .read) (P .leafy)))
 
       -- neither null nor of this type
-      pub leaf-to-none : (getD v at 0 ≡ 0 → ⊥) → (getD t bt 0 ≡ 32 → ⊥) → (getD t bt 0 ≡ getD v at 0 + 32 → ⊥) → (u : ℕ) → Met (heldBy leafConforms (valueAt l (drop at v)) (typeAt m (drop bt t))) 0 u
+      pub leaf-to-none : (getD v at 0 ≡ 0 → ⊥) → (getD t bt 0 ≡ 32 → ⊥) → (getD t bt 0 ≡ leafTypeCommand (getD v at 0) → ⊥) → (u : ℕ)
+          → Met (heldBy leafConforms (valueAt l (drop at v)) (typeAt m (drop bt t))) 0 u
       leaf-to-none c a d u = fails leafConforms l m (drop at v) (drop bt t) u (λ x y e f.
-          let k : kind x ≡ getD v at 0 + 32 = kind-is l (drop at v) x e ∙ ap kindAt (first-at v at) ∙ kind-plain (getD v at 0) (omega arith) small in
+          let k : kind x ≡ leafTypeCommand (getD v at 0) = kind-is l (drop at v) x e ∙ ap kindAt (first-at v at) ∙ kind-leaf (getD v at 0) leafy in
           let g = cmd-there y f in
-          ap (λ q. isDataLeaf x && (simple y && q)) (kinds-differ x y (λ w. omega (arith, small)) (λ w. a (sym g ∙ w)) (λ w. d (sym g ∙ sym w ∙ k)))
-          ∙ ap (λ q. isDataLeaf x && q) (and-false (simple y)) ∙ and-false (isDataLeaf x))
+          ap (λ q. isShortLeaf x && (simple y && q)) (kinds-differ x y (λ w. omega (arith, plain-type-in (getD v at 0) leafy c)) (λ w. a (sym g ∙ w)) (λ w. d (sym g ∙ sym w ∙ k)))
+          ∙ ap (λ q. isShortLeaf x && q) (and-false (simple y)) ∙ and-false (isShortLeaf x))
 
       module _ (ml : 0 < m) (there : bt < length t) where
         -- the type
@@ -137,30 +141,25 @@ module _ (l m : ℕ) (v : List ℕ) (at : ℕ) (t : List ℕ) (bt : ℕ) where
 
           tests : conforms fixed (P .x) (T .x) ≡ true → Met (heldBy leafConforms (valueAt l (drop at v)) (typeAt m (drop bt t))) n 1
           tests k = met-yes (both sizeVal size leafConforms (valueAt l (drop at v)) (typeAt m (drop bt t)) (P .x) (T .x) (P .read) (T .read)
-              ∙ ap (λ q. judge q (sizeVal (P .x)) (size (T .x))) (three (isDataLeaf (P .x)) (simple (T .x)) (conforms fixed (P .x) (T .x)) (P .leafy)
+              ∙ ap (λ q. judge q (sizeVal (P .x)) (size (T .x))) (three (isShortLeaf (P .x)) (simple (T .x)) (conforms fixed (P .x) (T .x)) (P .leafy)
               (simple-is (T .x) (omega (arith, cmd-there (T .x) (T .read)))) k)) (P .is) (T .is)
 
           pub leaf-is-null : getD v at 0 ≡ 0 → Met (heldBy leafConforms (valueAt l (drop at v)) (typeAt m (drop bt t))) n 1
-          unfolding kindAt
-          leaf-is-null c = tests (leaf-null (P .x) (T .x) (P .leafy) (leaf-kind ∙ ap kindAt c))
+          unfolding kindAt leafTypeCommand
+          leaf-is-null c = tests (leaf-null (P .x) (T .x) (short-data (P .x) (P .leafy)) (leaf-kind ∙ ap kindAt c))
 
           to-any-leaf : getD t bt 0 ≡ 32 → Met (heldBy leafConforms (valueAt l (drop at v)) (typeAt m (drop bt t))) n 1
           to-any-leaf d = tests (to-any (P .x) (T .x) (cmd-there (T .x) (T .read) ∙ d))
 
-          own-leaf : 1 ≤ getD v at 0 → getD t bt 0 ≡ getD v at 0 + 32 → Met (heldBy leafConforms (valueAt l (drop at v)) (typeAt m (drop bt t))) n 1
-          own-leaf c d = tests (leaf-same (P .x) (T .x) (P .leafy) (simple-is (T .x) (omega (arith, cmd-there (T .x) (T .read))))
-              (leaf-kind ∙ kind-plain (getD v at 0) c small ∙ sym d ∙ sym (cmd-there (T .x) (T .read))))
+          own-leaf : getD t bt 0 ≡ leafTypeCommand (getD v at 0) → Met (heldBy leafConforms (valueAt l (drop at v)) (typeAt m (drop bt t))) n 1
+          own-leaf d = tests (leaf-same (P .x) (T .x) (short-data (P .x) (P .leafy)) (simple-is (T .x) (omega (arith, cmd-there (T .x) (T .read))))
+              (leaf-kind ∙ kind-leaf (getD v at 0) leafy ∙ sym d ∙ sym (cmd-there (T .x) (T .read))))
 
         pub leaf-to-any : getD t bt 0 ≡ 32 → Met (heldBy leafConforms (valueAt l (drop at v)) (typeAt m (drop bt t))) n 1
         leaf-to-any d = to-any-leaf (omega arith) (omega arith) d
 
-        -- the null's number is Any's
-        pub leaf-to-own : getD t bt 0 ≡ getD v at 0 + 32 → Met (heldBy leafConforms (valueAt l (drop at v)) (typeAt m (drop bt t))) n 1
-        leaf-to-own d = go (eqb (getD v at 0) 0) refl
-          where
-            go : (q : Bool) → eqb (getD v at 0) 0 ≡ q → Met (heldBy leafConforms (valueAt l (drop at v)) (typeAt m (drop bt t))) n 1
-            go true e = leaf-to-any (let c = eqb-true (getD v at 0) 0 e in omega arith)
-            go false e = let s = small in own-leaf (omega arith) (omega arith) (let c = eqb-false (getD v at 0) 0 e in omega arith) d
+        pub leaf-to-own : getD t bt 0 ≡ leafTypeCommand (getD v at 0) → Met (heldBy leafConforms (valueAt l (drop at v)) (typeAt m (drop bt t))) n 1
+        leaf-to-own d = let b = leaf-type-in (getD v at 0) leafy in own-leaf (omega arith) (omega arith) d
 
 -- a leaf that conforms conforms as a value
 pub leaf-pair : (l m : ℕ) (v : List ℕ) (at : ℕ) (t : List ℕ) (bt n : ℕ) → Met (heldBy leafConforms (valueAt l (drop at v)) (typeAt m (drop bt t))) n 1 → (n ≡ 0 → ⊥)
@@ -172,7 +171,7 @@ leaf-pair l m v at t bt n w z =
       y = B .y;
       read-a = B .read-a;
       read-b = B .read-b;
-      holds = last (isDataLeaf (B .x)) (simple (B .y)) (conforms fixed (B .x) (B .y))
+      holds = last (isShortLeaf (B .x)) (simple (B .y)) (conforms fixed (B .x) (B .y))
           (B .holds);
       size-a = B .size-a;
       size-b = B .size-b;
@@ -235,19 +234,20 @@ module _ (l m : ℕ) (v t : List ℕ) (u : ℕ) where
   unfolding kindAt
   function-apart c a d = other-kind 45 (ap kindAt c) (λ z. omega arith) a d
 
-  pub plain-apart : 1 ≤ getD v 0 0 → getD v 0 0 ≤ 8 → (getD t 0 0 ≡ 32 → ⊥) → (getD t 0 0 ≡ getD v 0 0 + 32 → ⊥) → Met (held (valueAt l v) (typeAt m t)) 0 u
-  plain-apart h k a d = other-kind (getD v 0 0 + 32) (kind-plain (getD v 0 0) h k) (λ z. omega arith) a d
+  pub plain-apart : isLeafCommand (getD v 0 0) ≡ true → (getD v 0 0 ≡ 0 → ⊥) → (getD t 0 0 ≡ 32 → ⊥) → (getD t 0 0 ≡ leafTypeCommand (getD v 0 0) → ⊥) → Met (held (valueAt l v) (typeAt m t)) 0 u
+  plain-apart h n a d = other-kind (leafTypeCommand (getD v 0 0)) (kind-leaf (getD v 0 0) h) (λ z. omega (arith, plain-type-in (getD v 0 0) h n)) a d
 
   -- no range, list or context that is there whole, no leaf, no definition
-  pub rest-apart : (3 ≤ length v → 9 ≤ getD v 0 0 → 11 < getD v 0 0) → (getD t 0 0 ≡ 32 → ⊥) → 9 ≤ getD v 0 0 → (getD v 0 0 ≡ 12 → ⊥) → Met (held (valueAt l v) (typeAt m t)) 0 u
+  pub rest-apart : (3 ≤ length v → 9 ≤ getD v 0 0 → 11 < getD v 0 0) → (getD t 0 0 ≡ 32 → ⊥) → isLeafCommand (getD v 0 0) ≡ false → (getD v 0 0 ≡ 12 → ⊥)
+      → Met (held (valueAt l v) (typeAt m t)) 0 u
   rest-apart w a h n = fails valueConformsTo l m v t u (λ x y f g. go x y f g (leb (getD v 0 0) 11) refl)
     where
       go : (x : Val) (y : Ty) → valueAt l v ≡ some x → typeAt m t ≡ some y → (q : Bool) → leb (getD v 0 0) 11 ≡ q → conforms fixed x y ≡ false
-      go x y f g true e = absurd (let k = leb-true (getD v 0 0) 11 e in omega (arith, w (long-is l v x f h k) h))
+      go x y f g true e = absurd (let k = leb-true (getD v 0 0) 11 e in let j = no-leaf-high (getD v 0 0) h in omega (arith, w (long-is l v x f j k) j))
       go x y f g false e =
           let b = cmd-is m t y g in
           let i = leb-false (getD v 0 0) 11 e in
-          let c = kind-is l v x f ∙ kind-other (getD v 0 0) (omega arith) in
+          let c = kind-is l v x f ∙ kind-other (getD v 0 0) (omega arith) h in
           kinds-differ x y (λ z. omega arith) (λ z. a (sym b ∙ z)) (λ z. a (sym b ∙ sym z ∙ c))
 
   -- a range's interval bytes
@@ -262,31 +262,41 @@ module _ (l m : ℕ) (v t : List ℕ) (u : ℕ) where
   no-signature-there d w = never valueConformsTo l m v t u (λ x y f g. w (is-fun m t y g d .two))
 
   -- a null
-  pub no-null : (n room : ℕ) → Short isDataLeaf (readV l v) n room → n ≡ 0 → getD v 0 0 ≡ 0 → Met (held (valueAt l v) (typeAt m t)) 0 u
+  pub no-null : (n room : ℕ) → Short isShortLeaf (readV l v) n room → n ≡ 0 → getD v 0 0 ≡ 0 → Met (held (valueAt l v) (typeAt m t)) 0 u
   no-null n room h z c = never valueConformsTo l m v t u (λ x y f g. true≢false (sym (leaf-is l v x f (omega arith)) ∙ no-leaf l v n room h z x f))
 
-pub met-null : (l m : ℕ) (v t : List ℕ) (n room : ℕ) → Short isDataLeaf (readV l v) n room → (n ≡ 0 → ⊥) → getD v 0 0 ≡ 0 → (k : ℕ) → Sized size (typeAt m) t k
+pub met-null : (l m : ℕ) (v t : List ℕ) (n room : ℕ) → Short isShortLeaf (readV l v) n room → (n ≡ 0 → ⊥) → getD v 0 0 ≡ 0 → (k : ℕ) → Sized size (typeAt m) t k
     → Met (held (valueAt l v) (typeAt m t)) n k
-unfolding kindAt
+unfolding kindAt leafTypeCommand
 met-null l m v t n room h z c k T =
     let P = passed-leaf l v n room h z in
     met-yes (both sizeVal size valueConformsTo (valueAt l v) (typeAt m t) (P .x) (T .x) (P .read) (T .read)
-    ∙ ap (λ q. judge q (sizeVal (P .x)) (size (T .x))) (leaf-null (P .x) (T .x) (P .leafy) (kind-is l v (P .x) (P .read) ∙ ap kindAt c))) (P .is) (T .is)
+    ∙ ap (λ q. judge q (sizeVal (P .x)) (size (T .x))) (leaf-null (P .x) (T .x) (short-data (P .x) (P .leafy)) (kind-is l v (P .x) (P .read) ∙ ap kindAt c))) (P .is) (T .is)
 
 -- another leaf of data, and its own type
-pub met-plain : (l m : ℕ) (v t : List ℕ) → 0 < m → 0 < length t → 1 ≤ getD v 0 0 → getD v 0 0 ≤ 8 → getD t 0 0 ≡ getD v 0 0 + 32 → (n room : ℕ)
-    → Short isDataLeaf (readV l v) n room → Met (held (valueAt l v) (typeAt m t)) n 1
-met-plain l m v t mp there h k d n room w = go (eqb n 0) refl
+pub met-plain : (l m : ℕ) (v t : List ℕ) → 0 < m → 0 < length t → isLeafCommand (getD v 0 0) ≡ true → getD t 0 0 ≡ leafTypeCommand (getD v 0 0) → (n : ℕ)
+    → n ≡ sizeAtV (valueAt l (take (length v - 0) (drop 0 v))) → Met (held (valueAt l v) (typeAt m t)) n 1
+unfolding size sizeAtV
+met-plain l m v t p h k d n e = go (valueAt l v) refl
   where
-    go : (q : Bool) → eqb n 0 ≡ q → Met (held (valueAt l v) (typeAt m t)) n 1
-    go true e =
-        let z = eqb-true n 0 e in
-        met-no n 1 (no-when sizeVal size valueConformsTo (valueAt l v) (typeAt m t) (λ x y f g. absurd (true≢false (sym (leaf-is l v x f k) ∙ no-leaf l v n room w z x f)))) z
-    go false e =
-        let z = eqb-false n 0 e in
-        let P = leaf-pair l m v 0 t 0 n (leaf-to-own l m v 0 t 0 n room w z mp there d) z in
-        met-yes (both sizeVal size valueConformsTo (valueAt l v) (typeAt m t) (P .x) (P .y) (P .read-a) (P .read-b) ∙ ap (λ q. judge q (sizeVal (P .x)) (size (P .y))) (P .holds)) (P .size-a)
-        (P .size-b)
+    b : (0x21 ≤ leafTypeCommand (getD v 0 0)) × (leafTypeCommand (getD v 0 0) ≤ 0x29)
+    b = leaf-type-in (getD v 0 0) k
+
+    y : Ty
+    y = leaf (decode (getD t 0 0 - 32))
+
+    T : typeAt m t ≡ some y
+    T = forward.read-simple m t p h (omega (arith, d, b)) (omega (arith, d, b))
+
+    size-is : n ≡ sizeAtV (valueAt l v)
+    size-is = e ∙ ap (λ r. sizeAtV (valueAt l r)) (rest v 0)
+
+    own : (x : Val) → valueAt l v ≡ some x → conforms fixed x y ≡ true
+    own x r = leaf-same x y (ap isDataLeaf (as-leaf l v x r k .is)) refl (kind-is l v x r ∙ kind-leaf (getD v 0 0) k ∙ sym d ∙ sym (cmd-is m t y T))
+
+    go : (r : Option Val) → valueAt l v ≡ r → Met (held (valueAt l v) (typeAt m t)) n 1
+    go (some x) r = met-yes (both sizeVal size valueConformsTo (valueAt l v) (typeAt m t) x y r T ∙ ap (λ q. judge q (sizeVal x) 1) (own x r)) (size-is ∙ ap sizeAtV r) refl
+    go none r = met-no n 1 (no-when sizeVal size valueConformsTo (valueAt l v) (typeAt m t) (λ x z f g. absurd (none-some (sym r ∙ f)))) (size-is ∙ ap sizeAtV r)
 
 -- ---- ranges, lists, contexts
 two-of : (l : ℕ) (s : List ℕ) (vs : Vals) → itemsAt l 2 s ≡ some vs → (a : Val) × (b : Val) × (vs ≡ item a (item b no-items))

@@ -2,7 +2,7 @@
 -- Assumes nothing.
 use mathlib.Core.Bool.{Bool, _&&_}
 use mathlib.Core.Option.{Option}
-use Rattle.form.specs.Trees.{Ty, Fields, simple, Val, Vals, Entries, isDataLeaf}
+use Rattle.form.specs.Trees.{Ty, Fields, simple, Val, Vals, Entries, isShortLeaf}
 use Rattle.order.specs.Order.{up, fixed}
 use Rattle.order.specs.Types.{allFields, cmp, cmps}
 use Rattle.order.specs.Size.{size, sizeFields, sizeVal, sizeVals, sizeEntries}
@@ -19,9 +19,9 @@ heldBy test x y = conformBy sizeVal size test x y
 abbrev pub held : Option Val → Option Ty → Conform
 held x y = heldBy valueConformsTo x y
 
--- a leaf of data against a simple type
+-- a leaf of data but a decimal against a simple type
 abbrev pub leafConforms : Val → Ty → Bool
-leafConforms x y = isDataLeaf x && (simple y && valueConformsTo x y)
+leafConforms x y = isShortLeaf x && (simple y && valueConformsTo x y)
 
 -- every item against one type
 abbrev pub heldItems : Option Vals → Option Ty → Conform

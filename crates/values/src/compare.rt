@@ -17,7 +17,7 @@ use form::limits::TYPE_LEVELS;
 // ---- conformance: a value and a type are read and compared at once. The answer is the size of the value, with that of the type left in `other`, where both are
 // read and the value conforms, and 0 where not. `left` counts the levels of the type; a value has one less.
 
-// The size of the value at `at` where it is a leaf of data and conforms to a simple type at `bt`, 0 where not: a short way past most pairs.
+// The size of the value at `at` where it is a leaf of data but a decimal and conforms to a simple type at `bt`, 0 where not: a short way past most pairs.
 fn leaf(v: &[u8], at: usize, t: &[u8], bt: usize, left: usize) -> usize
     requires { ⌜ (at ≤ length (now v)) × (bt ≤ length (now t)) × (0 < left) ⌝ }
     ensures { λ r. ⌜ Met (heldBy leafConforms (valueAt (left - 1) (drop at (now (v .entry)))) (typeAt left (drop bt (now (t .entry))))) r 1 ⌝ }
@@ -31,7 +31,7 @@ fn leaf(v: &[u8], at: usize, t: &[u8], bt: usize, left: usize) -> usize
     }
     let c = v[at];
     let d = t[bt];
-    if d == c + commands::LEAF_TO_TYPE {
+    if d == commands::leaf_type(c) {
         return n;
     }
     if d == commands::ANY_TYPE {
@@ -145,12 +145,12 @@ fn conform_other(v: &[u8], t: &[u8], left: usize, other: &mut usize) -> usize
             *other = m;
             n
         }
-        commands::BOOLEAN..=commands::YEARS_AND_MONTHS => {
-            if d != c + commands::LEAF_TO_TYPE {
+        commands::BOOLEAN..=commands::YEARS_AND_MONTHS | commands::DECIMAL => {
+            if d != commands::leaf_type(c) {
                 return 0;
             }
             *other = 1;
-            form::walk::leaf_size_at(v, 0, left - 1)
+            walk::skip(&v[0..], left - 1)
         }
         commands::FUNCTION_DEFINITION => {
             if d != commands::FUNCTION_TYPE {

@@ -1,4 +1,4 @@
--- `form::commands::operand_end` meets its contract: the largest operand byte of each command, arm by arm.
+-- `form::commands::operand_end` meets its contract: the bound of the last operand byte of each command, arm by arm.
 -- Assumes nothing.
 use Rattle.form.proofs.commands.operand_end.Statement.{statement}
 use Rattle.form.proofs.commands.operand_end.Tie as tie
@@ -12,9 +12,11 @@ operand-end-spec =
     (tie.spec
     (λ c. unfold operandEnd in sym (ap operandEnd (c .match .keys1)))
     (λ c. unfold operandEnd in sym (ap operandEnd (c .match .keys2)))
+    (λ c. unfold operandEnd in sym (ap operandEnd (c .match .keys3)))
     (λ c.
     unfold operandEnd in
     simp (
-      ne-eqb (c .before .args .c) 0 (c .match .rest .0 .1),
-      ne-eqb (c .before .args .c) 1 (c .match .rest .1),
+      ne-eqb (c .before .args .c) 0 (c .match .rest .0 .0 .1),
+      ne-eqb (c .before .args .c) 1 (c .match .rest .0 .1),
+      ne-eqb (c .before .args .c) 16 (c .match .rest .1),
     )))

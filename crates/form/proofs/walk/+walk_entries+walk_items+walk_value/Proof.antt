@@ -29,7 +29,7 @@ use mathlib.Core.List.{List}
 use lib.ListN.{length, getD}
 use Rattle.form.specs.Limits.{nameWidth}
 use Rattle.form.specs.Faults.{Shape, Level}
-use Rattle.form.specs.Trees.{no-entries, entry, no-items, item, isDataLeaf}
+use Rattle.form.specs.Trees.{no-entries, entry, no-items, item, isShortLeaf}
 use Rattle.form.specs.Form.{levelV, levelVals, levelEntries}
 use Rattle.form.specs.Layout.{kRange, kList, kContext, ofValue, kindOf, operandsV, operands}
 use Rattle.form.specs.Read.{readV, readRun, readNamed, readVals, readEntries, ascending}
@@ -253,7 +253,7 @@ walk-entries-loop-again t c =
     (names-short levelV levelEntries no-entries entry ascending entries-law entries-flat readV1
     (c6 .loop .least) (c6 .loop .inv .run) (c3 .name-at .result) (c3 .name-at .ensures .0)
     (c3 .before .if2 .left) (c3 .before .before .loop-test .taken) (c .before .before .if3 .left)
-    isDataLeaf leaf-level (c .before .leaf-size-at .result) (max (c6 .loop .inv .d) 1)
+    isShortLeaf leaf-level (c .before .leaf-size-at .result) (max (c6 .loop .inv .d) 1)
     (c .before .leaf-size-at .ensures) (c .if4 .taken) refl)
     (omega arith)
     (let w = c6 .loop .inv .deeper in
@@ -414,7 +414,7 @@ walk-items-loop-again t c =
     let c3 = c .before .before .before in
     let readV1 = readV (c3 .before .before .before .args .left) in
     deep-turn (c3 .loop .inv) (readRun no-items item readV1) _ (c3 .loop .deep) 1
-    (items-short levelV levelVals no-items item vals-law vals-flat readV1 (c3 .loop .inv .run) isDataLeaf
+    (items-short levelV levelVals no-items item vals-law vals-flat readV1 (c3 .loop .inv .run) isShortLeaf
     leaf-level (c .before .leaf-size-at .result) (max (c3 .loop .inv .d) 1)
     (c .before .before .loop-test .taken) (c .before .leaf-size-at .ensures) (c .if2 .taken) refl)
     (omega arith)

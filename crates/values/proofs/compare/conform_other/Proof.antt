@@ -4,149 +4,172 @@
 use borrow.Author.Needs.{needs}
 use Rattle.values.proofs.compare.conform_other.Statement.{statement}
 use Rattle.values.proofs.compare.conform_other.Tie as tie
+use mathlib.Core.Path.{sym, _∙_}
+use mathlib.Core.Logic.{⊎-elim}
+use lib.ListN.{getD}
+use Rattle.form.proofs.CommandKinds.{leaf-low, leaf-decimal, leaf-high}
 use Prim.Native.Nat.{_-_}
 use native.Mathlib.Omega.{arith}
 use Rattle.form.proofs.WalkAnswers.{part-room}
 use Rattle.order.specs.Inferred.{valueConformsTo}
 use Rattle.types.proofs.TypeConformance.{sized-part, unsized-part}
-use Rattle.values.proofs.ValueConformance.{sized-value, unsized-value, never, no-level, no-value, no-type, met-any, function-apart}
-use Rattle.values.proofs.ValueConformance.{rest-apart, no-signature-there, no-null, met-null, met-plain, plain-apart}
+use Rattle.values.proofs.ValueConformance.{sized-value, unsized-value, never, no-level, no-value, no-type, met-any, function-apart, rest-apart, no-signature-there, no-null, met-null}
+use Rattle.values.proofs.ValueConformance.{met-plain, plain-apart}
 use Rattle.values.proofs.Definitions.{definition-bytes, definition-ok, definition-counts, met-definition}
 
+-- at `return 0;`
 returns : tie.Need-returns
-returns c =
-    let args = c .before .before .before .args in
+returns c = let args = c .before .before .before .args in
     no-level valueConformsTo (args .left - 1) (args .left) (args .v .now) (args .t .now) _ (omega arith)
 
+-- at `return 0;`
 returns-2 : tie.Need-returns-2
-returns-2 c =
-    let args = c .before .before .before .before .args in
+returns-2 c = let args = c .before .before .before .before .args in
     no-value valueConformsTo (args .left - 1) (args .left) (args .v .now) (args .t .now) _
     (c .if2 .taken)
 
+-- at `return 0;`
 returns-3 : tie.Need-returns-3
-returns-3 c =
-    let args = c .before .before .before .before .before .args in
+returns-3 c = let args = c .before .before .before .before .before .args in
     no-type valueConformsTo (args .left - 1) (args .left) (args .v .now) (args .t .now) _
     (c .if3 .taken)
 
+-- at `let d = t[0];`
 shared-slice-read-d : tie.Need-shared-slice-read-d
 shared-slice-read-d c = search needs
 
+-- at `return walk::skip(&v[0..], left - 1);`
 sub-skip : tie.Need-sub-skip
 sub-skip c = search needs
 
+-- at `return walk::skip(&v[0..], left - 1);`
 part-skip-start : tie.Need-part-skip-start
 part-skip-start c = search needs
 
+-- at `return walk::skip(&v[0..], left - 1);`
 part-skip-end : tie.Need-part-skip-end
 part-skip-end c = search needs
 
+-- at `return walk::skip(&v[0..], left - 1);`
 sub-skip-2 : tie.Need-sub-skip-2
 sub-skip-2 c = search needs
 
+-- at `return walk::skip(&v[0..], left - 1);`
 skip-requires : tie.Need-skip-requires
 skip-requires c κs = search needs
 
+-- at `return walk::skip(&v[0..], left - 1);`
 returns-4 : tie.Need-returns-4
-returns-4 c =
-    let args = c .before .before .before .before .before .before .before .before .before .args in
+returns-4 c = let args = c .before .before .before .before .before .before .before .before .before .args in
     met-any (args .left - 1) (args .left) (args .v .now) (args .t .now) (omega arith) (omega arith)
     (c .before .before .if4 .taken) (c .skip .result) (c .skip .ensures)
 
+-- at `let c = v[0];`
 shared-slice-read-c : tie.Need-shared-slice-read-c
 shared-slice-read-c c = search needs
 
+-- at `let n = form::walk::leaf_size_at(v, 0, left - 1);`
 sub-leaf-size-at : tie.Need-sub-leaf-size-at
 sub-leaf-size-at c = search needs
 
+-- at `let n = form::walk::leaf_size_at(v, 0, left - 1);`
 leaf-size-at-requires : tie.Need-leaf-size-at-requires
 leaf-size-at-requires c κs = search needs
 
+-- at `return 0;`
 returns-5 : tie.Need-returns-5
-returns-5 c =
-    let args =
+returns-5 c = let args =
     c .before .before .before .before .before .before .before .before .before .before .before .args in
     no-null (args .left - 1) (args .left) (args .v .now) (args .t .now) _ (c .before .leaf-size-at .result) _
     (c .before .leaf-size-at .ensures) (c .if5 .taken) (c .before .before .match .keys1)
 
+-- at `let m = types::walk::skip(&t[0..], left);`
 sub-skip-3 : tie.Need-sub-skip-3
 sub-skip-3 c = search needs
 
+-- at `let m = types::walk::skip(&t[0..], left);`
 part-skip-start-2 : tie.Need-part-skip-start-2
 part-skip-start-2 c = search needs
 
+-- at `let m = types::walk::skip(&t[0..], left);`
 part-skip-end-2 : tie.Need-part-skip-end-2
 part-skip-end-2 c = search needs
 
+-- at `let m = types::walk::skip(&t[0..], left);`
 skip-requires-2 : tie.Need-skip-requires-2
 skip-requires-2 c κs = search needs
 
+-- at `return 0;`
 returns-6 : tie.Need-returns-6
-returns-6 c =
-    let args =
+returns-6 c = let args =
     c .before .before .before .before .before .before .before .before .before .before .before .before .before .before .args in
     never valueConformsTo (args .left - 1) (args .left) (args .v .now) (args .t .now) _
     (λ x y e f.
     unsized-part (args .left) (args .t .now) 0 (c .before .skip2 .result) (c .before .skip2 .ensures)
     (c .if6 .taken) y f)
 
+-- at `return 0;`
 returns-7 : tie.Need-returns-7
-returns-7 c =
-    let args =
+returns-7 c = let args =
     c .before .before .before .before .before .before .before .before .before .before .args in
     function-apart (args .left - 1) (args .left) (args .v .now) (args .t .now) _
-    (c .before .match .keys2) (c .before .before .before .if4 .left) (c .if7 .taken)
+    (c .before .match .keys3) (c .before .before .before .if4 .left) (c .if7 .taken)
 
+-- at `return 0;`
 returns-8 : tie.Need-returns-8
-returns-8 c =
-    let args =
+returns-8 c = let args =
     c .before .before .before .before .before .before .before .before .before .before .before .args in
     no-signature-there (args .left - 1) (args .left) (args .v .now) (args .t .now) _
     (c .before .if7 .left)
     (λ h. omega arith)
 
+-- at `let n = walk::skip(&v[0..], left - 1);`
 sub-skip-4 : tie.Need-sub-skip-4
 sub-skip-4 c = search needs
 
+-- at `let n = walk::skip(&v[0..], left - 1);`
 part-skip-start-3 : tie.Need-part-skip-start-3
 part-skip-start-3 c = search needs
 
+-- at `let n = walk::skip(&v[0..], left - 1);`
 part-skip-end-3 : tie.Need-part-skip-end-3
 part-skip-end-3 c = search needs
 
+-- at `let n = walk::skip(&v[0..], left - 1);`
 sub-skip-5 : tie.Need-sub-skip-5
 sub-skip-5 c = search needs
 
+-- at `let n = walk::skip(&v[0..], left - 1);`
 skip-requires-3 : tie.Need-skip-requires-3
 skip-requires-3 c κs = search needs
 
+-- at `return 0;`
 returns-9 : tie.Need-returns-9
-returns-9 c =
-    let args =
+returns-9 c = let args =
     c .before .before .before .before .before .before .before .before .before .before .before .before .before .before .args in
     never valueConformsTo (args .left - 1) (args .left) (args .v .now) (args .t .now) _
     (λ x y e f.
     unsized-value (args .left - 1) (args .v .now) 0 (c .before .skip3 .result)
     (c .before .skip3 .ensures) (c .if9 .taken) x e)
 
+-- at `let k = v[1];`
 shared-slice-read-k : tie.Need-shared-slice-read-k
-shared-slice-read-k c =
-    let c5 = c .before .before .before .before .before in
+shared-slice-read-k c = let c5 = c .before .before .before .before .before in
     let args =
     c5 .before .before .before .before .before .before .before .before .before .before .args in
     let sized-value1 = sized-value (args .left - 1) (args .v .now) 0 (c .before .before .skip3 .result)
     (c .before .before .skip3 .ensures) (c .before .if9 .left) in
     let h = definition-bytes (args .left - 1) (args .left) (args .v .now) (args .t .now) (omega arith)
-    (c5 .before .match .keys2) (c5 .if7 .left) (omega arith) (sized-value1 .x) (sized-value1 .read) in
+    (c5 .before .match .keys3) (c5 .if7 .left) (omega arith) (sized-value1 .x) (sized-value1 .read) in
     omega arith
 
+-- at `if k != t[1] {`
 shared-slice-read-if10 : tie.Need-shared-slice-read-if10
 shared-slice-read-if10 c = search needs
 
+-- at `return 0;`
 returns-10 : tie.Need-returns-10
-returns-10 c =
-    let c4 = c .before .before .before .before in
+returns-10 c = let c4 = c .before .before .before .before in
     let c7 = c4 .before .before .before in
     let args =
     c7 .before .before .before .before .before .before .before .before .before .before .args in
@@ -154,12 +177,12 @@ returns-10 c =
     sized-value (args .left - 1) (args .v .now) 0 (c4 .skip3 .result) (c4 .skip3 .ensures)
     (c .before .before .before .if9 .left) in
     definition-counts (args .left - 1) (args .left) (args .v .now) (args .t .now) (omega arith)
-    (c7 .before .match .keys2) (c7 .if7 .left) (omega arith) (sized-value1 .x) (sized-value1 .read)
+    (c7 .before .match .keys3) (c7 .if7 .left) (omega arith) (sized-value1 .x) (sized-value1 .read)
     (c .if10 .taken) _
 
+-- at `conform_definition(&v[4..], &t[2..], form::bytes::wide(k), left - 1, other)`
 sub-conform-definition : tie.Need-sub-conform-definition
-sub-conform-definition c =
-    let c4 = c .before .before .before .before in
+sub-conform-definition c = let c4 = c .before .before .before .before in
     let c7 = c4 .before .before .before in
     let args =
     c7 .before .before .before .before .before .before .before .before .before .before .args in
@@ -167,12 +190,12 @@ sub-conform-definition c =
     sized-value (args .left - 1) (args .v .now) 0 (c4 .skip3 .result) (c4 .skip3 .ensures)
     (c .before .before .before .if9 .left) in
     let h = definition-bytes (args .left - 1) (args .left) (args .v .now) (args .t .now) (omega arith)
-    (c7 .before .match .keys2) (c7 .if7 .left) (omega arith) (sized-value1 .x) (sized-value1 .read) in
+    (c7 .before .match .keys3) (c7 .if7 .left) (omega arith) (sized-value1 .x) (sized-value1 .read) in
     omega arith
 
+-- at `conform_definition(&v[4..], &t[2..], form::bytes::wide(k), left - 1, other)`
 part-conform-definition-start : tie.Need-part-conform-definition-start
-part-conform-definition-start c =
-    let c4 = c .before .before .before .before in
+part-conform-definition-start c = let c4 = c .before .before .before .before in
     let c7 = c4 .before .before .before in
     let args =
     c7 .before .before .before .before .before .before .before .before .before .before .args in
@@ -180,30 +203,36 @@ part-conform-definition-start c =
     sized-value (args .left - 1) (args .v .now) 0 (c4 .skip3 .result) (c4 .skip3 .ensures)
     (c .before .before .before .if9 .left) in
     let h = definition-bytes (args .left - 1) (args .left) (args .v .now) (args .t .now) (omega arith)
-    (c7 .before .match .keys2) (c7 .if7 .left) (omega arith) (sized-value1 .x) (sized-value1 .read) in
+    (c7 .before .match .keys3) (c7 .if7 .left) (omega arith) (sized-value1 .x) (sized-value1 .read) in
     omega arith
 
+-- at `conform_definition(&v[4..], &t[2..], form::bytes::wide(k), left - 1, other)`
 part-conform-definition-end : tie.Need-part-conform-definition-end
 part-conform-definition-end c = search needs
 
+-- at `conform_definition(&v[4..], &t[2..], form::bytes::wide(k), left - 1, other)`
 sub-conform-definition-2 : tie.Need-sub-conform-definition-2
 sub-conform-definition-2 c = search needs
 
+-- at `conform_definition(&v[4..], &t[2..], form::bytes::wide(k), left - 1, other)`
 part-conform-definition-start-2 : tie.Need-part-conform-definition-start-2
 part-conform-definition-start-2 c = search needs
 
+-- at `conform_definition(&v[4..], &t[2..], form::bytes::wide(k), left - 1, other)`
 part-conform-definition-end-2 : tie.Need-part-conform-definition-end-2
 part-conform-definition-end-2 c = search needs
 
+-- at `conform_definition(&v[4..], &t[2..], form::bytes::wide(k), left - 1, other)`
 wide-requires : tie.Need-wide-requires
 wide-requires c κs = search needs
 
+-- at `conform_definition(&v[4..], &t[2..], form::bytes::wide(k), left - 1, other)`
 sub-conform-definition-3 : tie.Need-sub-conform-definition-3
 sub-conform-definition-3 c = search needs
 
+-- at `conform_definition(&v[4..], &t[2..], form::bytes::wide(k), left - 1, other)`
 conform-definition-requires : tie.Need-conform-definition-requires
-conform-definition-requires c κs =
-    let c7 = c .before .before .before .before .before .before .before in
+conform-definition-requires c κs = let c7 = c .before .before .before .before .before .before .before in
     let c11 = c7 .before .before .before .before in
     let c21 = c11 .before .before .before .before .before .before .before .before .before .before in
     let args = c21 .args in
@@ -211,33 +240,54 @@ conform-definition-requires c κs =
     (c7 .before .skip3 .ensures) (c7 .if9 .left) in (
       part-room (args .v .now) 4
           (definition-bytes (args .left - 1) (args .left) (args .v .now) (args .t .now) (omega arith)
-          (c11 .before .match .keys2) (c11 .if7 .left) (omega arith) (sized-value1 .x) (sized-value1 .read))
+          (c11 .before .match .keys3) (c11 .if7 .left) (omega arith) (sized-value1 .x) (sized-value1 .read))
           (omega (arith, c21 .good)),
       part-room (args .t .now) 2 (omega arith) (omega (arith, c21 .good)),
       definition-ok (args .left - 1) (args .left) (args .v .now) (args .t .now) (omega arith)
-          (c11 .before .match .keys2) (c11 .if7 .left) (omega arith) (sized-value1 .x) (sized-value1 .read)
+          (c11 .before .match .keys3) (c11 .if7 .left) (omega arith) (sized-value1 .x) (sized-value1 .read)
           (c .before .wide .result) (c .before .wide .ensures .0),
     )
 
-add-if12 : tie.Need-add-if12
-add-if12 c = search needs
+-- at `if d != commands::leaf_type(c) {`
+leaf-type-requires : tie.Need-leaf-type-requires
+leaf-type-requires c κs = search needs
 
+-- at `return 0;`
 returns-11 : tie.Need-returns-11
 returns-11 c =
-    let c4 = c .before .before .before .before in
-    let args = c4 .before .before .before .before .before .before .before .args in
+    let c2 = c .before .before in
+    let args = c2 .before .before .before .before .before .before .before .before .before .args in
     plain-apart (args .left - 1) (args .left) (args .v .now) (args .t .now) _
-    (omega (arith, c .before .before .match .rest .0 .1)) (omega arith) (c4 .if4 .left) (c .if12 .taken)
+    (⊎-elim
+    (λ x. leaf-decimal (getD (args .v .now) 0 0) (x .keys2))
+    (λ x. leaf-low (getD (args .v .now) 0 0) (omega (arith, x .1 .taken)))
+    (c2 .match .came))
+    (⊎-elim (λ x z. omega (arith, x .keys2)) (λ x z. x .0 .rest .0 .0 .1 z) (c2 .match .came)) (c2 .before .before .if4 .left)
+    (λ z. c .if12 .taken (z ∙ sym (c .before .leaf-type .ensures)))
 
-sub-leaf-size-at-2 : tie.Need-sub-leaf-size-at-2
-sub-leaf-size-at-2 c = search needs
+-- at `walk::skip(&v[0..], left - 1)`
+sub-skip-6 : tie.Need-sub-skip-6
+sub-skip-6 c = search needs
 
-leaf-size-at-requires-2 : tie.Need-leaf-size-at-requires-2
-leaf-size-at-requires-2 c κs = search needs
+-- at `walk::skip(&v[0..], left - 1)`
+part-skip-start-4 : tie.Need-part-skip-start-4
+part-skip-start-4 c = search needs
 
+-- at `walk::skip(&v[0..], left - 1)`
+part-skip-end-4 : tie.Need-part-skip-end-4
+part-skip-end-4 c = search needs
+
+-- at `walk::skip(&v[0..], left - 1)`
+sub-skip-7 : tie.Need-sub-skip-7
+sub-skip-7 c = search needs
+
+-- at `walk::skip(&v[0..], left - 1)`
+skip-requires-4 : tie.Need-skip-requires-4
+skip-requires-4 c κs = search needs
+
+-- at the end
 returns-12 : tie.Need-returns-12
-returns-12 c =
-    let c4 = c .before .before .before .before in
+returns-12 c = let c4 = c .before .before .before .before in
     let args =
     c4 .before .before .before .before .before .before .before .before .before .before .args in
     met-null (args .left - 1) (args .left) (args .v .now) (args .t .now) (c4 .leaf-size-at .result) _
@@ -246,9 +296,9 @@ returns-12 c =
     (sized-part (args .left) (args .t .now) 0 (c .before .skip2 .result) (c .before .skip2 .ensures)
     (c .if6 .left))
 
+-- at the end
 returns-13 : tie.Need-returns-13
-returns-13 c =
-    let c2 = c .before .before in
+returns-13 c = let c2 = c .before .before in
     let c8 = c2 .before .before .before .before .before .before in
     let c12 = c8 .before .before .before .before in
     let args =
@@ -256,23 +306,28 @@ returns-13 c =
     let sized-value1 = sized-value (args .left - 1) (args .v .now) 0 (c8 .before .skip3 .result)
     (c8 .before .skip3 .ensures) (c8 .if9 .left) in
     met-definition (args .left - 1) (args .left) (args .v .now) (args .t .now) (omega arith)
-    (c12 .before .match .keys2) (c12 .if7 .left) (omega arith) (sized-value1 .x) (sized-value1 .read)
+    (c12 .before .match .keys3) (c12 .if7 .left) (omega arith) (sized-value1 .x) (sized-value1 .read)
     (c2 .wide .result) (c2 .wide .ensures .0) (c2 .before .before .before .if10 .left) _ _
     (c .conform-definition .ensures)
 
+-- at the end
 returns-14 : tie.Need-returns-14
 returns-14 c =
-    let args =
-    c .before .before .before .before .before .before .before .before .before .before .before .before .args in
-    met-plain (args .left - 1) (args .left) (args .v .now) (args .t .now) (omega arith) (omega arith)
-    (omega (arith, c .before .before .before .match .rest .0 .1)) (omega arith) (c .before .if12 .left)
-    (c .leaf-size-at2 .result) _ (c .leaf-size-at2 .ensures)
+    let c10 = c .before .before .before .before .before .before .before .before .before .before in
+    rest-apart (c10 .args .left - 1) (c10 .args .left) (c10 .args .v .now) (c10 .args .t .now) _ (c10 .pre) (c .before .before .before .if4 .left)
+    (leaf-high (getD (c10 .args .v .now) 0 0) (c .if11 .left) (c .before .match .rest .0 .1)) (c .before .match .rest .1)
 
+-- at the end
 returns-15 : tie.Need-returns-15
 returns-15 c =
-    let c10 = c .before .before .before .before .before .before .before .before .before .before in
-    rest-apart (c10 .args .left - 1) (c10 .args .left) (c10 .args .v .now) (c10 .args .t .now) _
-    (c10 .pre) (c .before .before .before .if4 .left) (c .if11 .left) (c .before .match .rest .1)
+    let c4 = c .before .before .before .before in
+    let args = c4 .before .before .before .before .before .before .before .before .before .args in
+    met-plain (args .left - 1) (args .left) (args .v .now) (args .t .now) (omega arith) (omega arith)
+    (⊎-elim
+    (λ x. leaf-decimal (getD (args .v .now) 0 0) (x .keys2))
+    (λ x. leaf-low (getD (args .v .now) 0 0) (omega (arith, x .1 .taken)))
+    (c4 .match .came))
+    (c .before .before .if12 .left ∙ c .before .before .before .leaf-type .ensures) (c .skip4 .result) (c .skip4 .ensures)
 
 pub conform-other-spec : {M : Type 1} → statement M
 conform-other-spec =
@@ -317,10 +372,13 @@ conform-other-spec =
     wide-requires
     sub-conform-definition-3
     conform-definition-requires
-    add-if12
+    leaf-type-requires
     returns-11
-    sub-leaf-size-at-2
-    leaf-size-at-requires-2
+    sub-skip-6
+    part-skip-start-4
+    part-skip-end-4
+    sub-skip-7
+    skip-requires-4
     returns-12
     returns-13
     returns-14

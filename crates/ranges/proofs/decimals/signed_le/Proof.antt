@@ -1,7 +1,7 @@
--- `ranges::compare::signed_le` meets its contract: keys of one sign compare as naturals, and a negative key comes before one that is not.
+-- `ranges::decimals::signed_le` meets its contract: keys of one sign compare as naturals, and a negative key comes before one that is not.
 -- Assumes nothing.
-use Rattle.ranges.proofs.compare.signed_le.Statement.{statement}
-use Rattle.ranges.proofs.compare.signed_le.Tie as tie
+use Rattle.ranges.proofs.decimals.signed_le.Statement.{statement}
+use Rattle.ranges.proofs.decimals.signed_le.Tie as tie
 use Prim.Native.Nat.{_^_}
 use borrow.Author.Tests.{le-leb, lt-leb}
 use Rattle.ranges.proofs.Keys.{signed}
