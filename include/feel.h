@@ -45,7 +45,8 @@
 extern "C" {
 #endif
 
-/* Reads a value. Answers its level, 1 to 31, or refusal 1 to 5. */
+/* Reads a value. Command 0x10 is a decimal number: a signed 64-bit coefficient, little endian, and an exponent byte p, 0 to 18 or it is
+ * refused 2; it means coefficient / 10^p. Answers the value's level, 1 to 31, or refusal 1 to 5. */
 uint64_t feel_check_value(const uint8_t *v, size_t v_len);
 
 /* Reads a type. Answers its level, 1 to 32, or refusal 6 to 10. */
@@ -99,6 +100,7 @@ uint64_t feel_type_get_conformant_value(const uint8_t *t, size_t t_len, const ui
 uint64_t feel_value_coerced(const uint8_t *v, size_t v_len, const uint8_t *t, size_t t_len, uint8_t *out, size_t out_len);
 
 /* Value::is_invalid_coercion (null with trace 1), is_valid_range, is_null, is_true, is_false, is_number, is_string, is_list, is_range.
+ * is_number says yes to the commands 0x02 and 0x10. is_valid_range compares numbers of both commands with each other by exact value.
  * Answer 1 or 0, or refusal 1 to 5. */
 uint64_t feel_value_is_invalid_coercion(const uint8_t *v, size_t v_len);
 uint64_t feel_value_is_valid_range(const uint8_t *v, size_t v_len);

@@ -3,7 +3,9 @@
 use crate::form::{Reader, VALUE, Writer, sorted};
 use crate::{Refusal, Type, values};
 
-/// A value. Names and texts are 16-bit numbers, numbers and dates signed 64-bit keys.
+/// A value. Names and texts are 16-bit numbers, whole numbers and dates signed 64-bit keys. Equal
+/// numbers that are written differently, as 2.5 and 2.50, are different values; only
+/// [is_valid_range](crate::values::is_valid_range) compares them by what they mean.
 #[derive(Debug, Clone, PartialEq, Eq, Hash)]
 pub enum Value {
     /// 00
@@ -39,6 +41,9 @@ pub enum Value {
     FeelType(Type),
     /// 0F
     Irrelevant,
+    /// 10: the coefficient, and the exponent p, 0 to 18; the number is the coefficient divided by 10 to
+    /// the power p.
+    Decimal(i64, u8),
 }
 
 /// What a null says of where it comes from.
@@ -77,6 +82,18 @@ impl Value {
     /// ```
     pub fn null() -> Value {
         Value::Null(Trace::None)
+    }
+
+    /// The coefficient divided by 10 to the power of the exponent, which is at most 18.
+    ///
+    /// ```
+    /// use hedvaste::Value;
+    /// let v = Value::decimal(25, 1); // 2.5
+    /// assert_eq!(v.to_bytes(), Ok(vec![0x10, 25, 0, 0, 0, 0, 0, 0, 0, 1]));
+    /// assert_eq!(Value::decimal(25, 19).to_bytes().unwrap_err().number(), 2);
+    /// ```
+    pub fn decimal(coefficient: i64, exponent: u8) -> Value {
+        Value::Decimal(coefficient, exponent)
     }
 
     /// A range from `start` to `end`.
@@ -210,6 +227,10 @@ impl Value {
                 t.write(writer, below)
             }
             Value::Irrelevant => writer.command(level, 0x0F, &[]),
+            Value::Decimal(coefficient, exponent) => {
+                writer.command(level, 0x10, &coefficient.to_le_bytes())?;
+                writer.put(&[*exponent])
+            }
         }
     }
 
@@ -251,6 +272,7 @@ impl Value {
             0x0D => Value::BuiltInFunction(reader.byte()?),
             0x0E => Value::FeelType(Type::read(reader)?),
             0x0F => Value::Irrelevant,
+            0x10 => Value::Decimal(reader.key()?, reader.byte()?),
             _ => return Err(reader.form()),
         })
     }

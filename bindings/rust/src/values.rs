@@ -120,7 +120,7 @@ pub fn is_invalid_coercion(v: &[u8]) -> Result<bool, Refusal> {
     asked(v, ffi::feel_value_is_invalid_coercion)
 }
 
-/// `Value::is_valid_range`.
+/// `Value::is_valid_range`. Two numbers, whole or decimal, are compared by their exact value.
 ///
 /// ```
 /// use hedvaste::{IntervalType::Closed, Value, values};
@@ -128,6 +128,10 @@ pub fn is_invalid_coercion(v: &[u8]) -> Result<bool, Refusal> {
 /// let down = Value::range(Value::Number(2), Closed, Value::Number(1), Closed).to_bytes()?;
 /// assert!(values::is_valid_range(&up)?);
 /// assert!(!values::is_valid_range(&down)?);
+/// let [short, long] = [Value::decimal(25, 1), Value::decimal(250, 2)]; // 2.5 and 2.50
+/// let one = Value::range(short.clone(), Closed, long.clone(), Closed).to_bytes()?;
+/// let other = Value::range(long, Closed, short, Closed).to_bytes()?;
+/// assert!(values::is_valid_range(&one)? && values::is_valid_range(&other)?);
 /// # Ok::<(), hedvaste::Refusal>(())
 /// ```
 pub fn is_valid_range(v: &[u8]) -> Result<bool, Refusal> {
@@ -166,6 +170,8 @@ pub fn is_false(v: &[u8]) -> Result<bool, Refusal> {
 /// ```
 /// let seven = hedvaste::Value::Number(7).to_bytes()?;
 /// assert!(hedvaste::values::is_number(&seven)?);
+/// let half = hedvaste::Value::decimal(5, 1).to_bytes()?;
+/// assert!(hedvaste::values::is_number(&half)?);
 /// # Ok::<(), hedvaste::Refusal>(())
 /// ```
 pub fn is_number(v: &[u8]) -> Result<bool, Refusal> {

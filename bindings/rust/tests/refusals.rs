@@ -54,6 +54,20 @@ fn lengths_end_at_16384() {
 }
 
 #[test]
+fn exponents_end_at_18() {
+    assert!(Value::decimal(i64::MAX, 18).to_bytes().is_ok());
+    for exponent in 19..=255 {
+        assert_eq!(number(Value::decimal(0, exponent).to_bytes()), 2);
+        let inside = Value::list([Value::null(), Value::decimal(0, exponent)]);
+        assert_eq!(number(inside.to_bytes()), 2);
+    }
+    assert_eq!(
+        number(Value::from_bytes(&[0x10, 0, 0, 0, 0, 0, 0, 0, 0])),
+        2
+    );
+}
+
+#[test]
 fn parameters_end_at_255() {
     let t = |count| Type::function(vec![Type::Any; count], Type::Any);
     assert!(t(255).to_bytes().is_ok());

@@ -45,6 +45,9 @@ fn each_value() -> Value {
         Value::BuiltInFunction(85),
         Value::FeelType(each_type()),
         Value::Irrelevant,
+        Value::decimal(250, 2),
+        Value::decimal(i64::MIN, 18),
+        Value::Decimal(5, 0),
     ];
     let range = |start, end| Value::range(Value::Number(1), start, Value::null(), end);
     Value::context([
@@ -71,6 +74,43 @@ fn every_kind_of_value_comes_back() {
     let bytes = each_value().to_bytes().unwrap();
     assert_eq!(Value::from_bytes(&bytes), Ok(each_value()));
     assert_eq!(values::check_value(&bytes), Ok(7));
+}
+
+#[test]
+fn decimals_come_back_as_they_were_written() {
+    for exponent in 0..=18 {
+        for coefficient in [0, 25, -75, i64::MIN, i64::MAX] {
+            let v = Value::decimal(coefficient, exponent);
+            let bytes = v.to_bytes().unwrap();
+            let operands = [&coefficient.to_le_bytes()[..], &[exponent]].concat();
+            assert_eq!(bytes, [&[0x10], &operands[..]].concat());
+            assert_eq!(Value::from_bytes(&bytes), Ok(v));
+            assert_eq!(values::check_value(&bytes), Ok(1));
+            assert_eq!(values::coerced(&bytes, &[0x22]), Ok(bytes));
+        }
+    }
+    assert_ne!(Value::decimal(25, 1), Value::decimal(250, 2));
+    assert_ne!(Value::Number(5), Value::decimal(5, 0));
+}
+
+#[test]
+fn numbers_are_compared_by_their_value() {
+    let is_valid = |start: Value, end: Value| {
+        let closed = IntervalType::Closed;
+        let range = Value::range(start, closed, end, closed);
+        values::is_valid_range(&range.to_bytes().unwrap()).unwrap()
+    };
+    let (short, long) = (Value::decimal(25, 1), Value::decimal(250, 2));
+    assert!(is_valid(short.clone(), long.clone()) && is_valid(long, short));
+    assert!(is_valid(Value::decimal(-75, 2), Value::decimal(-7, 1)));
+    assert!(!is_valid(Value::decimal(-7, 1), Value::decimal(-75, 2)));
+    assert!(is_valid(Value::Number(5), Value::decimal(5, 0)));
+    let more = Value::decimal(5_000_000_000_000_000_001, 18);
+    assert!(is_valid(Value::Number(5), more.clone()) && !is_valid(more, Value::Number(5)));
+    assert!(is_valid(
+        Value::Number(i64::MIN),
+        Value::decimal(i64::MIN, 18)
+    ));
 }
 
 #[test]

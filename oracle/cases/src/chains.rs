@@ -67,16 +67,17 @@ pub enum Ending {
     Nothing,
 }
 
-const DATA_ENDINGS: [Ending; 6] = [
+const DATA_ENDINGS: [Ending; 7] = [
     Ending::Bytes(&[0x00, 0]),
     Ending::Bytes(&[0x01, 0]),
     Ending::Bytes(&[0x08, 1, 2, 3, 4, 5, 6, 7, 8]),
     Ending::Bytes(&[0x0A, 0, 0]),
     Ending::Bytes(&[0x0B, 0, 0]),
     Ending::Bytes(&[0x0F]),
+    Ending::Bytes(&[0x10, 250, 0, 0, 0, 0, 0, 0, 0, 2]),
 ];
 
-const VALUE_ENDINGS: [Ending; 12] = [
+const VALUE_ENDINGS: [Ending; 14] = [
     Ending::Bytes(&[0x0F]),
     Ending::Bytes(&[0x00, 1]),
     Ending::Bytes(&[0x02, 1, 2, 3, 4, 5, 6, 7, 8]),
@@ -89,6 +90,8 @@ const VALUE_ENDINGS: [Ending; 12] = [
     Ending::Bytes(&[0xFF]),
     Ending::Bytes(&[0x02]),
     Ending::Nothing,
+    Ending::Bytes(&[0x10, 1, 2, 3, 4, 5, 6, 7, 8, 18]),
+    Ending::Bytes(&[0x10, 1, 2, 3, 4, 5, 6, 7, 8, 19]),
 ];
 
 const TYPE_ENDINGS: [Ending; 8] = [

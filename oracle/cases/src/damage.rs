@@ -1,6 +1,6 @@
 //! Damaged copies of well-formed records.
 
-use crate::{Draft, Each, Random};
+use crate::{Draft, Each, MAX_EXPONENT, Random};
 
 /// Up to this length every place is damaged; of a longer record as many places at random.
 const SHORT: usize = 40;
@@ -13,7 +13,7 @@ fn each_cut(bytes: &[u8], random: &mut Random, each: &mut Each) {
 }
 
 /// Damaged copies of a record: a byte changed, dropped or added, the end cut, a count that lies,
-/// two names swapped or made equal.
+/// two names swapped or made equal, an exponent out of its bounds, the end cut inside a decimal.
 pub fn each_damage(draft: &Draft, random: &mut Random, each: &mut Each) {
     let bytes = &draft.bytes;
     let mut copy = bytes.clone();
@@ -40,6 +40,16 @@ pub fn each_damage(draft: &Draft, random: &mut Random, each: &mut Each) {
             each(&copy);
         }
         copy[place..place + width].copy_from_slice(&bytes[place..place + width]);
+    }
+    for place in sample(&draft.exponents, random) {
+        for exponent in [MAX_EXPONENT + 1, 0xFF] {
+            copy[place] = exponent;
+            each(&copy);
+        }
+        copy[place] = bytes[place];
+        for end in [place, place - 1 - random.below(7), place - 8] {
+            each(&bytes[..end]);
+        }
     }
     for names in sample(&draft.names, random) {
         for pair in sample(&pairs(&names), random) {
@@ -92,7 +102,7 @@ fn changes(byte: u8, random: &mut Random) -> [u8; 8] {
         byte ^ (1 << random.below(8)),
         0x00,
         0xFF,
-        random.below(0x10) as u8,
+        random.below(0x11) as u8,
         0x20 + random.below(0x0E) as u8,
         random.byte(),
     ]
@@ -111,6 +121,7 @@ fn lies(count: &[u8]) -> [Vec<u8>; 4] {
 #[cfg(test)]
 mod tests {
     use super::*;
+    use crate::decimal;
 
     /// {1: Irrelevant, 2: Irrelevant}
     fn draft() -> Draft {
@@ -118,6 +129,7 @@ mod tests {
             bytes: vec![0x0B, 2, 0, 1, 0, 0x0F, 2, 0, 0x0F],
             names: vec![vec![3, 6]],
             counts: vec![(1, 2)],
+            exponents: vec![],
         }
     }
 
@@ -150,6 +162,26 @@ mod tests {
         }
         for (first, second) in [(2, 2), (2, 1), (1, 1)] {
             assert!(all.contains(&vec![0x0B, 2, 0, first, 0, 0x0F, second, 0, 0x0F]));
+        }
+    }
+
+    #[test]
+    fn a_decimal_is_damaged() {
+        let list = |exponent| [&[0x0A, 1, 0], &decimal(25, exponent)[..]].concat();
+        let draft = Draft {
+            bytes: list(1),
+            counts: vec![(1, 2)],
+            exponents: vec![12],
+            ..Draft::default()
+        };
+        let mut all = vec![];
+        each_damage(&draft, &mut Random::new(1), &mut |bytes| {
+            all.push(bytes.to_vec())
+        });
+        assert!(all.contains(&list(19)) && all.contains(&list(255)));
+        for end in [4, 12] {
+            let cut = list(1)[..end].to_vec();
+            assert!(all.iter().filter(|copy| **copy == cut).count() > 1);
         }
     }
 

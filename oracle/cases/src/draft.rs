@@ -1,9 +1,9 @@
 //! Random well-formed records.
 
-use crate::{Kind, Random};
+use crate::{Kind, MAX_EXPONENT, Random};
 use std::collections::BTreeSet;
 
-/// A well-formed record, and where its names and counts stand.
+/// A well-formed record, and where its names, counts and exponents stand.
 #[derive(Debug, Clone, Default)]
 pub struct Draft {
     pub bytes: Vec<u8>,
@@ -11,6 +11,8 @@ pub struct Draft {
     pub names: Vec<Vec<usize>>,
     /// The place and the width of each count.
     pub counts: Vec<(usize, usize)>,
+    /// The place of the exponent of each decimal number.
+    pub exponents: Vec<usize>,
 }
 
 /// A random record. Some are small, some large, some go exactly to a level from 29 to 33; its
@@ -35,6 +37,11 @@ pub fn random_draft(kind: Kind, random: &mut Random) -> Draft {
     maker.draft
 }
 
+/// The commands of values that may be without a child; the decimal number is the last.
+const LEAVES: [u8; 14] = [
+    0x00, 0x01, 0x02, 0x03, 0x04, 0x05, 0x06, 0x07, 0x08, 0x0A, 0x0B, 0x0D, 0x0F, 0x10,
+];
+
 struct Maker<'a> {
     random: &'a mut Random,
     /// How many more nodes are wanted; the rest are leaves.
@@ -50,9 +57,15 @@ impl Maker<'_> {
             Shape::Parent => self
                 .random
                 .pick(&[0x09, 0x0A, 0x0A, 0x0B, 0x0B, 0x0C, 0x0E]),
-            Shape::Leaf => self.random.pick(&[
-                0x00, 0x01, 0x02, 0x03, 0x04, 0x05, 0x06, 0x07, 0x08, 0x0A, 0x0B, 0x0D, 0x0F,
-            ]),
+            Shape::Leaf => {
+                let whole = LEAVES.len() - 1;
+                let all = if self.random.has_decimals() {
+                    &LEAVES[..]
+                } else {
+                    &LEAVES[..whole]
+                };
+                self.random.pick(all)
+            }
         };
         self.draft.bytes.push(command);
         match command {
@@ -100,6 +113,11 @@ impl Maker<'_> {
             }
             0x0D => self.below(86),
             0x0E => self.type_below(levels, full),
+            0x10 => {
+                self.key();
+                self.draft.exponents.push(self.draft.bytes.len());
+                self.below(usize::from(MAX_EXPONENT) + 1);
+            }
             _ => {}
         }
     }

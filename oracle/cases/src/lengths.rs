@@ -1,6 +1,6 @@
 //! Records at the limit of length.
 
-use crate::{Each, Kind};
+use crate::{Each, Kind, MAX_EXPONENT, decimal};
 
 /// The lengths around the limit, and two where a 16-bit length starts again.
 const LENGTHS: [usize; 6] = [16_383, 16_384, 16_385, 16_386, 65_536, 65_537];
@@ -12,6 +12,7 @@ pub fn long_records(kind: Kind, length: usize) -> Vec<Vec<u8>> {
             let list = |item: &[u8]| list_of(item, length);
             let numbers = list(&[0x02, 1, 0, 0, 0, 0, 0, 0, 0x80]);
             let ranges = list(&[0x09, 2, 2, 0x03, 1, 0, 0x03, 0, 1]);
+            let decimals = list(&decimal(i64::MIN, MAX_EXPONENT));
             let mut definition = vec![0x0C, 255, 1, 0, 0x20];
             let mut function = vec![0x0E, 0x2D, 255];
             for number in 0..255 {
@@ -33,6 +34,7 @@ pub fn long_records(kind: Kind, length: usize) -> Vec<Vec<u8>> {
                     &context_of(0x2C, &[0x22], &[0x2B, 0x22], length - 1)[..],
                 ]
                 .concat(),
+                decimals,
             ]
         }
         Kind::Type => {
@@ -59,9 +61,11 @@ pub fn long_records(kind: Kind, length: usize) -> Vec<Vec<u8>> {
 }
 
 /// Data values of exactly `length` bytes: wide lists with Null first, last or between, lists of
-/// contexts, of lists and of ranges, wide contexts, ranges of wide lists, wide lists deep inside.
+/// contexts, of lists, of ranges and of decimals, wide contexts, ranges of wide lists, wide lists deep
+/// inside.
 pub fn long_data(length: usize) -> Vec<Vec<u8>> {
     let number: &[u8] = &[0x02, 1, 0, 0, 0, 0, 0, 0, 0];
+    let fraction = decimal(25, 1);
     let record: &[u8] = &[0x0B, 2, 0, 1, 0, 0x01, 1, 2, 0, 0x00, 0];
     let less: &[u8] = &[0x0B, 1, 0, 1, 0, 0x00, 0];
     let lists: &[u8] = &[0x0A, 2, 0, 0x0A, 0, 0, 0x0A, 1, 0, 0x01, 0];
@@ -125,6 +129,9 @@ pub fn long_data(length: usize) -> Vec<Vec<u8>> {
             &list(length - 87, &[], number, &[])[..],
         ]
         .concat(),
+        list(length, &[], &fraction, &[]),
+        list(length, &[number], &fraction, &[&fraction, &[0x00, 0]]),
+        context_of(0x0B, number, &fraction, length),
     ]
 }
 

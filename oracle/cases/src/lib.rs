@@ -1,14 +1,15 @@
 //! Generators of cases, as plain bytes. For the readers: all short strings, records at the limits
 //! of level and length, random well-formed records, and damaged copies. For the calls over two
 //! types: all short types, types near each other, and pairs at the limits. For the calls over
-//! values: all values with few nodes, values near each other, function definitions beside function
-//! types, data at the limits. For the calls over contexts: contexts inside each other, and paths.
+//! values: all values with few nodes, values near each other, decimal numbers, function definitions
+//! beside function types, data at the limits. For the calls over contexts: contexts inside each other, and paths.
 //! For the calls over texts: tables, and the parts of names. Nothing here reads or writes by the code
 //! of `feel-form`, so that a fault there does not shape the cases.
 
 mod chains;
 mod contexts;
 mod damage;
+mod decimals;
 mod definitions;
 mod draft;
 mod lengths;
@@ -28,6 +29,7 @@ pub use chains::{
 };
 pub use contexts::{context_chain, filled_list, random_context, random_path};
 pub use damage::each_damage;
+pub use decimals::{MAX_EXPONENT, decimal, each_decimal, near_number, whole};
 pub use definitions::each_definition;
 pub use draft::{Draft, random_draft};
 pub use lengths::{each_long, long_data, long_records};

@@ -1,16 +1,36 @@
 //! A small generator of random numbers, splitmix64: the same seed gives the same numbers.
 
-pub struct Random(u64);
+pub struct Random {
+    state: u64,
+    /// Whether random values may have decimal numbers.
+    decimals: bool,
+}
 
 impl Random {
     pub fn new(seed: u64) -> Self {
-        Random(seed)
+        Random {
+            state: seed,
+            decimals: true,
+        }
+    }
+
+    /// The same numbers, for random values whose numbers are all whole.
+    pub fn without_decimals(self) -> Self {
+        Random {
+            decimals: false,
+            ..self
+        }
+    }
+
+    /// Whether random values may have decimal numbers.
+    pub fn has_decimals(&self) -> bool {
+        self.decimals
     }
 
     /// The next 64 random bits.
     pub fn bits(&mut self) -> u64 {
-        self.0 = self.0.wrapping_add(0x9E37_79B9_7F4A_7C15);
-        let mut bits = self.0;
+        self.state = self.state.wrapping_add(0x9E37_79B9_7F4A_7C15);
+        let mut bits = self.state;
         bits = (bits ^ (bits >> 30)).wrapping_mul(0xBF58_476D_1CE4_E5B9);
         bits = (bits ^ (bits >> 27)).wrapping_mul(0x94D0_49BB_1331_11EB);
         bits ^ (bits >> 31)

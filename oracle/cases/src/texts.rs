@@ -16,8 +16,8 @@ pub fn parts_of<T: AsRef<[u8]>>(parts: &[T]) -> Draft {
 fn texts_of<T: AsRef<[u8]>>(count: &[u8], texts: &[T]) -> Draft {
     let mut draft = Draft {
         bytes: count.to_vec(),
-        names: vec![],
         counts: vec![(0, count.len())],
+        ..Draft::default()
     };
     for text in texts.iter().map(AsRef::as_ref) {
         draft.counts.push((draft.bytes.len(), 1));

@@ -1,11 +1,12 @@
 //! Values as trees, to be changed in parts.
 
+use crate::decimals::{is_number, near_number, random_decimal};
 use crate::{ANY, Draft, Move, NULL, Random, Tree, near};
 
 /// A value.
 #[derive(Debug, Clone, PartialEq, Eq)]
 pub enum ValueTree {
-    /// Commands 00 to 08, 0D and 0F with their operands.
+    /// Commands 00 to 08, 0D, 0F and 10 with their operands.
     Leaf(Vec<u8>),
     /// Both interval bytes, both ends.
     Range([u8; 2], Box<[ValueTree; 2]>),
@@ -21,7 +22,7 @@ pub enum ValueTree {
 /// What may stand in a value.
 #[derive(Debug, Clone, Copy, PartialEq, Eq)]
 pub enum Parts {
-    /// Data alone, commands 00 to 0B.
+    /// Data alone, commands 00 to 0B and 10.
     Data,
     /// Function definitions, built-in functions, types and Irrelevant too.
     All,
@@ -125,6 +126,7 @@ impl ValueTree {
             ValueTree::Leaf(bytes) => match bytes[0] {
                 0x00 => NULL,
                 command @ 0x01..=0x08 => Tree::Simple(0x20 + command),
+                0x10 => Tree::Simple(0x22),
                 _ => ANY,
             },
             ValueTree::Range(_, ends) => {
@@ -180,7 +182,12 @@ impl ValueTree {
 
     fn put(&self, draft: &mut Draft) {
         match self {
-            ValueTree::Leaf(bytes) => draft.bytes.extend(bytes),
+            ValueTree::Leaf(bytes) => {
+                draft.bytes.extend(bytes);
+                if bytes[0] == 0x10 {
+                    draft.exponents.push(draft.bytes.len() - 1);
+                }
+            }
             ValueTree::Range(interval, ends) => {
                 draft.bytes.push(0x09);
                 draft.bytes.extend(interval);
@@ -219,8 +226,9 @@ impl ValueTree {
     }
 }
 
-/// A copy with one to three parts changed, each at a random depth: a leaf to another or to Null,
-/// items dropped or added, names dropped, added or changed, a level more or less.
+/// A copy with one to three parts changed, each at a random depth: a leaf to another or to Null, a
+/// number to one near it, items dropped or added, names dropped, added or changed, a level more or
+/// less.
 pub fn near_value(tree: &ValueTree, parts: Parts, random: &mut Random) -> ValueTree {
     let mut copy = tree.clone();
     let stop = random.pick(&[2, 4, 1_000]);
@@ -256,6 +264,9 @@ fn change_here(tree: &mut ValueTree, parts: Parts, random: &mut Random) {
         _ if kind == 0 => *tree = null(),
         _ if kind == 1 => *tree = ValueTree::List(vec![tree.clone()]),
         ValueTree::Leaf(_) if kind < 4 => *tree = ValueTree::random(3, 4, parts, random),
+        ValueTree::Leaf(bytes) if kind < 6 && is_number(bytes) && random.has_decimals() => {
+            *bytes = near_number(bytes, random);
+        }
         ValueTree::Leaf(_) => *tree = leaf(parts, random),
         ValueTree::Range(interval, ends) => match kind {
             2 | 3 => ends.swap(0, 1),
@@ -371,6 +382,7 @@ fn leaf(parts: Parts, random: &mut Random) -> ValueTree {
     let bytes = match random.below(kinds) {
         0 | 1 => vec![0x00, random.below(4) as u8],
         2 => vec![0x01, random.below(2) as u8],
+        4 if random.has_decimals() => random_decimal(random),
         3 | 4 => key(0x02, random),
         5 => vec![0x03, random.byte(), random.below(2) as u8],
         6..9 => key(0x04 + random.below(5) as u8, random),
@@ -403,6 +415,7 @@ fn put_command_and_count(command: u8, count: usize, draft: &mut Draft) {
 #[cfg(test)]
 mod tests {
     use super::*;
+    use crate::{Kind, random_draft};
 
     #[test]
     fn bytes_and_places() {
@@ -438,6 +451,25 @@ mod tests {
             assert!(trees.iter().all(|tree| tree.level() <= 31));
             assert!(trees.iter().any(|tree| tree.bytes().len() > 5_000));
         }
+    }
+
+    #[test]
+    fn values_may_have_whole_numbers_alone() {
+        let any_decimals = |mut random: Random| {
+            let mut drafts = 0;
+            for _ in 0..500 {
+                let tree = ValueTree::random_of_any_size(Parts::All, &mut random);
+                let near = near_value(&tree, Parts::All, &mut random);
+                let draft = random_draft(Kind::Value, &mut random);
+                for draft in [tree.draft(), near.draft(), draft] {
+                    drafts += usize::from(!draft.exponents.is_empty());
+                }
+            }
+            drafts
+        };
+        assert_eq!(any_decimals(Random::new(3).without_decimals()), 0);
+        let with = any_decimals(Random::new(3));
+        assert!(with > 100, "{with}");
     }
 
     #[test]

@@ -8,9 +8,9 @@ use crate::value_cases::{
     own_types, refused_pairs, refused_values, step,
 };
 use feel_cases::{
-    Each, Kind, Move, Parts, Random, Tree, ValueTree, each_chain, each_damage, each_data_chain,
-    each_definition, each_long, each_string, long_data, long_records, near, near_value,
-    small_types, small_values,
+    Each, Kind, Move, Parts, Random, Tree, ValueTree, decimal, each_chain, each_damage,
+    each_data_chain, each_decimal, each_definition, each_long, each_string, long_data,
+    long_records, near, near_value, small_types, small_values,
 };
 use feel_form::{MAX_LENGTH, MAX_VALUE_LEVEL};
 
@@ -368,6 +368,7 @@ pub fn one_value(options: &Options, each: &mut EachCase) {
         each_string(&bytes, length, each);
     }
     refused_values().iter().for_each(|v| each(v));
+    each_decimal(each);
     for leaf in leaves() {
         each_parent(&leaf, &[0x20], &mut |v, _| each(v));
     }
@@ -409,6 +410,9 @@ fn each_range(few: bool, each: &mut Each) {
             ends.push([&[command], &key.to_le_bytes()[..]].concat());
         }
     }
+    for coefficient in [i64::MIN, -1, 0, 10, i64::MAX] {
+        ends.extend([0, 1, 18].map(|exponent| decimal(coefficient, exponent)));
+    }
     let others: [&[u8]; 10] = [
         &[0x01, 0],
         &[0x01, 1],
@@ -425,7 +429,8 @@ fn each_range(few: bool, each: &mut Each) {
     let mut taken = one_in(if few { 5 } else { 1 });
     for start in &ends {
         for end in &ends {
-            let same = start[0] == end[0];
+            let both_numbers = [start, end].iter().all(|v| matches!(v[0], 0x02 | 0x10));
+            let same = start[0] == end[0] || both_numbers;
             for interval in 0..16 {
                 if same || taken() {
                     let head = [0x09, interval / 4, interval % 4];

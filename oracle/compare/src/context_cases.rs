@@ -5,8 +5,8 @@ use crate::context_answers::Build;
 use crate::type_cases::{BUFFERS_EACH, rooms};
 use crate::value_cases::{LEAVES, is_quick, leaves, one_in, refused_values};
 use feel_cases::{
-    Each, Kind, Parts, Random, ValueTree, context_chain, each_damage, each_string, filled_list,
-    long_data, long_records, near_value, random_context, random_path, small_values,
+    Each, Kind, Parts, Random, ValueTree, context_chain, decimal, each_damage, each_string,
+    filled_list, long_data, long_records, near_value, random_context, random_path, small_values,
 };
 use feel_form::{MAX_LENGTH, MAX_VALUE_LEVEL, contexts};
 
@@ -252,7 +252,7 @@ pub fn with_path_and_value(options: &Options, each: &mut EachArgs) {
     each_put(options, 4, &mut each);
     for names in LONG_PATHS {
         for c in [&[0x0B, 0, 0][..], &[0x0B, 1, 0, 1, 0, 0x0F], &[0x0F], &[]] {
-            for v in [&[0x0F][..], &[0x10], &[]] {
+            for v in [&[0x0F][..], &[0x10], &[0x10; 10], &decimal(25, 1), &[]] {
                 each(c, &vec![1; names], v, How::Plain);
             }
         }
@@ -787,11 +787,12 @@ fn moved_at_the_limits(options: &Options, each: &mut EachMove) {
 pub const NAMES: [u16; 6] = [0, 1, 0x00FF, 0x0100, 0x0101, 0xFFFF];
 
 /// Values that are put into small contexts.
-const VALUES: [&[u8]; 4] = [
+const VALUES: [&[u8]; 5] = [
     &[0x00, 1],
     &[0x0B, 0, 0],
     &[0x0B, 1, 0, 1, 0, 0x01, 1],
     &[0x0A, 2, 0, 0x0F, 0x0D, 85],
+    &[0x10, 250, 0, 0, 0, 0, 0, 0, 0, 2],
 ];
 
 /// How many names a path has that is too long or nearly, or whose count starts again.

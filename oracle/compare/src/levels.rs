@@ -6,8 +6,10 @@ use crate::call::{Call, Case, Options};
 use crate::calls::CALLS;
 use crate::context_answers::{name, path};
 use crate::context_cases::{NAMES, spelled};
+use crate::decimals::has_decimal;
 use crate::lent::Standing;
 use crate::run::{Tally, run_cases};
+use crate::section::Section;
 use dsntk_feel::Name;
 use dsntk_feel::context::FeelContext;
 use dsntk_feel::values::Value;
@@ -15,7 +17,6 @@ use feel_cases::{Ending, Random, TYPE_IN_TYPE, TYPE_IN_VALUE, VALUE_IN_VALUE, Wr
 use feel_form::contexts::MAX_PATH;
 use feel_form::{MAX_LENGTH, MAX_VALUE_LEVEL, read_value, value_level, write_value};
 use std::collections::BTreeMap;
-use std::fmt;
 
 /// The name of this section.
 pub const NAME: &str = "levels";
@@ -38,6 +39,7 @@ const PATH: Class = ("names in the path", 1, 32);
 const ON_THE_PATH: Class = ("the deepest entry on the path", 0, 0);
 const BESIDE: Class = ("the deepest entry beside the path", 0, 0);
 const LESS_DEEP: Class = ("the result less deep than the context", 0, 0);
+const DECIMAL: Class = ("a decimal in an argument", 0, 0);
 
 /// An update, and the cases that it must meet.
 struct Update {
@@ -206,21 +208,12 @@ fn add(counts: &mut Counts, what: &'static str, number: usize) {
     *counts.entry((what, number)).or_default() += 1;
 }
 
-/// What came of one call.
-pub struct Levels {
-    pub tally: Tally,
-    /// A line for each class, with its counts.
-    lines: Vec<String>,
-    /// The classes and refusals that were not met.
-    pub missing: Vec<String>,
-}
-
 /// Runs all calls.
-pub fn run(options: &Options) -> impl Iterator<Item = Levels> {
+pub fn run(options: &Options) -> impl Iterator<Item = Section> {
     UPDATES.iter().map(|update| run_update(update, options))
 }
 
-fn run_update(update: &Update, options: &Options) -> Levels {
+fn run_update(update: &Update, options: &Options) -> Section {
     let mut calls = CALLS.into_iter();
     let call = calls.find(|call| call.name == update.call);
     let call = Call {
@@ -248,8 +241,9 @@ fn run_update(update: &Update, options: &Options) -> Levels {
         }
     });
     let [first, last] = update.results;
-    let classes = [&[(RESULT, first, last), CONTEXT], update.classes].concat();
-    Levels {
+    let classes = [&[(RESULT, first, last), CONTEXT, DECIMAL], update.classes].concat();
+    Section {
+        name: NAME,
         lines: classes.iter().map(|class| line(*class, &counts)).collect(),
         missing: missing(&classes, &tally, &counts),
         tally,
@@ -262,6 +256,9 @@ fn count(update: &Update, args: &[&[u8]], counts: &mut Counts) -> usize {
     let mut c = context(args[0]);
     let level = level_beside(&c, &[]);
     add(counts, CONTEXT.0, level);
+    if args.iter().any(|arg| has_decimal(arg)) {
+        add(counts, DECIMAL.0, 0);
+    }
     (update.count)(&c, args, counts);
     let Some(()) = (update.make)(&mut c, args) else {
         return 1;
@@ -509,13 +506,14 @@ fn deep_value(level: usize, random: &mut Random) -> Vec<u8> {
     };
     let mut wrappers: Vec<Wrapper> = vec![];
     wrappers.resize_with(parents - types, || random.pick(kinds));
-    let leaves: [&[u8]; 6] = [
+    let leaves: [&[u8]; 7] = [
         &[0x0F],
         &[0x00, 1],
         &[0x03, 7, 0],
         &[0x0A, 0, 0],
         &[0x0B, 0, 0],
         &[0x0D, 85],
+        &[0x10, 250, 0, 0, 0, 0, 0, 0, 0, 2],
     ];
     let mut end = random.pick(&leaves);
     if types > 0 {
@@ -553,15 +551,6 @@ fn tree(bytes: &[u8]) -> Value {
 
 fn context(bytes: &[u8]) -> FeelContext {
     FeelContext::try_from(tree(bytes)).expect("a context")
-}
-
-impl fmt::Display for Levels {
-    fn fmt(&self, f: &mut fmt::Formatter<'_>) -> fmt::Result {
-        write!(f, "{NAME}, {}", self.tally)?;
-        self.lines
-            .iter()
-            .try_for_each(|line| write!(f, "\n  {line}"))
-    }
 }
 
 #[cfg(test)]

@@ -8,6 +8,7 @@ mod coercion_cases;
 mod context_answers;
 mod context_cases;
 mod context_theorems;
+pub mod decimals;
 pub mod lent;
 pub mod levels;
 pub mod library;
@@ -18,6 +19,7 @@ mod records;
 mod robust_args;
 pub mod robust_cases;
 pub mod run;
+pub mod section;
 mod theorems;
 #[cfg(feature = "self-check")]
 mod twin;

@@ -4,16 +4,17 @@
 
 use compare::call::Options;
 use compare::calls::CALLS;
-use compare::levels;
 use compare::library::COMPARED;
 use compare::run::{Tally, run};
+use compare::section::Section;
+use compare::{decimals, levels};
 use std::process::ExitCode;
 
 const USAGE: &str = "usage: compare [--quick] [--only NAME,..] [--length N] [--alphabet-length N] \
 [--pair-length N] [--count N] [--pairs N] [--seed N]
   --quick              all byte strings up to 2 bytes, all pairs of types up to 3 bytes, all values
                        up to 3 nodes, 1,000 random records, 5,000 random pairs and values
-  --only NAME,..       these calls only, or the section levels; may stand several times
+  --only NAME,..       these calls only, or the sections levels and decimals; may stand several times
   --length N           all byte strings up to N bytes (3)
   --alphabet-length N  all strings up to N bytes over the small alphabets (5)
   --pair-length N      all pairs of types up to N bytes, all values up to N nodes (4)
@@ -21,6 +22,9 @@ const USAGE: &str = "usage: compare [--quick] [--only NAME,..] [--length N] [--a
   --pairs N            N random pairs of short types, and of types near each other; N random values
                        (100000)
   --seed N             the seed of the random records (1)";
+
+/// What stands behind the calls.
+const SECTIONS: [&str; 2] = [levels::NAME, decimals::NAME];
 
 /// What is to be run.
 struct Arguments {
@@ -33,7 +37,8 @@ fn main() -> ExitCode {
     let Some(Arguments { options, only }) = arguments(std::env::args().skip(1)) else {
         eprintln!("{USAGE}");
         let names: Vec<&str> = CALLS.iter().map(|call| call.name).collect();
-        eprintln!("calls: {}, and {}", names.join(", "), levels::NAME);
+        let sections = SECTIONS.join(", ");
+        eprintln!("calls: {}; sections: {sections}", names.join(", "));
         return ExitCode::from(2);
     };
     println!("compared with {COMPARED}");
@@ -50,21 +55,29 @@ fn main() -> ExitCode {
         cases += tally.cases;
         differences += tally.differences;
     };
+    let mut all_met = true;
     for call in CALLS.into_iter().filter(|call| wanted(call.name)) {
         let tally = run(&call, &options);
         println!("{tally}");
         add(&tally);
-    }
-    let mut all_met = true;
-    if wanted(levels::NAME) {
-        for levels in levels::run(&options) {
-            println!("{levels}");
-            add(&levels.tally);
-            for class in &levels.missing {
-                println!("{}: NOT MET: {class}", levels.tally.name);
-                all_met = false;
-            }
+        if tally.decimals == Some(0) {
+            println!("{}: NOT MET: decimals", tally.name);
+            all_met = false;
         }
+    }
+    let mut add_section = |section: Section| {
+        println!("{section}");
+        add(&section.tally);
+        for class in &section.missing {
+            println!("{}: NOT MET: {class}", section.tally.name);
+            all_met = false;
+        }
+    };
+    if wanted(levels::NAME) {
+        levels::run(&options).for_each(&mut add_section);
+    }
+    if wanted(decimals::NAME) {
+        add_section(decimals::run(&options));
     }
     println!("{cases} cases, {differences} differences");
     ExitCode::from(u8::from(differences > 0 || !all_met))
@@ -106,7 +119,7 @@ fn arguments(mut args: impl Iterator<Item = String>) -> Option<Arguments> {
         }
     }
     let is_call = |name: &String| CALLS.iter().any(|call| call.name == name);
-    let known = |name: &String| is_call(name) || name == levels::NAME;
+    let known = |name: &String| is_call(name) || SECTIONS.contains(&&name[..]);
     only.iter()
         .all(known)
         .then_some(Arguments { options, only })

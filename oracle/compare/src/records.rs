@@ -3,7 +3,8 @@
 use crate::answer::Answer;
 use crate::call::{Case, Checks, EachCase, Expected, Options};
 use feel_cases::{
-    Each, Kind, Random, each_chain, each_damage, each_long, each_string, long_records, random_draft,
+    Each, Kind, Random, each_chain, each_damage, each_decimal, each_long, each_string,
+    long_records, random_draft,
 };
 use feel_form::{MAX_LENGTH, MAX_TYPE_LEVEL, MAX_VALUE_LEVEL};
 
@@ -22,13 +23,14 @@ pub fn cases(kind: Kind, options: &Options, each: &mut EachCase) {
     let (alphabet, max_level): (Vec<u8>, _) = match kind {
         Kind::Value => {
             let types = [0x20, 0x22, 0x2A, 0x2D];
-            ((0x00..0x10).chain(types).collect(), MAX_VALUE_LEVEL)
+            ((0x00..=0x10).chain(types).collect(), MAX_VALUE_LEVEL)
         }
         Kind::Type => ((0..3).chain(0x20..0x2E).collect(), MAX_TYPE_LEVEL),
     };
     for length in 1..=options.alphabet_length {
         each_string(&alphabet, length, &mut each);
     }
+    each_decimal(&mut each);
     each_chain(kind, max_level - 1..=max_level + 2, &mut each);
     each_long(kind, &mut each);
     for other in [Kind::Value, Kind::Type] {

@@ -295,7 +295,7 @@ fn other_byte(byte: u8, random: &mut Random) -> u8 {
     match random.below(6) {
         0 => byte.wrapping_add(1),
         1 => byte.wrapping_sub(1),
-        2 => random.below(0x10) as u8,
+        2 => random.below(0x11) as u8,
         3 => 0x20 + random.below(0x0E) as u8,
         4 => random.below(4) as u8,
         _ => random.byte(),

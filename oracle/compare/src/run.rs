@@ -2,6 +2,7 @@
 
 use crate::answer::Answer;
 use crate::call::{Call, Case, EachCase, Gives, Options};
+use crate::decimals::has_decimal;
 use crate::lent::{Lent, Standing};
 use std::collections::BTreeMap;
 use std::fmt;
@@ -32,6 +33,8 @@ pub struct Tally {
     /// How many of the accepted have the answer 1.
     pub ones: u64,
     pub none: u64,
+    /// How many cases have a decimal number in an accepted value; none where the call reads no value.
+    pub decimals: Option<u64>,
     /// How many checks of the Rust's own answer held.
     pub checks: u64,
     /// For each refusal the call can give, how often it is expected.
@@ -80,6 +83,8 @@ impl Tally {
             accepted: 0,
             ones: 0,
             none: 0,
+            // 1 is the refusal of a value's length.
+            decimals: call.refusals.contains(&1).then_some(0),
             checks: 0,
             refused: call.refusals.iter().map(|&n| (u32::from(n), 0)).collect(),
             differences: 0,
@@ -122,6 +127,9 @@ impl Tally {
         let actual = (call.actual)(lent);
         self.digest(actual, lent);
         self.count(expected.answer);
+        if let Some(decimals) = &mut self.decimals {
+            *decimals += u64::from(case.args.iter().any(|arg| has_decimal(arg)));
+        }
         self.checks += expected.checks.held;
         let what = if actual != expected.answer {
             Some("the answers differ")
@@ -170,6 +178,9 @@ impl fmt::Display for Tally {
         )?;
         if self.gives == Gives::YesOrNo {
             write!(f, ", {} yes", self.ones)?;
+        }
+        if let Some(decimals) = self.decimals {
+            write!(f, ", {decimals} with decimals")?;
         }
         let checked = match self.gives {
             Gives::Level => "written back",

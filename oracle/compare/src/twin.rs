@@ -416,7 +416,9 @@ pub unsafe extern "C" fn feel_value_is_false(v: *const u8, v_len: usize) -> u64 
 /// # Safety
 /// `v` points to `v_len` readable bytes.
 pub unsafe extern "C" fn feel_value_is_number(v: *const u8, v_len: usize) -> u64 {
-    of_one_value(unsafe { from_raw_parts(v, v_len) }, |v| v[0] == 0x02)
+    of_one_value(unsafe { from_raw_parts(v, v_len) }, |v| {
+        v[0] == 0x02 || v[0] == 0x10
+    })
 }
 
 /// # Safety

@@ -3,19 +3,20 @@
 use crate::call::{Case, EachCase, Options};
 use crate::type_cases::{BUFFERS_EACH, EachTwo, EachType, rooms, short_types, tiny_types};
 use feel_cases::{
-    Each, Kind, Move, Parts, Random, Tree, ValueTree, each_chain, each_damage, each_data_chain,
-    each_definition, each_long, each_string, long_data, long_records, near, near_value,
-    small_types, small_values,
+    Each, Kind, Move, Parts, Random, Tree, ValueTree, decimal, each_chain, each_damage,
+    each_data_chain, each_decimal, each_definition, each_long, each_string, long_data,
+    long_records, near, near_value, small_types, small_values,
 };
 use feel_form::{MAX_LENGTH, MAX_VALUE_LEVEL, calls};
 
-/// Leaves of small values: Null, data of three types, Irrelevant.
-pub const LEAVES: [&[u8]; 5] = [
+/// Leaves of small values: Null, data of three types, Irrelevant, 1 as a decimal.
+pub const LEAVES: [&[u8]; 6] = [
     &[0x00, 0],
     &[0x01, 1],
     &[0x02, 1, 0, 0, 0, 0, 0, 0, 0],
     &[0x03, 7, 0],
     &[0x0F],
+    &[0x10, 10, 0, 0, 0, 0, 0, 0, 0, 1],
 ];
 
 /// Of so many records of one sort one is taken where they are many and a case costs much.
@@ -76,13 +77,14 @@ fn each_value(parts: Parts, options: &Options, each: &mut EachType) {
         each_string(&bytes, length, &mut |v| each(v, None));
     }
     let types = [0x20, 0x22, 0x2A, 0x2D];
-    let alphabet: Vec<u8> = (0x00..0x10).chain(types).collect();
+    let alphabet: Vec<u8> = (0x00..=0x10).chain(types).collect();
     for length in 1..=options.alphabet_length.min(4) {
         each_string(&alphabet, length, &mut |v| each(v, None));
     }
     for bad in refused_values() {
         each(&bad, None);
     }
+    each_decimal(&mut |v| each(v, Some(&[])));
     let pool = tiny_types();
     let others: Vec<&[u8]> = pool.iter().map(|t| &t[..]).collect();
     for v in small_values(options.pair_length, &LEAVES, &[0, 1]) {
@@ -223,6 +225,7 @@ pub fn leaves() -> Vec<Vec<u8>> {
     for command in [0x02, 0x04, 0x05, 0x06, 0x07, 0x08] {
         all.push([&[command], &(-1i64).to_le_bytes()[..]].concat());
     }
+    all.extend([decimal(250, 2), decimal(-1, 0)]);
     all.extend((0..86).map(|number| vec![0x0D, number]));
     for t in tiny_types() {
         all.push([&[0x0E], &t[..]].concat());
@@ -255,7 +258,7 @@ pub fn each_parent(v: &[u8], t: &[u8], each: &mut dyn FnMut(&[u8], &[u8])) {
 /// Ranges and lists of two, of each two kinds of leaves.
 pub fn each_ends(each: &mut Each) {
     let mut kinds = leaves();
-    kinds.retain(|v| v[0] < 0x0C || v == &[0x0D, 0] || v == &[0x0F]);
+    kinds.retain(|v| v[0] < 0x0C || v[0] == 0x10 || v == &[0x0D, 0] || v == &[0x0F]);
     kinds.extend([vec![0x0A, 0, 0], vec![0x0B, 0, 0], vec![0x0E, 0x22]]);
     kinds.push(vec![0x0C, 0, 0, 0, 0x22]);
     for a in &kinds {
@@ -352,6 +355,9 @@ pub fn refused_values() -> Vec<Vec<u8>> {
         vec![],
         long_records(Kind::Value, MAX_LENGTH + 1).swap_remove(0),
         vec![0x10],
+        vec![0x11],
+        decimal(25, 19),
+        decimal(25, 1)[..9].to_vec(),
         vec![0x22],
         vec![0x00, 4],
         vec![0x0A, 1, 0],

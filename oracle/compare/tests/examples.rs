@@ -63,6 +63,60 @@ const READERS: &[Row] = &[
     ("check_value", &["0E [2A]*29 22"], Level(31)),
     ("check_value", &["0E [2A]*30 22"], Refused(4)),
     ("check_value", &["0A 00 00 00"], Refused(5)),
+    // 2.5, the highest exponent and one more, a byte missing
+    ("check_value", &["10 19 [00]*7 01"], Level(1)),
+    ("check_value", &["10 [FF]*8 12"], Level(1)),
+    ("check_value", &["10 [FF]*8 13"], Refused(2)),
+    ("check_value", &["10 19 [00]*7"], Refused(2)),
+];
+
+/// 2.5 and 2.50, -0.75 and -0.7, 5 and 5.000000000000000001.
+const DECIMALS: &[Row] = &[
+    ("value_is_number", &["10 FA [00]*7 02"], Yes),
+    ("value_is_conformant", &["10 FA [00]*7 02", "22"], Yes),
+    ("value_is_conformant", &["10 FA [00]*7 02", "23"], No),
+    ("value_type_of", &["10 FA [00]*7 02"], Bytes("22")),
+    (
+        "value_least_type",
+        &["0A 02 00 02 03 [00]*7 10 19 [00]*7 01"],
+        Bytes("2A 22"),
+    ),
+    // as it is written
+    (
+        "value_coerced",
+        &["0A 01 00 10 FA [00]*7 02", "22"],
+        Bytes("10 FA [00]*7 02"),
+    ),
+    (
+        "value_is_valid_range",
+        &["09 02 02 10 19 [00]*7 01 10 FA [00]*7 02"],
+        Yes,
+    ),
+    (
+        "value_is_valid_range",
+        &["09 02 02 10 FA [00]*7 02 10 19 [00]*7 01"],
+        Yes,
+    ),
+    (
+        "value_is_valid_range",
+        &["09 02 02 10 B5 [FF]*7 02 10 F9 [FF]*7 01"],
+        Yes,
+    ),
+    (
+        "value_is_valid_range",
+        &["09 02 02 10 F9 [FF]*7 01 10 B5 [FF]*7 02"],
+        No,
+    ),
+    (
+        "value_is_valid_range",
+        &["09 02 02 02 05 [00]*7 10 01 00 F4 44 82 91 63 45 12"],
+        Yes,
+    ),
+    (
+        "value_is_valid_range",
+        &["09 02 02 10 01 00 F4 44 82 91 63 45 12 02 05 [00]*7"],
+        No,
+    ),
 ];
 
 const BOUNDS: &[Row] = &[
@@ -599,6 +653,13 @@ fn worked_examples_of_readers_and_bounds() {
     }
     for (row, scratch, output) in SHORT {
         ask(row, *scratch, *output);
+    }
+}
+
+#[test]
+fn worked_examples_of_decimals() {
+    for row in DECIMALS {
+        ask(row, ROOM, ROOM);
     }
 }
 

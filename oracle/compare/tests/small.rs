@@ -1,10 +1,10 @@
 //! Every call agrees with the Rust on few cases, and these give each of its refusals; the updates do
-//! around level 31 too.
+//! around level 31 too, and `is_valid_range` on numbers.
 
 use compare::call::{Gives, Options};
 use compare::calls::CALLS;
-use compare::levels;
 use compare::run::run;
+use compare::{decimals, levels};
 
 const FEW: Options = Options {
     length: 1,
@@ -24,6 +24,7 @@ fn every_call_agrees_on_few_cases() {
         assert!(tally.refused.values().all(|&count| count > 0), "{tally}");
         let may_be_none = matches!(call.gives, Gives::Part | Gives::Command);
         assert_eq!(tally.none > 0, may_be_none, "{tally}");
+        assert_ne!(tally.decimals, Some(0), "{tally}");
     }
 }
 
@@ -36,4 +37,11 @@ fn the_updates_agree_around_level_31_and_meet_every_class() {
         calls += 1;
     }
     assert_eq!(calls, 8);
+}
+
+#[test]
+fn ranges_of_numbers_agree_and_meet_every_class() {
+    let decimals = decimals::run(&FEW);
+    assert_eq!(decimals.tally.smallest, None, "{decimals}");
+    assert!(decimals.missing.is_empty(), "{:?}", decimals.missing);
 }

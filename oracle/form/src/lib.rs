@@ -1,7 +1,7 @@
 //! Document 01's byte form over the published Rust's own `FeelType` and `Value`: the readers with
 //! their refusals, the level of a tree, and the writers; its reduced form, common supertype and
 //! subtype, and least type; and the answers of its calls over types, over values, over contexts and
-//! over texts. Written from the document alone.
+//! over texts. Written from the document alone, and command 10, decimal numbers, from document 02.
 
 mod bifs;
 mod bounds;

@@ -8,7 +8,7 @@ use dsntk_feel::context::FeelContext;
 use dsntk_feel::ranges::IntervalType;
 use dsntk_feel::values::Value;
 use dsntk_feel::{FeelType, FunctionBody};
-use dsntk_feel_number::FeelNumber;
+use dsntk_feel_number::{FeelNumber, MAX_EXPONENT};
 use dsntk_feel_temporal::{
     FeelDate, FeelDateTime, FeelDaysAndTimeDuration, FeelTime, FeelYearsAndMonthsDuration,
 };
@@ -212,7 +212,7 @@ impl Reader<'_> {
                 [1] => Value::Boolean(true),
                 _ => return Err(self.refusals.form),
             },
-            0x02 => Value::Number(FeelNumber(self.key()?)),
+            0x02 => Value::Number(FeelNumber::whole(self.key()?)),
             0x03 => Value::String(text(self.number()?)),
             0x04 => Value::Date(FeelDate(self.key()?)),
             0x05 => Value::Time(FeelTime(self.key()?)),
@@ -270,6 +270,14 @@ impl Reader<'_> {
             }
             0x0E => Value::FeelType(self.feel_type(level + 1)?),
             0x0F => Value::Irrelevant,
+            0x10 => {
+                let coefficient = self.key()?;
+                let [exponent] = self.operands()?;
+                if exponent > MAX_EXPONENT {
+                    return Err(self.refusals.form);
+                }
+                Value::Number(FeelNumber::decimal(coefficient, exponent))
+            }
             _ => return Err(self.refusals.form),
         })
     }

@@ -66,7 +66,13 @@ fn put_value(out: &mut Vec<u8>, value: &Value) {
     match value {
         Value::Null(trace) => out.extend([0x00, trace_byte(trace.as_deref())]),
         Value::Boolean(truth) => out.extend([0x01, u8::from(*truth)]),
-        Value::Number(number) => put_key(out, 0x02, number.0),
+        Value::Number(number) => match number.exponent() {
+            None => put_key(out, 0x02, number.coefficient()),
+            Some(exponent) => {
+                put_key(out, 0x10, number.coefficient());
+                out.push(exponent);
+            }
+        },
         Value::String(text) => {
             out.push(0x03);
             out.extend(text_number(text).to_le_bytes());

@@ -1,4 +1,4 @@
-//! Every command of document 01, both ways.
+//! Every command of document 01, and command 10 of document 02, both ways.
 
 use dsntk_feel::FeelType;
 use dsntk_feel::bif::Bif;
@@ -96,7 +96,10 @@ fn keys_are_signed_and_little_endian() {
             (0x0807060504030201, [1, 2, 3, 4, 5, 6, 7, 8]),
         ] {
             let read = match value(&[&[command], &bytes[..]].concat(), 1) {
-                Value::Number(number) if command == 0x02 => number.0,
+                Value::Number(number) if command == 0x02 => {
+                    assert_eq!(number.exponent(), None);
+                    number.coefficient()
+                }
                 Value::Date(date) if command == 0x04 => date.0,
                 Value::Time(time) if command == 0x05 => time.0,
                 Value::DateTime(date_time) if command == 0x06 => date_time.0,
@@ -106,6 +109,41 @@ fn keys_are_signed_and_little_endian() {
             };
             assert_eq!(read, key);
         }
+    }
+}
+
+#[test]
+fn decimals_keep_how_they_are_written() {
+    for exponent in 0..=18 {
+        for (coefficient, bytes) in [
+            (25, [25, 0, 0, 0, 0, 0, 0, 0]),
+            (-2, [0xFE, 255, 255, 255, 255, 255, 255, 255]),
+            (i64::MIN, [0, 0, 0, 0, 0, 0, 0, 0x80]),
+            (0x0807060504030201, [1, 2, 3, 4, 5, 6, 7, 8]),
+        ] {
+            let decimal = [&[0x10], &bytes[..], &[exponent]].concat();
+            let Value::Number(number) = value(&decimal, 1) else {
+                panic!("no number");
+            };
+            assert_eq!(number.coefficient(), coefficient);
+            assert_eq!(number.exponent(), Some(exponent));
+        }
+    }
+    // Equal numbers, other bytes.
+    let same = [
+        vec![0x10, 25, 0, 0, 0, 0, 0, 0, 0, 1],
+        vec![0x10, 250, 0, 0, 0, 0, 0, 0, 0, 2],
+    ];
+    assert_eq!(value(&same[0], 1), value(&same[1], 1));
+    let same = [
+        vec![0x02, 5, 0, 0, 0, 0, 0, 0, 0],
+        vec![0x10, 5, 0, 0, 0, 0, 0, 0, 0, 0],
+    ];
+    assert_eq!(value(&same[0], 1), value(&same[1], 1));
+    value(&[&[0x0A, 2, 0], &same.concat()[..]].concat(), 2);
+    for exponent in 19..=255 {
+        let decimal = [0x10, 25, 0, 0, 0, 0, 0, 0, 0, exponent];
+        assert_eq!(read_value(&decimal), Err(2));
     }
 }
 
@@ -221,7 +259,7 @@ fn parent_types() {
 fn all_other_bytes_are_unknown() {
     for byte in 0..=255u8 {
         let bytes = [byte, 0, 0, 0, 0, 0, 0, 0, 0];
-        if byte > 0x0F {
+        if byte > 0x10 {
             assert_eq!(read_value(&bytes), Err(2), "{byte:02X}");
         }
         if !(0x20..=0x2D).contains(&byte) {

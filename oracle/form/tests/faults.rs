@@ -82,8 +82,36 @@ fn one_operand_missing_is_2_in_any_case() {
     assert_eq!(value(&[0x09, 0]), Err(2));
     assert_eq!(value(&[0x0C, 0, 0]), Err(2));
     assert_eq!(value(&[0x0A, 1]), Err(2));
+    assert_eq!(value(&[0x10, 0, 0, 0, 0, 0, 0, 0, 0]), Err(2));
     assert_eq!(feel_type(&[0x2C, 0]), Err(7));
     assert_eq!(feel_type(&[0x2D]), Err(7));
+}
+
+#[test]
+fn an_exponent_is_at_most_18() {
+    let decimal = |exponent: u8| [&[0x10], &(-75i64).to_le_bytes()[..], &[exponent]].concat();
+    for exponent in 0..=255 {
+        let answer = if exponent > 18 { Err(2) } else { Ok(1) };
+        assert_eq!(value(&decimal(exponent)), answer);
+        let inside = [&[0x0A, 2, 0], &decimal(exponent)[..], &decimal(18)].concat();
+        assert_eq!(value(&inside), answer.map(|level| level + 1));
+    }
+    // It is judged before what follows, and the level before it.
+    let unordered = [0x0B, 2, 0, 1, 0, 0x0F, 1, 0, 0x0F];
+    assert_eq!(
+        value(&[&[0x0A, 2, 0], &decimal(19)[..], &unordered].concat()),
+        Err(2)
+    );
+    assert_eq!(value(&[&decimal(19)[..], &[0x0F]].concat()), Err(2));
+    assert_eq!(value(&[&decimal(18)[..], &[0x0F]].concat()), Err(5));
+    assert_eq!(value(&lists(30, &decimal(18))), Ok(31));
+    assert_eq!(value(&lists(31, &decimal(18))), Err(4));
+    assert_eq!(value(&lists(31, &decimal(19))), Err(4));
+    assert_eq!(value(&lists(30, &decimal(19))), Err(2));
+    for end in 1..10 {
+        assert_eq!(value(&decimal(0)[..end]), Err(2));
+        assert_eq!(value(&lists(3, &decimal(0)[..end])), Err(2));
+    }
 }
 
 #[test]
@@ -92,7 +120,7 @@ fn a_type_is_no_value_and_a_value_no_type() {
         assert_eq!(value(&[command, 0, 0, 0x20]), Err(2));
         assert_eq!(value(&[0x0A, 1, 0, command, 0, 0, 0x20]), Err(2));
     }
-    for command in 0x00..=0x0F {
+    for command in 0x00..=0x10 {
         assert_eq!(feel_type(&[command, 0, 0, 0x20]), Err(7));
         assert_eq!(feel_type(&[0x2A, command, 0, 0, 0x20]), Err(7));
         assert_eq!(value(&[0x0E, command, 0, 0, 0x20]), Err(2));

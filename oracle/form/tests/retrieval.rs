@@ -33,11 +33,15 @@ fn is_valid_range(v: &str) -> bool {
 
 const NUMBER: &str = "02 0100000000000000";
 
+/// 2.5
+const DECIMAL: &str = "10 1900000000000000 01";
+
 /// Every value of level 1 but Null and the empty parents, a value of each other kind, each with the
 /// types whose outer kind it has.
-const VALUES: [(&str, &str); 16] = [
+const VALUES: [(&str, &str); 17] = [
     ("01 01", "21"),
     (NUMBER, "22"),
+    (DECIMAL, "22"),
     ("03 0500", "23"),
     ("04 0100000000000000", "24"),
     ("05 0100000000000000", "25"),
@@ -385,7 +389,7 @@ fn kinds_of_values() {
         (calls::value_is_null, &["00 00", "00 01", "00 02", "00 03"]),
         (calls::value_is_true, &["01 01"]),
         (calls::value_is_false, &["01 00"]),
-        (calls::value_is_number, &[NUMBER]),
+        (calls::value_is_number, &[NUMBER, DECIMAL]),
         (calls::value_is_string, &["03 0500"]),
         (calls::value_is_list, &["0A 0000", "0A 0100 01 01"]),
         (calls::value_is_range, &["09 00 02 01 01 00 03"]),
@@ -456,6 +460,74 @@ fn valid_ranges() {
     }
     for (v, _) in VALUES.iter().filter(|(v, _)| !v.starts_with("09")) {
         assert!(!is_valid_range(v));
+    }
+}
+
+#[test]
+fn valid_ranges_of_numbers_go_by_their_value() {
+    let number = |(coefficient, exponent): (i64, Option<u8>)| {
+        let bytes = coefficient.to_le_bytes().map(|byte| format!("{byte:02X}"));
+        match exponent {
+            None => format!("02 {}", bytes.concat()),
+            Some(exponent) => format!("10 {} {exponent:02X}", bytes.concat()),
+        }
+    };
+    // Ascending; those in one row are equal.
+    let numbers: [&[(i64, Option<u8>)]; 11] = [
+        &[(i64::MIN, None), (i64::MIN, Some(0))],
+        &[(i64::MIN, Some(18))],
+        &[(-75, Some(2)), (-750, Some(3))],
+        &[(-7, Some(1))],
+        &[(-1, Some(18))],
+        &[(0, None), (0, Some(0)), (0, Some(18))],
+        &[(25, Some(1)), (250, Some(2))],
+        &[
+            (5, None),
+            (5, Some(0)),
+            (5_000_000_000_000_000_000, Some(18)),
+        ],
+        &[(5_000_000_000_000_000_001, Some(18))],
+        &[(i64::MAX, Some(18))],
+        &[(i64::MAX, None), (i64::MAX, Some(0))],
+    ];
+    for (low, starts) in numbers.iter().enumerate() {
+        for (high, ends) in numbers.iter().enumerate() {
+            for start in *starts {
+                for end in *ends {
+                    let v = format!("09 02 02 {} {}", number(*start), number(*end));
+                    assert_eq!(is_valid_range(&v), low <= high, "{v}");
+                }
+            }
+        }
+    }
+    for start in 0..4 {
+        for end in 0..4 {
+            let range = |ends: &str| is_valid_range(&format!("09 0{start} 0{end} {ends}"));
+            let open = start != 3 && end != 3;
+            assert_eq!(range(&format!("{DECIMAL} {DECIMAL}")), open);
+            assert_eq!(range(&format!("{DECIMAL} 00 00")), open && end < 2);
+            assert_eq!(range(&format!("00 00 {DECIMAL}")), open && start < 2);
+            assert!(!range(&format!("{DECIMAL} 03 0100")));
+            assert!(!range(&format!("04 0000000000000000 {DECIMAL}")));
+        }
+    }
+}
+
+/// Nothing is written anew: 2.50 stays 2.50.
+#[test]
+fn decimals_are_retrieved_and_coerced_as_they_stand() {
+    for v in [DECIMAL, "10 FA00000000000000 02", "10 0500000000000000 00"] {
+        assert_eq!(checked("22", v), Ok(bytes(v)));
+        assert_eq!(checked("23", v), Err(15));
+        assert_eq!(conformant("20", v), bytes(v));
+        assert_eq!(conformant("23", v), bytes("00 02"));
+        assert_eq!(coerced(v, "22"), bytes(v));
+        assert_eq!(coerced(v, "23"), bytes("00 01"));
+        assert_eq!(coerced(v, "2A 22"), bytes(&format!("0A 0100 {v}")));
+        assert_eq!(coerced(&format!("0A 0100 {v}"), "22"), bytes(v));
+        let context = format!("0B 0200 0100 {v} 0200 {NUMBER}");
+        let kept = bytes(&format!("0B 0100 0100 {v}"));
+        assert_eq!(checked("2C 0100 0100 22", &context), Ok(kept));
     }
 }
 

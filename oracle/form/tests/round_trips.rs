@@ -46,7 +46,7 @@ fn records_of_the_highest_length() {
 #[test]
 fn short_strings() {
     let mut accepted = [0; 2];
-    let alphabet: Vec<u8> = (0..0x10).chain(0x20..0x2E).collect();
+    let alphabet: Vec<u8> = (0..0x11).chain(0x20..0x2E).collect();
     for length in 1..=3 {
         each_string(&alphabet, length, &mut |bytes| {
             if let Ok((value, _)) = read_value(bytes) {
@@ -59,10 +59,10 @@ fn short_strings() {
             }
         });
     }
-    // Values of one byte: 0F. Of two: 4 nulls, 2 booleans, 30 built-in functions with a number in
-    // the alphabet, 10 type values. Of three: 900 texts, the empty list and context, 0E over 20
+    // Values of one byte: 0F. Of two: 4 nulls, 2 booleans, 31 built-in functions with a number in
+    // the alphabet, 10 type values. Of three: 961 texts, the empty list and context, 0E over 20
     // types of two bytes.
-    assert_eq!(accepted[0], 1 + (4 + 2 + 30 + 10) + (900 + 2 + 20));
+    assert_eq!(accepted[0], 1 + (4 + 2 + 31 + 10) + (961 + 2 + 20));
     // Types of one byte: 10. Of two: 2A and 2B over those. Of three: 2A and 2B over those of two,
     // the empty context, 2D 00 over those of one.
     assert_eq!(accepted[1], 10 + 20 + (40 + 1 + 10));

@@ -33,8 +33,11 @@ fn assert_types(v: &str, inferred: &str, least: &str) {
 
 const NUMBER: &str = "02 0100000000000000";
 
+/// 2.5
+const DECIMAL: &str = "10 1900000000000000 01";
+
 /// Every leaf of data with its type.
-const LEAVES: [(&str, &str); 9] = [
+const LEAVES: [(&str, &str); 10] = [
     ("00 00", "29"),
     ("01 01", "21"),
     (NUMBER, "22"),
@@ -44,6 +47,7 @@ const LEAVES: [(&str, &str); 9] = [
     ("06 0100000000000000", "26"),
     ("07 0100000000000000", "27"),
     ("08 0100000000000000", "28"),
+    (DECIMAL, "22"),
 ];
 
 const SIMPLE: [&str; 10] = ["20", "21", "22", "23", "24", "25", "26", "27", "28", "29"];

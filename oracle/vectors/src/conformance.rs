@@ -10,6 +10,7 @@ pub fn groups() -> Vec<Group> {
     let of_cases = |words, cases| Group::new(Call::ValueIsConformant, words, cases);
     vec![
         of_cases("leaves", leaves()),
+        group("decimals", &DECIMALS),
         group("lists", &LISTS),
         group("ranges", &RANGES),
         group("contexts", &CONTEXTS),
@@ -50,6 +51,18 @@ fn leaves() -> Vec<Case> {
     }
     cases(&lines)
 }
+
+const DECIMALS: [&str; 9] = [
+    "10 1900000000000000 01 | 22",
+    "10 FA00000000000000 02 | 20",
+    "10 1900000000000000 01 | 23",
+    "10 1900000000000000 01 | 29",
+    "10 0500000000000000 00 | 2A 22",
+    "0A 0300 02 0500000000000000 10 B5FFFFFFFFFFFFFF 02 00 00 | 2A 22",
+    "0A 0200 10 B5FFFFFFFFFFFFFF 02 03 0500 | 2A 22",
+    "09 02 02 10 1900000000000000 01 02 0300000000000000 | 2B 22",
+    "0B 0200 0100 10 1900000000000000 01 0200 01 01 | 2C 0100 0100 22",
+];
 
 const LISTS: [&str; 24] = [
     "0A 0000 | 2A 29",

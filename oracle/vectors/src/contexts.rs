@@ -103,11 +103,12 @@ const NESTED: &str =
 /// Names whose low or high bytes are equal.
 const NEAR: &str = "0B 0500 0000 01 00 0100 0F FF00 0B 0000 0001 00 02 FFFF 0B 0100 0001 0F";
 
-/// A value of every kind, with the names 0 to 15.
-const KINDS: &str = "0B 1000 0000 00 03 0100 01 01 0200 02 0100000000000000 0300 03 0B00 \
+/// A value of every kind, with the names 0 to 16.
+const KINDS: &str = "0B 1100 0000 00 03 0100 01 01 0200 02 0100000000000000 0300 03 0B00 \
 0400 04 0200000000000000 0500 05 0300000000000000 0600 06 0400000000000000 0700 07 0500000000000000 \
 0800 08 FFFFFFFFFFFFFFFF 0900 09 00 02 00 00 01 01 0A00 0A 0200 0F 0B 0000 0B00 0B 0100 0B00 0F \
-0C00 0C 01 3412 22 0900 2C 0100 0B00 23 0D00 0D 0B 0E00 0E 2C 0100 0B00 20 0F00 0F";
+0C00 0C 01 3412 22 0900 2C 0100 0B00 23 0D00 0D 0B 0E00 0E 2C 0100 0B00 20 0F00 0F \
+1000 10 FA00000000000000 02";
 
 /// Each name beside each context.
 fn of_each(contexts_and_names: &[(&str, &[&str])]) -> Vec<String> {
@@ -134,7 +135,10 @@ fn names() -> Vec<String> {
             ],
         ),
         (KINDS, &["0000", "0100", "0200", "0800", "0900"]),
-        (KINDS, &["0A00", "0B00", "0C00", "0D00", "0E00", "0F00"]),
+        (
+            KINDS,
+            &["0A00", "0B00", "0C00", "0D00", "0E00", "0F00", "1000"],
+        ),
     ])
 }
 
@@ -178,7 +182,7 @@ fn paths() -> Vec<String> {
             &["FF00", "FF00 0000", "FFFF 0001", "FFFF 0100", "0001 0001"],
         ),
         (KINDS, &["0B00 0B00", "0C00 0B00", "0E00 0B00", "0D00 0B00"]),
-        (KINDS, &["0A00 0B00", "0F00", "0B00"]),
+        (KINDS, &["0A00 0B00", "0F00", "0B00", "1000", "1000 0B00"]),
     ])
 }
 
@@ -364,6 +368,7 @@ fn put() -> Vec<String> {
         "0A 0100 00 03",
         "0E 22",
         "0C 00 0000 22",
+        "10 FA00000000000000 02",
     ] {
         lines.push(format!("{TWO} | 0200 0100 | {v}"));
     }

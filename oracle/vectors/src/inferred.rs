@@ -15,6 +15,7 @@ pub fn groups() -> Vec<Group> {
         groups.extend([
             group("examples", &EXAMPLES),
             of_lines("leaves", leaves()),
+            group("decimals", &DECIMALS),
             group("lists", &LISTS),
             group("lists in lists", &LISTS_IN_LISTS),
             of_lines("ranges", ranges()),
@@ -43,6 +44,16 @@ const EXAMPLES: [&str; 5] = [
     "0A 0200 00 00 02 0100000000000000",
     "0A 0200 02 0100000000000000 01 01",
     "0A 0200 0B 0200 0500 02 0100000000000000 0700 01 01 0B 0100 0500 00 00",
+];
+
+const DECIMALS: [&str; 7] = [
+    "10 1900000000000000 01",
+    "0A 0200 10 1900000000000000 01 02 0300000000000000",
+    "0A 0200 00 00 10 FA00000000000000 02",
+    "0A 0200 10 FA00000000000000 02 01 01",
+    "09 02 02 02 0200000000000000 10 1900000000000000 01",
+    "09 02 00 10 B5FFFFFFFFFFFFFF 02 00 00",
+    "0A 0200 0B 0100 0500 10 1900000000000000 01 0B 0100 0500 02 0300000000000000",
 ];
 
 fn leaves() -> Vec<String> {

@@ -140,11 +140,11 @@ mod tests {
         assert_eq!(answers.len(), 47);
         for (call, answers) in answers {
             let counts = match call {
-                Call::GetValueChecked | Call::GetConformantValue | Call::Coerced => 100..=200,
-                Call::IsInvalidCoercion | Call::IsValidRange => 20..=60,
+                Call::GetValueChecked | Call::GetConformantValue | Call::Coerced => 100..=210,
+                Call::IsInvalidCoercion | Call::IsValidRange => 20..=80,
                 _ if call > Call::BifFeelType => 60..=140,
                 _ if call > Call::IsValidRange => 5..=20,
-                _ if call >= Call::ValueIsConformant => 150..=300,
+                _ if call >= Call::ValueIsConformant => 150..=310,
                 _ => 25..=60,
             };
             assert!(

@@ -10,6 +10,7 @@ pub fn groups() -> Vec<Group> {
         records(Call::IsInvalidCoercion, "refusals", refusals()),
         records(Call::IsValidRange, "interval bytes", intervals()),
         records(Call::IsValidRange, "keys and texts", keys()),
+        records(Call::IsValidRange, "decimals", all(&DECIMALS)),
         records(Call::IsValidRange, "kinds", all(&KINDS)),
         records(Call::IsValidRange, "refusals", refusals()),
     ];
@@ -65,6 +66,9 @@ pub fn groups() -> Vec<Group> {
         ),
     ] {
         let values = [all(&values), all(&OTHER_KINDS)].concat();
+        if call == Call::IsNumber {
+            groups.push(records(call, "decimals", all(&NUMBERS)));
+        }
         groups.push(records(call, "values", values));
         groups.push(records(call, "refusals", few_refusals()));
     }
@@ -103,6 +107,13 @@ const OTHERS: [&str; 14] = [
     "0D 01",
     "0E 29",
     "0F",
+];
+
+/// Decimals, alone and in a list.
+const NUMBERS: [&str; 3] = [
+    "10 1900000000000000 01",
+    "10 0000000000000000 00",
+    "0A 0100 10 1900000000000000 01",
 ];
 
 /// One value of each kind that no question is asked about, and Null.
@@ -155,6 +166,28 @@ fn keys() -> Vec<Vec<u8>> {
     ]));
     cases
 }
+
+/// Equal and written differently, negative, different in the last of 19 digits, the ends of 64 bits, Null
+/// and another kind at one end.
+const DECIMALS: [&str; 17] = [
+    "09 02 02 10 1900000000000000 01 10 FA00000000000000 02",
+    "09 02 02 10 FA00000000000000 02 10 1900000000000000 01",
+    "09 02 02 10 1900000000000000 01 02 0200000000000000",
+    "09 02 02 02 0500000000000000 10 0500000000000000 00",
+    "09 02 02 10 0000F44482916345 12 02 0500000000000000",
+    "09 02 02 10 0100F44482916345 12 02 0500000000000000",
+    "09 02 02 10 B5FFFFFFFFFFFFFF 02 10 F9FFFFFFFFFFFFFF 01",
+    "09 02 02 10 F9FFFFFFFFFFFFFF 01 10 B5FFFFFFFFFFFFFF 02",
+    "09 02 02 10 FEFFFFFFFFFFFF7F 12 10 FFFFFFFFFFFFFF7F 12",
+    "09 02 02 10 FFFFFFFFFFFFFF7F 12 10 FEFFFFFFFFFFFF7F 12",
+    "09 02 02 10 0100000000000080 12 10 0000000000000080 12",
+    "09 02 02 02 0000000000000080 10 0000000000000080 12",
+    "09 02 02 02 FFFFFFFFFFFFFF7F 10 FFFFFFFFFFFFFF7F 12",
+    "09 02 00 10 1900000000000000 01 00 00",
+    "09 02 02 00 00 10 1900000000000000 01",
+    "09 02 02 10 1900000000000000 00 04 1900000000000000",
+    "09 02 03 10 1900000000000000 01 10 1900000000000000 01",
+];
 
 const KINDS: [&str; 12] = [
     "09 00 00 00 00 00 00",

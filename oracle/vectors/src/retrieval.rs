@@ -14,6 +14,7 @@ pub fn groups() -> Vec<Group> {
         groups.extend([
             group("examples", &["2C 0100 0100 22 | 0B 0000"]),
             of_lines("leaves", leaves()),
+            group("decimals", &DECIMALS),
             of_lines("null values", nulls()),
             group("ranges, functions and Any", &COPIED),
             group("lists", &LISTS),
@@ -31,6 +32,7 @@ pub fn groups() -> Vec<Group> {
     groups.extend([
         group("examples", &["0A 0100 02 0100000000000000 | 2A 2A 22"]),
         of_lines("leaves", coerced_leaves()),
+        group("decimals", &COERCED_DECIMALS),
         of_lines("null values and one-item lists of them", coerced_nulls()),
         group("unchanged", &UNCHANGED),
         group("from a one-item list", &FROM_LIST),
@@ -44,6 +46,23 @@ pub fn groups() -> Vec<Group> {
     ]);
     groups
 }
+
+/// A decimal is given as it is written.
+const DECIMALS: [&str; 5] = [
+    "22 | 10 FA00000000000000 02",
+    "20 | 10 0500000000000000 00",
+    "23 | 10 1900000000000000 01",
+    "2A 22 | 0A 0200 10 1900000000000000 01 02 0300000000000000",
+    "2C 0100 0100 22 | 0B 0200 0100 10 B5FFFFFFFFFFFFFF 02 0200 01 01",
+];
+
+const COERCED_DECIMALS: [&str; 5] = [
+    "10 FA00000000000000 02 | 22",
+    "10 1900000000000000 01 | 23",
+    "0A 0100 10 1900000000000000 01 | 22",
+    "10 0500000000000000 00 | 2A 22",
+    "0A 0200 10 1900000000000000 01 10 FA00000000000000 02 | 22",
+];
 
 /// Each leaf of data beside its type and the type after it, some beside Any, Null and a list.
 fn leaves() -> Vec<String> {

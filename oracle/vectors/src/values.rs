@@ -33,6 +33,7 @@ pub fn groups() -> Vec<Group> {
     let faults = all(&FAULTS);
     vec![
         group("leaves", leaves()),
+        group("decimals", decimals()),
         group("parents", parents()),
         group("each type inside", types_inside()),
         group("unknown first byte", unknown_first()),
@@ -113,6 +114,33 @@ fn leaves() -> Vec<Vec<u8>> {
     cases
 }
 
+/// Every sort of coefficient and exponent, exponents over 18, and decimals inside.
+fn decimals() -> Vec<Vec<u8>> {
+    let mut cases = all(&[
+        "10 1900000000000000 01",
+        "10 FA00000000000000 02",
+        "10 B5FFFFFFFFFFFFFF 02",
+        "10 0500000000000000 00",
+        "10 FFFFFFFFFFFFFF7F 12",
+        "10 0000000000000080 12",
+        "10 1900000000000000 13",
+        "10 0000000000000000 14",
+        "10 1900000000000000 80",
+        "10 1900000000000000 FF",
+        "10 1900000000000000 01 00",
+        "0A 0200 10 1900000000000000 01 02 0300000000000000",
+        "0A 0200 10 1900000000000000 01 10 1900000000000000 13",
+        "0B 0200 0100 10 1900000000000000 13 0100 0F",
+        "09 02 02 10 1900000000000000 01 10 FA00000000000000 02",
+    ]);
+    for lists in [30, 31] {
+        let lists = "0A 0100 ".repeat(lists);
+        cases.push(bytes(&format!("{lists}10 1900000000000000 01")));
+        cases.push(bytes(&format!("{lists}10 1900000000000000 13")));
+    }
+    cases
+}
+
 fn parents() -> Vec<Vec<u8>> {
     let mut cases = all(&[
         "0A 0100 0F",
@@ -168,7 +196,7 @@ fn types_inside() -> Vec<Vec<u8>> {
 }
 
 fn unknown_first() -> Vec<Vec<u8>> {
-    let bytes = (0x10..=0x2F).chain([0x30, 0x40, 0x7F, 0x80, 0xFE, 0xFF]);
+    let bytes = (0x11..=0x2F).chain([0x30, 0x40, 0x7F, 0x80, 0xFE, 0xFF]);
     bytes
         .flat_map(|byte| [vec![byte], vec![byte, 0, 0]])
         .collect()
@@ -215,6 +243,9 @@ fn ends_of_leaves() -> Vec<Vec<u8>> {
         for length in [1, 2, 8] {
             cases.push([&[command], &[0x01; 8][..length - 1]].concat());
         }
+    }
+    for length in [1, 2, 9] {
+        cases.push([&[0x10], &[0x01; 8][..length - 1]].concat());
     }
     cases
 }

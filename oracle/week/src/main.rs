@@ -66,7 +66,9 @@ fn hex(bytes: &[u8]) -> String {
 #[cfg(test)]
 mod tests {
     use super::*;
-    use feel_form::read_type;
+    use dsntk_feel::values::Value;
+    use dsntk_feel_number::FeelNumber;
+    use feel_form::{read_type, read_value};
 
     const FOLDER: &str = concat!(env!("CARGO_MANIFEST_DIR"), "/../../examples/week");
 
@@ -99,6 +101,48 @@ mod tests {
                 );
             }
         }
+    }
+
+    /// The numbers of the link margins in the accepted requests.
+    fn margins() -> Vec<FeelNumber> {
+        let name = feel_form::name(names::number("link margins"));
+        let mut margins = vec![];
+        for request in requests::requests(&mut Random::new(SEED)) {
+            let Ok((Value::Context(request), _)) = read_value(&request) else {
+                continue;
+            };
+            let values: Vec<&Value> = match request.get_entry(&name) {
+                Some(Value::Context(entries)) => entries.values().collect(),
+                Some(Value::List(items)) => items.iter().collect(),
+                _ => vec![],
+            };
+            margins.extend(values.into_iter().filter_map(|value| match value {
+                Value::Number(number) => Some(*number),
+                _ => None,
+            }));
+        }
+        margins
+    }
+
+    #[test]
+    fn margins_are_decimals_of_every_sort() {
+        let margins = margins();
+        let count = |wanted: &dyn Fn(&FeelNumber) -> bool| {
+            margins.iter().filter(|number| wanted(number)).count()
+        };
+        let zero = FeelNumber::whole(0);
+        for exponent in [None, Some(1), Some(2)] {
+            assert!(count(&|n| n.exponent() == exponent) > 100, "{exponent:?}");
+            assert!(count(&|n| n.exponent() == exponent && *n < zero) > 10);
+        }
+        assert_eq!(count(&|n| n.exponent().is_some_and(|p| p > 2)), 0);
+        // 2.5, 2.50 and -0.75; 3, 3.0 and 3.00.
+        for (coefficient, exponent) in [(25, 1), (250, 2), (-75, 2), (30, 1), (300, 2)] {
+            let same =
+                |n: &FeelNumber| (n.coefficient(), n.exponent()) == (coefficient, Some(exponent));
+            assert!(count(&same) > 0, "{coefficient} {exponent}");
+        }
+        assert!(count(&|n| n.coefficient() == 3 && n.exponent().is_none()) > 0);
     }
 
     #[test]

@@ -1,8 +1,9 @@
 //! The pass requests of the week: nested contexts after the needs of one mission each, some of them
-//! one name short, with a null or another kind of value somewhere, or malformed.
+//! one name short, with a null or another kind of value somewhere, or malformed. Link margins are
+//! decimal numbers, some of them whole.
 
 use crate::names::number;
-use feel_cases::{Random, ValueTree, each_damage, null};
+use feel_cases::{Random, ValueTree, decimal, each_damage, null, whole as whole_number};
 
 /// How many.
 pub const REQUESTS: usize = 1_412;
@@ -21,12 +22,53 @@ pub fn requests(random: &mut Random) -> Vec<Vec<u8>> {
 fn request(i: usize, random: &mut Random) -> Vec<u8> {
     let whole = record(i, random);
     match random.below(100) {
-        0..72 => whole.bytes(),
-        72..82 => changed(&whole, random, Change::Drop).bytes(),
-        82..87 => changed(&whole, random, Change::Null).bytes(),
-        87..93 => changed(&whole, random, Change::Kind).bytes(),
-        _ => malformed(&whole, random),
+        0..72 => in_decibels(whole).bytes(),
+        72..82 => in_decibels(changed(&whole, random, Change::Drop)).bytes(),
+        82..87 => in_decibels(changed(&whole, random, Change::Null)).bytes(),
+        87..93 => in_decibels(changed(&whole, random, Change::Kind)).bytes(),
+        _ => {
+            // As many random numbers are taken as with whole margins, and the requests behind this one
+            // do not depend on how margins are written.
+            malformed(&whole, random);
+            malformed(&in_decibels(whole), &mut Random::new(i as u64))
+        }
     }
+}
+
+/// The record with its link margins in decibels.
+fn in_decibels(record: ValueTree) -> ValueTree {
+    let ValueTree::Context(mut entries) = record else {
+        return record;
+    };
+    for (name, margins) in &mut entries {
+        if *name != number("link margins") {
+            continue;
+        }
+        match margins {
+            ValueTree::Context(entries) => entries.iter_mut().for_each(|(_, v)| write_margin(v)),
+            ValueTree::List(items) => items.iter_mut().for_each(write_margin),
+            _ => {}
+        }
+    }
+    ValueTree::Context(entries)
+}
+
+/// Writes a margin in decibels where hundredths of a decibel stand: with one decimal, with two, with
+/// two in steps of a quarter, or as a whole number. Equal margins may be written differently.
+fn write_margin(v: &mut ValueTree) {
+    let ValueTree::Leaf(bytes) = v else {
+        return;
+    };
+    let [0x02, operands @ ..] = &bytes[..] else {
+        return;
+    };
+    let hundredths = i64::from_le_bytes(operands.try_into().expect("eight bytes"));
+    *bytes = match hundredths.rem_euclid(10) {
+        0..=3 => decimal(hundredths.div_euclid(10), 1),
+        4..=6 => decimal(hundredths, 2),
+        7 | 8 => decimal(hundredths - hundredths.rem_euclid(25), 2),
+        _ => whole_number(hundredths.div_euclid(100)),
+    };
 }
 
 /// The record of a request. Which parts it has depends on the house that sends it.
@@ -89,18 +131,18 @@ fn spacecraft(random: &mut Random) -> ValueTree {
 
 fn margins(random: &mut Random) -> ValueTree {
     context(vec![
-        ("downlink", decibels(random)),
-        ("uplink", decibels(random)),
+        ("downlink", hundredths(random)),
+        ("uplink", hundredths(random)),
     ])
 }
 
-/// A margin in hundredths of a decibel.
-fn decibels(random: &mut Random) -> ValueTree {
+/// A margin in hundredths of a decibel, as a whole number.
+fn hundredths(random: &mut Random) -> ValueTree {
     key(0x02, random.below(1_200) as i64 - 200)
 }
 
 fn numbers(count: usize, random: &mut Random) -> ValueTree {
-    ValueTree::List((0..count).map(|_| decibels(random)).collect())
+    ValueTree::List((0..count).map(|_| hundredths(random)).collect())
 }
 
 fn passes(rise: i64, count: usize, random: &mut Random) -> ValueTree {

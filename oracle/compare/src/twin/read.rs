@@ -9,6 +9,8 @@ enum Command {
     Free(usize),
     /// A leaf with one operand byte below the bound.
     Below(u8),
+    /// A leaf with eight free operand bytes and one that is at most 18.
+    Decimal,
     Range,
     List,
     Context,
@@ -19,7 +21,7 @@ enum Command {
     Function,
 }
 
-const VALUES: [Command; 16] = [
+const VALUES: [Command; 17] = [
     Command::Below(4),
     Command::Below(2),
     Command::Free(8),
@@ -36,6 +38,7 @@ const VALUES: [Command; 16] = [
     Command::Below(86),
     Command::TypeValue,
     Command::Free(0),
+    Command::Decimal,
 ];
 
 const TYPES: [Command; 14] = [
@@ -63,6 +66,7 @@ impl Command {
             Command::Below(_) | Command::Function => 1,
             Command::Range | Command::List | Command::Context | Command::ContextType => 2,
             Command::Definition => 3,
+            Command::Decimal => 9,
         }
     }
 }
@@ -126,7 +130,7 @@ pub fn judge(bytes: &[u8], types: bool, max_level: u32, first: u64) -> Result<u3
         }
         deepest = deepest.max(due.level);
         let command = match (due.types, bytes[at]) {
-            (false, byte @ 0x00..=0x0F) => VALUES[usize::from(byte)],
+            (false, byte @ 0x00..=0x10) => VALUES[usize::from(byte)],
             (true, byte @ 0x20..=0x2D) => TYPES[usize::from(byte - 0x20)],
             _ => Command::Unknown,
         };
@@ -149,6 +153,11 @@ pub fn judge(bytes: &[u8], types: bool, max_level: u32, first: u64) -> Result<u3
             Command::Free(_) => {}
             Command::Below(bound) => {
                 if bytes[operands] >= bound {
+                    return Err(form);
+                }
+            }
+            Command::Decimal => {
+                if bytes[at - 1] > 18 {
                     return Err(form);
                 }
             }

@@ -59,6 +59,7 @@ pub fn retrieved(v: &[u8], t: &[u8]) -> Option<Vec<u8>> {
             }
             (_, 0x20) | (0x09, 0x2B) | (0x0C, 0x2D) => out.extend(v),
             (leaf @ 0x01..=0x08, simple) if simple == leaf + 0x20 => out.extend(v),
+            (0x10, 0x22) => out.extend(v),
             _ => return None,
         }
     }
@@ -121,10 +122,21 @@ pub fn is_valid_range(v: &[u8]) -> bool {
     match (start[0], end[0]) {
         (0x00, 0x00) => false,
         (0x00, _) => v[1] < 2,
-        (0x02..=0x08, 0x00) => v[2] < 2,
-        (a @ 0x02..=0x08, b) if a == b => key(start) <= key(end),
+        (0x02..=0x08 | 0x10, 0x00) => v[2] < 2,
+        (0x02 | 0x10, 0x02 | 0x10) => digits(start) <= digits(end),
+        (a @ 0x03..=0x08, b) if a == b => key(start) <= key(end),
         _ => false,
     }
+}
+
+/// A number as its whole part, rounded down, and what is above it in 10^-18.
+fn digits(v: &[u8]) -> (i64, u64) {
+    let coefficient = key(&v[..9]);
+    let places = v.get(9).map_or(0, |exponent| u32::from(*exponent));
+    let divisor = 10i64.pow(places);
+    let above = coefficient.rem_euclid(divisor) as u64;
+    let whole = coefficient.div_euclid(divisor);
+    (whole, above * 10u64.pow(18 - places))
 }
 
 /// The number of a text, or the signed key of another leaf.

@@ -5,8 +5,10 @@ use super::bounds::{Side, put_bound};
 use super::conformance::conforms;
 use super::parts::{Part, end, parts};
 
-/// The type of each leaf 00 to 08.
-const LEAVES: [u8; 9] = [0x29, 0x21, 0x22, 0x23, 0x24, 0x25, 0x26, 0x27, 0x28];
+/// The type of each leaf 00 to 08, and of 10; 0 for other values.
+const LEAVES: [u8; 17] = [
+    0x29, 0x21, 0x22, 0x23, 0x24, 0x25, 0x26, 0x27, 0x28, 0, 0, 0, 0, 0, 0, 0, 0x22,
+];
 
 /// Where the value that starts at `at` ends: counts the values that are still to come, and the
 /// bytes of the name before each.
@@ -21,6 +23,7 @@ fn value_end(v: &[u8], mut at: usize) -> usize {
         match v[at] {
             0x00 | 0x01 | 0x0D => at += 2,
             0x02 | 0x04..=0x08 => at += 9,
+            0x10 => at += 10,
             0x03 => at += 3,
             0x09 => {
                 due.push((2, 0));
@@ -94,7 +97,7 @@ pub fn value_conforms(v: &[u8], t: &[u8]) -> bool {
             continue;
         }
         match (v[0], t[0]) {
-            (leaf @ 0x01..=0x08, simple) if LEAVES[usize::from(leaf)] == simple => {}
+            (leaf @ (0x01..=0x08 | 0x10), simple) if LEAVES[usize::from(leaf)] == simple => {}
             (0x09, 0x2B) | (0x0A, 0x2A) => {
                 owed.extend(children(v).into_iter().map(|(_, child)| (child, &t[1..])));
             }
@@ -123,7 +126,7 @@ pub fn value_conforms(v: &[u8], t: &[u8]) -> bool {
 /// from the last to the first.
 pub fn least(v: &[u8]) -> Option<Vec<u8>> {
     match v[0] {
-        leaf @ 0x00..=0x08 => Some(vec![LEAVES[usize::from(leaf)]]),
+        leaf @ (0x00..=0x08 | 0x10) => Some(vec![LEAVES[usize::from(leaf)]]),
         0x09 | 0x0A => {
             let mut inner = vec![0x29];
             for (_, child) in children(v).into_iter().rev() {
@@ -151,7 +154,7 @@ pub fn least(v: &[u8]) -> Option<Vec<u8>> {
 pub fn inferred(v: &[u8]) -> Vec<u8> {
     let of_children = || children(v).into_iter().map(|(_, child)| inferred(child));
     match v[0] {
-        leaf @ 0x00..=0x08 => vec![LEAVES[usize::from(leaf)]],
+        leaf @ (0x00..=0x08 | 0x10) => vec![LEAVES[usize::from(leaf)]],
         0x09 => {
             let ends: Vec<Vec<u8>> = of_children().collect();
             let equal = ends[0] == ends[1];

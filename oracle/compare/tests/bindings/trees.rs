@@ -49,7 +49,7 @@ fn feel_value(v: &Value) -> FeelValue {
     match v {
         Value::Null(trace) => FeelValue::Null(message(*trace)),
         Value::Boolean(truth) => FeelValue::Boolean(*truth),
-        Value::Number(key) => FeelValue::Number(FeelNumber(*key)),
+        Value::Number(key) => FeelValue::Number(FeelNumber::whole(*key)),
         Value::String(number) => FeelValue::String(text(*number)),
         Value::Date(key) => FeelValue::Date(FeelDate(*key)),
         Value::Time(key) => FeelValue::Time(FeelTime(*key)),
@@ -90,6 +90,9 @@ fn feel_value(v: &Value) -> FeelValue {
         }
         Value::FeelType(t) => FeelValue::FeelType(feel_type(t)),
         Value::Irrelevant => FeelValue::Irrelevant,
+        Value::Decimal(coefficient, exponent) => {
+            FeelValue::Number(FeelNumber::decimal(*coefficient, *exponent))
+        }
     }
 }
 
@@ -138,6 +141,29 @@ fn values_are_read_and_written_as_document_01_says() {
         assert_eq!(write_value(&feel_value(&value)), bytes);
     });
     assert!(accepted > 300, "{accepted} accepted");
+}
+
+/// The exponent is judged by the library, not by the constructor.
+#[test]
+fn decimals_are_refused_as_document_02_says() {
+    for exponent in 0..=255 {
+        let bytes = [&[0x10], &(-75i64).to_le_bytes()[..], &[exponent]].concat();
+        let written = Value::decimal(-75, exponent).to_bytes();
+        let read = Value::from_bytes(&bytes);
+        if exponent <= 18 {
+            assert_eq!(written, Ok(bytes));
+            assert_eq!(read, Ok(Value::Decimal(-75, exponent)));
+        } else {
+            assert_eq!(written.map_err(|refusal| refusal.number()), Err(2));
+            assert_eq!(read.map_err(|refusal| refusal.number()), Err(2));
+        }
+        for end in 0..10 {
+            let cut = &Value::decimal(-75, 0).to_bytes().expect("accepted")[..end];
+            let refusal = if end == 0 { 1 } else { 2 };
+            let read = Value::from_bytes(cut).map_err(|refusal| refusal.number());
+            assert_eq!(read, Err(refusal));
+        }
+    }
 }
 
 #[test]

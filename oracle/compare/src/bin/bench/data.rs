@@ -1,12 +1,33 @@
-//! The random records, as bytes. Each set has about 200,000 bytes and is the same in every run.
+//! The random records, as bytes. Each set has about 200,000 bytes and is the same in every run. Their
+//! numbers are whole, so that they are those of the tables before there were decimals, and an earlier
+//! library may be asked; decimals have rows of their own, and stand in the week.
 
-use crate::ours::{one, two};
+use crate::ours::{Both, One, both, one, two};
 use compare::library::{feel_check_type, feel_check_value, feel_type_is_conformant};
-use feel_cases::{ANY, Kind, Move, Parts, Random, Tree, ValueTree, near, random_draft};
+use feel_cases::{ANY, Kind, Move, Parts, Random, Tree, ValueTree, decimal, near, random_draft};
 use feel_form::calls;
 
 /// The bytes of the first arguments of a set, about.
 pub const SET: usize = 200_000;
+
+/// The random numbers of a set.
+pub fn random() -> Random {
+    Random::new(7).without_decimals()
+}
+
+/// Whether the earlier library reads decimals; yes where none is linked.
+pub fn are_decimals_known() -> bool {
+    let Both { before, .. } = both!(feel_check_value as One);
+    before.is_none_or(|before| one(before, &decimal(25, 1)) >> 32 == 0)
+}
+
+/// Both functions, the earlier one only if it reads decimals.
+pub fn for_decimals<F>(function: Both<F>) -> Both<F> {
+    Both {
+        before: function.before.filter(|_| are_decimals_known()),
+        ..function
+    }
+}
 
 /// Accepted records of these lengths, of any kind.
 pub fn records(kind: Kind, least: usize, most: usize) -> Vec<Vec<u8>> {
@@ -24,7 +45,7 @@ fn chosen_records(
     most: usize,
     is_chosen: fn(&[u8]) -> bool,
 ) -> Vec<Vec<u8>> {
-    let mut random = Random::new(7);
+    let mut random = random();
     let mut records = vec![];
     let mut bytes = 0;
     while bytes < SET {
@@ -54,7 +75,7 @@ pub fn values(least: usize, most: usize) -> Vec<Vec<u8>> {
 
 /// The same with names at this distance.
 pub fn named_values(least: usize, most: usize, step: u16) -> Vec<Vec<u8>> {
-    let mut random = Random::new(7);
+    let mut random = random();
     let mut values = vec![];
     let mut bytes = 0;
     while bytes < SET {
@@ -103,7 +124,7 @@ fn holds_any(tree: &Tree) -> bool {
 /// Accepted types of these lengths, each with one near it to which it conforms and which is not
 /// much shorter. Every function has a parameter, so that its result counts.
 pub fn pairs(least: usize, most: usize) -> Vec<[Vec<u8>; 2]> {
-    let mut random = Random::new(7);
+    let mut random = random();
     let mut pairs = vec![];
     let mut bytes = 0;
     while bytes < SET {

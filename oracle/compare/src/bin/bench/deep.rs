@@ -1,7 +1,7 @@
 //! Updates near level 31: paths of many names through contexts inside each other, results that are
 //! too deep, and moves in large contexts.
 
-use crate::data::{SET, named_values};
+use crate::data::{SET, named_values, random};
 use crate::measure::{Measured, Refusal, contest, nothing};
 use crate::others::with_last;
 use crate::ours::{Both, Bytes, PathPut, ROOM, both, path_put};
@@ -103,7 +103,7 @@ fn too_deep(function: Both<PathPut>, rust: fn(&[u8], &[u16], &[u8], usize) -> By
 
 /// As many as a set has.
 fn set(mut place: impl FnMut(&mut Random) -> Place) -> Vec<Place> {
-    let mut random = Random::new(7);
+    let mut random = random();
     let mut places: Vec<Place> = vec![];
     let mut bytes = 0;
     while bytes < SET {

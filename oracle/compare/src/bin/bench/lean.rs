@@ -4,6 +4,7 @@
 //! answer.
 
 mod conformance;
+mod ranges;
 mod read;
 #[cfg(test)]
 mod tests;
@@ -36,6 +37,13 @@ pub fn value_is_conformant(v: &[u8], t: &[u8]) -> Result<bool, u8> {
     read_value(v)?;
     read_type(t)?;
     Ok(conformance::of_value(v, t))
+}
+
+/// Whether a range is valid.
+#[inline(never)]
+pub fn value_is_valid_range(v: &[u8]) -> Result<bool, u8> {
+    read_value(v)?;
+    Ok(v[0] == 0x09 && ranges::is_valid(v))
 }
 
 #[inline(never)]

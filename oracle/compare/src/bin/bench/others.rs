@@ -1,13 +1,16 @@
 //! Accepted records beside the usual ones: those of the answer no, single leaves, nulls, function
-//! definitions and type values.
+//! definitions, type values and decimal numbers.
 
-use crate::data::{self, SET, accepts, own_type};
+use crate::data::{self, SET, accepts, for_decimals, own_type};
+use crate::lean;
+use crate::measure::{Measured, contest};
+use crate::ours::{One, both, one};
 use crate::stock::{Record, Size, Stock, feel_type, pairs, records, value};
 use crate::table::Table;
 use crate::types::{self, Types};
 use crate::values::{self, ValueAndType};
 use dsntk_feel::values::Value;
-use feel_cases::{Kind, Random, Tree, ValueTree, random_draft};
+use feel_cases::{Kind, Random, Tree, ValueTree, decimal, near_number, random_draft};
 use feel_form::calls;
 
 pub fn run(stocks: &[Stock], table: &mut Table) {
@@ -29,6 +32,69 @@ pub fn run(stocks: &[Stock], table: &mut Table) {
     table.each_at("check_value", "type-values", stocks, |stock| {
         types::reading(&type_values(stock.size))
     });
+    table.each_at("check_value", "decimals", stocks, |stock| {
+        let function = for_decimals(both!(feel_check_value as One));
+        types::reading_by(function, &decimals(stock.size))
+    });
+    table.one_at("value_is_valid_range", "decimals", || {
+        validity(&ranges_of_numbers())
+    });
+}
+
+/// `value_is_valid_range`.
+fn validity(values: &[Record<Value>]) -> Measured {
+    contest(
+        values,
+        for_decimals(both!(feel_value_is_valid_range as One)),
+        |f, v| one(f, &v.bytes),
+        |v| calls::value_is_valid_range(&v.bytes),
+        Some(|v: &Record<Value>| lean::value_is_valid_range(&v.bytes)),
+        Some(|v: &Record<Value>| v.tree.is_valid_range()),
+    )
+}
+
+/// Lists of decimals, of the size.
+fn decimals(Size { least, most, .. }: Size) -> Vec<Record<Value>> {
+    let mut random = Random::new(7);
+    let mut all = vec![];
+    let mut bytes = 0;
+    while bytes < SET {
+        let count = (least + random.below(most - least - 9))
+            .saturating_sub(3)
+            .div_ceil(10);
+        let mut v = vec![0x0A];
+        v.extend((count as u16).to_le_bytes());
+        for _ in 0..count {
+            v.extend(any_decimal(&mut random));
+        }
+        bytes += v.len();
+        all.push(v);
+    }
+    records(all.into_iter(), value)
+}
+
+/// Ranges of two numbers near each other, at least one of them a decimal.
+fn ranges_of_numbers() -> Vec<Record<Value>> {
+    let mut random = Random::new(7);
+    let range = |_| {
+        let start = any_decimal(&mut random);
+        let end = match random.below(4) {
+            0 => any_decimal(&mut random),
+            _ => near_number(&start, &mut random),
+        };
+        let ends = match random.below(2) {
+            0 => [start, end],
+            _ => [end, start],
+        };
+        [&[0x09, 2, 2], &ends.concat()[..]].concat()
+    };
+    records((0..5_000).map(range), value)
+}
+
+/// A decimal with any exponent and any count of digits.
+fn any_decimal(random: &mut Random) -> Vec<u8> {
+    let coefficient = random.bits() as i64 >> random.below(64);
+    decimal(coefficient, random.below(19) as u8)
 }
 
 /// Two contexts of types: the first entries conform, the last are a number and a string.

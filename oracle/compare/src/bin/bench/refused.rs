@@ -1,14 +1,14 @@
 //! Refused records: cut one byte short, for the readers and for either argument of both
 //! conformances, and with names that do not ascend near the end, for the readers.
 
-use crate::data::{SET, accepts};
+use crate::data::{SET, accepts, random};
 use crate::lean;
 use crate::measure::{Given, Measured, Refusal, contest, nothing};
 use crate::ours::{Both, One, Two, both, one, two};
 use crate::stock::{Pair, Size, Stock};
 use crate::table::Table;
 use crate::values::with_own_types;
-use feel_cases::{Kind, Random, random_draft};
+use feel_cases::{Kind, random_draft};
 use feel_form::{calls, read_type, read_value};
 
 /// The arguments of a call that refuses them.
@@ -72,7 +72,7 @@ fn cut(record: &[u8]) -> Vec<u8> {
 /// Records of the size that are accepted but for one name in their last quarter, which is that of
 /// the entry before it.
 fn unordered(kind: Kind, Size { least, most, .. }: Size) -> Vec<Args<1>> {
-    let mut random = Random::new(7);
+    let mut random = random();
     let mut records = vec![];
     let mut bytes = 0;
     while bytes < SET {

@@ -8,7 +8,7 @@ use std::cmp::Ordering;
 const LINEAR: f64 = 1.5;
 
 /// The places in a record, and the kinds of records, that a row may be of.
-pub const PLACES: [&str; 18] = [
+pub const PLACES: [&str; 19] = [
     "first",
     "last",
     "front",
@@ -22,6 +22,7 @@ pub const PLACES: [&str; 18] = [
     "null",
     "definitions",
     "type-values",
+    "decimals",
     "deep-30",
     "last-30",
     "new-10",

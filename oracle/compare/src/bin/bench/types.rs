@@ -89,9 +89,14 @@ pub fn run(stocks: &[Stock], table: &mut Table) {
 
 /// `check_value`.
 pub fn reading(values: &[Record<Value>]) -> Measured {
+    reading_by(both!(feel_check_value as One), values)
+}
+
+/// The same by these functions.
+pub fn reading_by(function: Both<One>, values: &[Record<Value>]) -> Measured {
     contest(
         values,
-        both!(feel_check_value as One),
+        function,
         |f, v| one(f, &v.bytes),
         |v| read_value(&v.bytes).map(|(_, level)| level),
         Some(|v: &Record<Value>| lean::check_value(&v.bytes)),

@@ -2,12 +2,16 @@
 //! missions.
 
 use crate::contexts::search;
+use crate::data::are_decimals_known;
 use crate::stock::{Spot, feel_type, pairs, records, spots, value};
 use crate::table::Table;
 use crate::types::{Types, conformance, reading, supertypes};
 use crate::updates::{creation, setting};
 use crate::values::{self, TypeAndValue, ValueAndType};
-use feel_form::{calls, read_value};
+use dsntk_feel::context::FeelContext;
+use dsntk_feel::values::Value;
+use dsntk_feel_number::FeelNumber;
+use feel_form::{calls, read_value, write_value};
 use std::fs;
 
 const FOLDER: &str = concat!(env!("CARGO_MANIFEST_DIR"), "/../../examples/week");
@@ -29,6 +33,11 @@ const A_WINDOW: [u8; 21] = [
 pub fn run(table: &mut Table) {
     let mut requests = lines("requests.txt");
     requests.retain(|request| read_value(request).is_ok());
+    if !are_decimals_known() {
+        println!("decimals as whole numbers: the earlier library does not read them");
+        let whole = |request: &Vec<u8>| write_value(&in_whole(value(request.clone()).tree));
+        requests = requests.iter().map(whole).collect();
+    }
     let missions = lines("missions.txt");
     let values = records(requests.iter().cloned(), value);
     table.one("check_value", "week", || reading(&values));
@@ -63,6 +72,28 @@ pub fn run(table: &mut Table) {
         let spots: Vec<Spot> = spots.map(|spot| spot.putting(&A_WINDOW)).collect();
         setting(&spots)
     });
+}
+
+/// The value with the coefficient of each decimal as a whole number.
+fn in_whole(v: Value) -> Value {
+    match v {
+        Value::Number(number) => Value::Number(FeelNumber::whole(number.coefficient())),
+        Value::Range(start, start_type, end, end_type) => Value::Range(
+            Box::new(in_whole(*start)),
+            start_type,
+            Box::new(in_whole(*end)),
+            end_type,
+        ),
+        Value::List(items) => Value::List(items.into_iter().map(in_whole).collect()),
+        Value::Context(entries) => {
+            let mut context = FeelContext::new();
+            for (name, entry) in entries.iter() {
+                context.set_entry(name, in_whole(entry.clone()));
+            }
+            Value::Context(context)
+        }
+        other => other,
+    }
 }
 
 /// The records of a file: in each line the last word, in hexadecimal.

@@ -83,6 +83,7 @@ fn values(v: &[u8], i: usize, t: &[u8], j: usize) -> Ends {
         (command @ 0x01..=0x08, other) => {
             (other == 0x20 + command).then(|| (skip_value(v, i), j + 1))
         }
+        (0x10, other) => (other == 0x22).then_some((i + 10, j + 1)),
         (command, other) => parents(command, v, i + 1, other, t, j + 1),
     }
 }

@@ -115,6 +115,7 @@ fn parent(command: u8, s: &[u8], at: usize, level: usize, levels: &mut Levels) -
         0x0D => at_most(85, s, at),
         0x0E => feel_type(s, at, level, levels),
         0x0F => Ok(at),
+        0x10 => at_most(18, s, at + 8),
         _ => Err(FORM),
     }
 }

@@ -3,7 +3,7 @@
 
 use super::{
     check_type, check_value, context_get_entry, context_search_deep, type_instance_of,
-    type_is_conformant, value_is_conformant,
+    type_is_conformant, value_is_conformant, value_is_valid_range,
 };
 use compare::answer::Answer;
 use compare::call::{Case, Options};
@@ -96,6 +96,13 @@ fn types_conform() {
 fn values_conform() {
     agree("value_is_conformant", |args| {
         yes_or_no(value_is_conformant(args[0], args[1]))
+    });
+}
+
+#[test]
+fn ranges_are_valid() {
+    agree("value_is_valid_range", |args| {
+        yes_or_no(value_is_valid_range(args[0]))
     });
 }
 

@@ -73,6 +73,7 @@ fn skip_values(command: u8, s: &[u8], at: usize) -> usize {
         }
         0x0D => at + 1,
         0x0E => skip_type(s, at),
+        0x10 => at + 9,
         _ => at,
     }
 }
