@@ -2,7 +2,7 @@
 -- Idea: one view of every byte (`view`); all else is read off it.
 -- Index: `View`, `ViewV`, `ViewT`, `view` (the view); `kind-simple`, `kind-temporal` (ranges of commands); `width-is`, `there`, `arm` (operands of an arm);
 -- `range-width`, `width-other`, `width-none` (widths by the byte); `leaf-low`, `leaf-decimal`, `leaf-high`, `leaf-either` (the commands of leaves of data); `key-width`, `flag-width`, `decimal-width`,
--- `low-width`, `high-width`, `low-is` (their widths); `sized-none`, `sized-leaf`, `leaf-wide`, `leaf-command` (their sizes); `null-type`, `low-type`, `decimal-type`, `no-type`,
+-- `low-width`, `high-width`, `low-is` (their widths); `sized-none`, `sized-leaf`, `leaf-wide` (their sizes); `null-type`, `low-type`, `decimal-type`, `no-type`,
 -- `leaf-type-in`, `plain-type-in` (their types).
 -- Assumes nothing.
 use Prim.Native.Nat.{ℕ, _+_, _<_, _≤_}
@@ -280,13 +280,6 @@ sized-leaf c w e n = go (isLeafCommand c) refl
 
 pub leaf-wide : (c n : ℕ) → n ≡ pick (isLeafCommand c) (widthOf c + 1) 0 → isLeafCommand c ≡ true → n ≡ widthOf c + 1
 leaf-wide c n e h = rw h at e
-
-pub leaf-command : (c n : ℕ) → n ≡ pick (isLeafCommand c) (widthOf c + 1) 0 → 0 < n → (isLeafCommand c ≡ true) × (n ≡ widthOf c + 1)
-leaf-command c n e z = go (isLeafCommand c) refl
-  where
-    go : (t : Bool) → isLeafCommand c ≡ t → (isLeafCommand c ≡ true) × (n ≡ widthOf c + 1)
-    go true q = (q, rw q at e)
-    go false q = absurd (let f = rw q at e in omega arith)
 
 -- ---- the type of a leaf by its command
 pub null-type : (c : ℕ) → c ≡ 0 → 0x29 ≡ leafTypeCommand c
