@@ -148,18 +148,21 @@ module _ (l m : ℕ) (v : List ℕ) (at : ℕ) (t : List ℕ) (bt : ℕ) where
           unfolding kindAt leafTypeCommand
           leaf-is-null c = tests (leaf-null (P .x) (T .x) (short-data (P .x) (P .leafy)) (leaf-kind ∙ ap kindAt c))
 
-          to-any-leaf : getD t bt 0 ≡ 32 → Met (heldBy leafConforms (valueAt l (drop at v)) (typeAt m (drop bt t))) n 1
-          to-any-leaf d = tests (to-any (P .x) (T .x) (cmd-there (T .x) (T .read) ∙ d))
-
-          own-leaf : getD t bt 0 ≡ leafTypeCommand (getD v at 0) → Met (heldBy leafConforms (valueAt l (drop at v)) (typeAt m (drop bt t))) n 1
-          own-leaf d = tests (leaf-same (P .x) (T .x) (short-data (P .x) (P .leafy)) (simple-is (T .x) (omega (arith, cmd-there (T .x) (T .read))))
-              (leaf-kind ∙ kind-leaf (getD v at 0) leafy ∙ sym d ∙ sym (cmd-there (T .x) (T .read))))
-
         pub leaf-to-any : getD t bt 0 ≡ 32 → Met (heldBy leafConforms (valueAt l (drop at v)) (typeAt m (drop bt t))) n 1
-        leaf-to-any d = to-any-leaf (omega arith) (omega arith) d
+        leaf-to-any d =
+            let lo : 32 ≤ getD t bt 0 = omega arith in
+            let hi : getD t bt 0 ≤ 41 = omega arith in
+            let S = T lo hi in
+            tests lo hi (to-any (P .x) (S .x) (cmd-there (S .x) (S .read) ∙ d))
 
         pub leaf-to-own : getD t bt 0 ≡ leafTypeCommand (getD v at 0) → Met (heldBy leafConforms (valueAt l (drop at v)) (typeAt m (drop bt t))) n 1
-        leaf-to-own d = let b = leaf-type-in (getD v at 0) leafy in own-leaf (omega arith) (omega arith) d
+        leaf-to-own d =
+            let b = leaf-type-in (getD v at 0) leafy in
+            let lo : 32 ≤ getD t bt 0 = omega arith in
+            let hi : getD t bt 0 ≤ 41 = omega arith in
+            let S = T lo hi in
+            tests lo hi (leaf-same (P .x) (S .x) (short-data (P .x) (P .leafy)) (simple-is (S .x) (omega (arith, cmd-there (S .x) (S .read))))
+            (leaf-kind ∙ kind-leaf (getD v at 0) leafy ∙ sym d ∙ sym (cmd-there (S .x) (S .read))))
 
 -- a leaf that conforms conforms as a value
 pub leaf-pair : (l m : ℕ) (v : List ℕ) (at : ℕ) (t : List ℕ) (bt n : ℕ) → Met (heldBy leafConforms (valueAt l (drop at v)) (typeAt m (drop bt t))) n 1 → (n ≡ 0 → ⊥)
@@ -183,20 +186,37 @@ leaf-pair l m v at t bt n w z =
     last false b c e = absurd (true≢false (sym e))
 
 -- ---- the returns of `conforms` and `conform_other`
+-- to a simple type that every value there conforms to
+module _ (l m : ℕ) (v t : List ℕ) (n : ℕ) (e : n ≡ sizeAtV (valueAt l (take (length v - 0) (drop 0 v)))) where
+  abbrev simple-there : Ty
+  simple-there = leaf (decode (getD t 0 0 - 32))
+
+  met-simple : typeAt m t ≡ some simple-there → ((x : Val) → valueAt l v ≡ some x → conforms fixed x simple-there ≡ true) → Met (held (valueAt l v) (typeAt m t)) n 1
+  unfolding size sizeAtV
+  met-simple T f = go (valueAt l v) refl
+    where
+      size-is : n ≡ sizeAtV (valueAt l v)
+      size-is = e ∙ ap (λ r. sizeAtV (valueAt l r)) (rest v 0)
+
+      go : (r : Option Val) → valueAt l v ≡ r → Met (held (valueAt l v) (typeAt m t)) n 1
+      go (some x) r = met-yes (both sizeVal size valueConformsTo (valueAt l v) (typeAt m t) x simple-there r T ∙ ap (λ q. judge q (sizeVal x) 1) (f x r)) (size-is ∙ ap sizeAtV r) refl
+      go none r = met-no n 1 (no-when sizeVal size valueConformsTo (valueAt l v) (typeAt m t) (λ x y g k. absurd (none-some (sym r ∙ g)))) (size-is ∙ ap sizeAtV r)
+
 pub met-any : (l m : ℕ) (v t : List ℕ) → 0 < m → 0 < length t → getD t 0 0 ≡ 32 → (n : ℕ) → n ≡ sizeAtV (valueAt l (take (length v - 0) (drop 0 v))) → Met (held (valueAt l v) (typeAt m t)) n 1
-unfolding size sizeAtV
-met-any l m v t p h d n e = go (valueAt l v) refl
-  where
-    T : typeAt m t ≡ some (leaf (decode (getD t 0 0 - 32)))
-    T = forward.read-simple m t p h (omega arith) (omega arith)
+met-any l m v t p h d n e =
+    let y = leaf (decode (getD t 0 0 - 32)) in
+    let T = forward.read-simple m t p h (omega arith) (omega arith) in
+    met-simple l m v t n e T (λ x r. to-any x y (cmd-is m t y T ∙ d))
 
-    size-is : n ≡ sizeAtV (valueAt l v)
-    size-is = e ∙ ap (λ r. sizeAtV (valueAt l r)) (rest v 0)
-
-    go : (r : Option Val) → valueAt l v ≡ r → Met (held (valueAt l v) (typeAt m t)) n 1
-    go (some x) r = met-yes (both sizeVal size valueConformsTo (valueAt l v) (typeAt m t) x (leaf (decode (getD t 0 0 - 32))) r T
-        ∙ ap (λ q. judge q (sizeVal x) 1) (to-any x (leaf (decode (getD t 0 0 - 32))) (cmd-is m t (leaf (decode (getD t 0 0 - 32))) T ∙ d))) (size-is ∙ ap sizeAtV r) refl
-    go none r = met-no n 1 (no-when sizeVal size valueConformsTo (valueAt l v) (typeAt m t) (λ x y f g. absurd (none-some (sym r ∙ f)))) (size-is ∙ ap sizeAtV r)
+-- another leaf of data, and its own type
+pub met-plain : (l m : ℕ) (v t : List ℕ) → 0 < m → 0 < length t → isLeafCommand (getD v 0 0) ≡ true → getD t 0 0 ≡ leafTypeCommand (getD v 0 0) → (n : ℕ)
+    → n ≡ sizeAtV (valueAt l (take (length v - 0) (drop 0 v))) → Met (held (valueAt l v) (typeAt m t)) n 1
+met-plain l m v t p h k d n e =
+    let b = leaf-type-in (getD v 0 0) k in
+    let y = leaf (decode (getD t 0 0 - 32)) in
+    let T = forward.read-simple m t p h (omega (arith, d, b)) (omega (arith, d, b)) in
+    met-simple l m v t n e T (λ x r.
+    leaf-same x y (ap isDataLeaf (as-leaf l v x r k .is)) refl (kind-is l v x r ∙ kind-leaf (getD v 0 0) k ∙ sym d ∙ sym (cmd-is m t y T)))
 
 -- what `conform_other` is asked, and told
 pub other-short : (v : List ℕ) → length v < 3 → 3 ≤ length (take (length v - 0) (drop 0 v)) → 9 ≤ getD (take (length v - 0) (drop 0 v)) 0 0 → 11 < getD (take (length v - 0) (drop 0 v)) 0 0
@@ -272,31 +292,6 @@ met-null l m v t n room h z c k T =
     let P = passed-leaf l v n room h z in
     met-yes (both sizeVal size valueConformsTo (valueAt l v) (typeAt m t) (P .x) (T .x) (P .read) (T .read)
     ∙ ap (λ q. judge q (sizeVal (P .x)) (size (T .x))) (leaf-null (P .x) (T .x) (short-data (P .x) (P .leafy)) (kind-is l v (P .x) (P .read) ∙ ap kindAt c))) (P .is) (T .is)
-
--- another leaf of data, and its own type
-pub met-plain : (l m : ℕ) (v t : List ℕ) → 0 < m → 0 < length t → isLeafCommand (getD v 0 0) ≡ true → getD t 0 0 ≡ leafTypeCommand (getD v 0 0) → (n : ℕ)
-    → n ≡ sizeAtV (valueAt l (take (length v - 0) (drop 0 v))) → Met (held (valueAt l v) (typeAt m t)) n 1
-unfolding size sizeAtV
-met-plain l m v t p h k d n e = go (valueAt l v) refl
-  where
-    b : (0x21 ≤ leafTypeCommand (getD v 0 0)) × (leafTypeCommand (getD v 0 0) ≤ 0x29)
-    b = leaf-type-in (getD v 0 0) k
-
-    y : Ty
-    y = leaf (decode (getD t 0 0 - 32))
-
-    T : typeAt m t ≡ some y
-    T = forward.read-simple m t p h (omega (arith, d, b)) (omega (arith, d, b))
-
-    size-is : n ≡ sizeAtV (valueAt l v)
-    size-is = e ∙ ap (λ r. sizeAtV (valueAt l r)) (rest v 0)
-
-    own : (x : Val) → valueAt l v ≡ some x → conforms fixed x y ≡ true
-    own x r = leaf-same x y (ap isDataLeaf (as-leaf l v x r k .is)) refl (kind-is l v x r ∙ kind-leaf (getD v 0 0) k ∙ sym d ∙ sym (cmd-is m t y T))
-
-    go : (r : Option Val) → valueAt l v ≡ r → Met (held (valueAt l v) (typeAt m t)) n 1
-    go (some x) r = met-yes (both sizeVal size valueConformsTo (valueAt l v) (typeAt m t) x y r T ∙ ap (λ q. judge q (sizeVal x) 1) (own x r)) (size-is ∙ ap sizeAtV r) refl
-    go none r = met-no n 1 (no-when sizeVal size valueConformsTo (valueAt l v) (typeAt m t) (λ x z f g. absurd (none-some (sym r ∙ f)))) (size-is ∙ ap sizeAtV r)
 
 -- ---- ranges, lists, contexts
 two-of : (l : ℕ) (s : List ℕ) (vs : Vals) → itemsAt l 2 s ≡ some vs → (a : Val) × (b : Val) × (vs ≡ item a (item b no-items))
