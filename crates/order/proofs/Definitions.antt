@@ -7,12 +7,12 @@ use mathlib.Core.Path.{_≡_, refl, sym, _∙_, ap₂, subst}
 use mathlib.Core.Bool.{true, _&&_}
 use Rattle.form.specs.Trees.{Ty, leaf, built, list, range, context, function, Tys, no-params, param, Params, no-parameters, v-function}
 use Rattle.form.specs.Form.{WfParams}
-use Rattle.order.specs.Order.{up, fixed}
+use Rattle.order.specs.Order.{up, fixed, strictOrder}
 use Rattle.order.specs.Types.{cmp, les}
 use Rattle.order.specs.Document.{conformsTo}
 use Rattle.order.specs.Values.{typesOf, conforms}
 use Rattle.order.specs.Inferred.{valueConformsTo}
-use Rattle.order.specs.Dmn.{strictOrder, dmnConformsTo, definitionType}
+use Rattle.order.specs.Dmn.{dmnConformsTo, definitionType}
 use Rattle.order.proofs.Simple.{fixed-laws, flat-laws}
 use Rattle.order.proofs.Conform.{cmps-refl}
 use Rattle.order.proofs.Sentences.{le-functions}

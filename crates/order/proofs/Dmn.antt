@@ -9,10 +9,10 @@ use mathlib.Core.Option.{Option, none, some}
 use mathlib.Core.Logic.{_↔_, _⊎_, inl, inr}
 use lib.Dec.{eqb}
 use Rattle.form.specs.Trees.{any, Ty, leaf, built, Built, list, range, context, function, Fields, no-fields, field, Tys, no-params, param}
-use Rattle.order.specs.Order.{Dir, up, down, flip, pick, fixed}
+use Rattle.order.specs.Order.{Dir, up, down, flip, pick, fixed, strictOrder}
 use Rattle.order.specs.Types.{lookup, found, allFields, empty, ignores, cmp, cmpBuilt, has, within, cmps, reduce, reduceBuilt, reduceFields, reduceTys}
 use Rattle.order.specs.Document.{conformsTo, reducedForm}
-use Rattle.order.specs.Dmn.{strictOrder, dmnConformsTo, if-found, results, resultsBuilt, resultsHas, resultsWithin, resultsTys, resultsConform, Some, Parameters, ParametersBuilt}
+use Rattle.order.specs.Dmn.{dmnConformsTo, if-found, results, resultsBuilt, resultsHas, resultsWithin, resultsTys, resultsConform, Some, Parameters, ParametersBuilt}
 use Rattle.order.specs.Dmn.{ParametersFields, ParametersTys}
 use Rattle.order.proofs.Simple.{fixed-laws, and-left, and-both}
 use Rattle.order.proofs.Bools.{and-true, and-mix}

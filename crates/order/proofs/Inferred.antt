@@ -13,11 +13,11 @@ use borrow.Author.Tests.{ne-eqb, eq-eqb}
 use Rattle.form.specs.Trees.{any, null, Ty, leaf, built, Built, list, range, context, function, Fields, no-fields, field, Val, v-leaf, v-range, v-list, v-context, v-function, v-built-in, v-type}
 use Rattle.form.specs.Trees.{v-irrelevant, Vals, no-items, item, Entries, no-entries, entry}
 use Rattle.form.specs.Form.{Wf, WfV, WfVals, WfEntries}
-use Rattle.order.specs.Order.{fixed}
+use Rattle.order.specs.Order.{fixed, strictOrder}
 use Rattle.order.specs.Types.{lookup, found, allFields, cmp}
 use Rattle.order.specs.Ascending.{Asc, AscBuilt, AscFields}
 use Rattle.order.specs.Document.{conformsTo, eqTy, eqFields, nullOrSame, instanceBuilt, isInstanceOf}
-use Rattle.order.specs.Dmn.{strictOrder, dmnConformsTo}
+use Rattle.order.specs.Dmn.{dmnConformsTo}
 use Rattle.order.specs.Values.{leafType, toList, conforms, allConform, hasValue, isDataBy, areData, holdData}
 use Rattle.order.specs.Inferred.{valueConformsTo, isData, leastType, listType, typeOf, firstType, itemsBelow, entryTypes}
 use Rattle.order.proofs.Simple.{fixed-laws, flat-laws, and-left, and-right, and-both}

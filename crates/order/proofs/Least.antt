@@ -63,21 +63,21 @@ module _ (O : Order) where
   unfolding cmp
   has-some n m a fs u = refl
 
-  to-range-ext : (t : Ty) (f g : Ty → Bool) → ((u : Ty) → f u ≡ g u) → toRange O t f ≡ toRange O t g
+  pub to-range-ext : (t : Ty) (f g : Ty → Bool) → ((u : Ty) → f u ≡ g u) → toRange O t f ≡ toRange O t g
   to-range-ext (leaf s) f g h = refl
   to-range-ext (built (list u)) f g h = refl
   to-range-ext (built (range u)) f g h = h u
   to-range-ext (built (context fs)) f g h = refl
   to-range-ext (built (function qs s)) f g h = refl
 
-  to-list-ext : (t : Ty) (f g : Ty → Bool) → ((u : Ty) → f u ≡ g u) → toList O t f ≡ toList O t g
+  pub to-list-ext : (t : Ty) (f g : Ty → Bool) → ((u : Ty) → f u ≡ g u) → toList O t f ≡ toList O t g
   to-list-ext (leaf s) f g h = refl
   to-list-ext (built (list u)) f g h = h u
   to-list-ext (built (range u)) f g h = refl
   to-list-ext (built (context fs)) f g h = refl
   to-list-ext (built (function qs s)) f g h = refl
 
-  to-context-ext : (t : Ty) (f g : Fields → Bool) → ((fs : Fields) → f fs ≡ g fs) → toContext O t f ≡ toContext O t g
+  pub to-context-ext : (t : Ty) (f g : Fields → Bool) → ((fs : Fields) → f fs ≡ g fs) → toContext O t f ≡ toContext O t g
   to-context-ext (leaf s) f g h = refl
   to-context-ext (built (list u)) f g h = refl
   to-context-ext (built (range u)) f g h = refl

@@ -12,11 +12,15 @@ pub mod Holds
 pub mod WellFormed
 pub mod Reduced
 pub mod Dmn
+pub mod DmnRules
+pub mod StrictBounds
+pub mod Strict
 pub mod Theorems
 pub mod Least
 pub mod LeastSize
 pub mod TypeOf
 pub mod DataDmn
+pub mod DataReadings
 pub mod Inferred
 pub mod Definitions
 pub mod ValueTheorems

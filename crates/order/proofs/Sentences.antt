@@ -1,7 +1,8 @@
 -- Document 01's sentences hold (specs/Sentences.antt). Idea: most of them compute (proofs/Alone.antt); the two that speak of names are inductions on a context.
 -- Before the record stand equations over every order that proofs about code cite: context and function types, and two ascending lists of names taken in step.
 -- Index: `sentences` (the record); `le-contexts`, `le-functions` (conformance); `sup-fields-first`, `sup-fields-second`, `sup-fields-both` (common names in step);
--- `sub-fields-first`, `sub-fields-second`, `sub-fields-both` (all names in step).
+-- `sub-fields-first`, `sub-fields-second`, `sub-fields-both` (all names in step); `type-sentences`, `sub-pairs`, `sup-pairs`, `null-sup`, `any-sub`, `any-value`, `only-any`, `every-data`,
+-- `every-entry` (for the sentences of the strict reading).
 -- Assumes nothing.
 use Prim.Native.Nat.{ℕ, suc, _<_}
 use native.Mathlib.Omega.{arith}
@@ -13,20 +14,20 @@ use lib.Dec.{eqb, ltb}
 use borrow.Author.Tests.{eqb-true, eqb-false, ne-eqb, eq-eqb, ltb-true}
 use Rattle.form.specs.Trees.{Simple, any, null, code, Ty, leaf, built, list, range, context, function, Fields, no-fields, field, Tys, no-params, param, Leaf, Params, Val, v-leaf, v-range, v-list}
 use Rattle.form.specs.Trees.{v-context, v-function, v-built-in, v-type, v-irrelevant, Vals, no-items, item, Entries, no-entries, entry}
-use Rattle.order.specs.Order.{same, up, down, Order, fixed, flat, flatJoin, flatMeet}
+use Rattle.order.specs.Order.{same, up, down, Order, fixed, flat, flatJoin, flatMeet, flatOrder, strictOrder}
 use Rattle.order.specs.Types.{lookup, found, allFields, sameCount, kind, ignores, empty, cmp, le, les, reduce, reduceFields, reduceTys, keep, insertWith, bound}
 use Rattle.order.specs.Types.{intersectWith, merge, sup, sub}
 use Rattle.order.specs.Types.{supFields, subFields, supTys, subTys}
 use Rattle.order.specs.Ascending.{AscFields, Asc}
 use Rattle.order.specs.Document.{conformsTo, reducedForm, supertype, subtype, eqTy, instanceBuilt, isInstanceOf}
-use Rattle.order.specs.Values.{leafType, isAny, conforms, allConform, isDataBy, areData, holdData, least, leastItems, leastEntries}
-use Rattle.order.specs.Inferred.{valueConformsTo, isData, leastType, typeOf, itemsBelow, entryTypes}
+use Rattle.order.specs.Values.{leafType, isAny, conforms, allConform, isDataBy, areData, holdData, least, leastItems, leastEntries, typesOf}
+use Rattle.order.specs.Inferred.{valueConformsTo, leastType, typeOf, itemsBelow, entryTypes}
 use Rattle.order.specs.Sentences.{eachField, eachParameter, eachPair, inBoth, inEither, allItems, allEntries, eachEntry, TypeSentences, SupertypeSentences, SubtypeSentences, ValueSentences}
 use Rattle.order.specs.Sentences.{LeastTypeSentences, InferredSentences, Sentences}
 pub use Rattle.order.proofs.Alone.{sup-simple-built, sup-built-simple, sub-simple-built, sub-built-simple, sup-functions, sub-functions, sup-functions-other, sub-functions-other}
 use Rattle.order.proofs.Alone.{le-simple-built, le-built-simple, le-lists, le-ranges, le-functions-down, sup-simple, sub-simple, sup-lists, sup-ranges, sup-contexts, sub-lists}
 use Rattle.order.proofs.Alone.{sub-ranges, sub-contexts, least-lists}
-use Rattle.order.proofs.Simple.{fixed-laws, same-eq}
+use Rattle.order.proofs.Simple.{flat-laws, fixed-laws, same-eq}
 use Rattle.order.proofs.Bools.{and-false, and-assoc, and-true, or-cases}
 use Rattle.order.proofs.Conform.{has-look, flip-tys, all-ext, look-below}
 use Rattle.order.proofs.Bound.{cmp-other, bound-other}
@@ -138,7 +139,7 @@ reduced-fun : (ps : Tys) (r : Ty) → empty ps ≡ false → reducedForm (built 
 unfolding reduce
 reduced-fun ps r h = ap₂ (λ x q. built (function x (cond q (leaf any) (reducedForm r)))) (reduced-tys ps) h
 
-type-sentences : TypeSentences
+pub type-sentences : TypeSentences
 unfolding cmp reduce
 type-sentences = record {
   null-below = le-null fixed fixed-laws;
@@ -275,39 +276,39 @@ look-merge n k (field m a fs) gs v w =
     ∙ either-none (λ x y. bound fixed down x y) (lookup m gs))
 
 -- parameters in pairs
-sub-pairs : (ps qs : Tys) → subTys fixed ps qs ≡ eachPair subtype ps qs
+pub sub-pairs : (O : Order) (ps qs : Tys) → subTys O ps qs ≡ eachPair (sub O) ps qs
 unfolding bound reduce eachPair
-sub-pairs no-params no-params = refl
-sub-pairs no-params (param b qs) = refl
-sub-pairs (param a ps) no-params = refl
-sub-pairs (param a ps) (param b qs) = ap (param (subtype a b)) (sub-pairs ps qs)
+sub-pairs O no-params no-params = refl
+sub-pairs O no-params (param b qs) = refl
+sub-pairs O (param a ps) no-params = refl
+sub-pairs O (param a ps) (param b qs) = ap (param (sub O a b)) (sub-pairs O ps qs)
 
-sup-pairs : (ps qs : Tys) → supTys fixed ps qs ≡ eachPair supertype ps qs
+pub sup-pairs : (O : Order) (ps qs : Tys) → supTys O ps qs ≡ eachPair (sup O) ps qs
 unfolding bound reduce eachPair
-sup-pairs no-params no-params = refl
-sup-pairs no-params (param b qs) = refl
-sup-pairs (param a ps) no-params = refl
-sup-pairs (param a ps) (param b qs) = ap (param (supertype a b)) (sup-pairs ps qs)
+sup-pairs O no-params no-params = refl
+sup-pairs O no-params (param b qs) = refl
+sup-pairs O (param a ps) no-params = refl
+sup-pairs O (param a ps) (param b qs) = ap (param (sup O a b)) (sup-pairs O ps qs)
 
 sup-null : (t : Ty) → supertype t (leaf null) ≡ reducedForm t
 unfolding bound reduce
 sup-null (leaf s) = ap leaf (cond-same (same s null) null s (λ e. sym (same-eq s null e)))
 sup-null (built x) = refl
 
-null-sup : (t : Ty) → supertype (leaf null) t ≡ reducedForm t
+pub null-sup : (strict : Bool) (t : Ty) → sup (flatOrder strict) (leaf null) t ≡ reduce (flatOrder strict) t
 unfolding bound reduce
-null-sup (leaf s) = refl
-null-sup (built x) = refl
+null-sup strict (leaf s) = refl
+null-sup strict (built x) = refl
 
 sub-any : (t : Ty) → subtype t (leaf any) ≡ reducedForm t
 unfolding bound reduce
 sub-any (leaf s) = ap leaf (cond-same (same s any) any s (λ e. sym (same-eq s any e)))
 sub-any (built x) = refl
 
-any-sub : (t : Ty) → subtype (leaf any) t ≡ reducedForm t
+pub any-sub : (strict : Bool) (t : Ty) → sub (flatOrder strict) (leaf any) t ≡ reduce (flatOrder strict) t
 unfolding bound reduce
-any-sub (leaf s) = refl
-any-sub (built x) = refl
+any-sub strict (leaf s) = refl
+any-sub strict (built x) = refl
 
 equal-own : (p q : Bool) (s u : Simple) → q ≡ true → cond p s (cond p s (cond q s u)) ≡ s
 equal-own true q s u h = refl
@@ -321,21 +322,21 @@ meet-other : (s t : Simple) → (s ≡ any → ⊥) → (t ≡ any → ⊥) → 
 meet-other s t h k d =
     cond-no (same s any) t _ (λ e. h (same-eq s any e)) ∙ cond-no (same t any) s _ (λ e. k (same-eq t any e)) ∙ cond-no (same s t) s null (λ e. d (same-eq s t e))
 
-counted : sameCount no-params no-params ≡ true
+pub counted : sameCount no-params no-params ≡ true
 unfolding sameCount
 counted = refl
 
 supertype-sentences : SupertypeSentences
 unfolding bound reduce
 supertype-sentences = record {
-  null-with = null-sup;
+  null-with = null-sup false;
   with-null = sup-null;
   equal-simple = λ s. ap leaf (equal-own (same s null) (same s s) s any (eq-eqb (code s) (code s) refl));
   lists = sup-lists fixed;
   ranges = sup-ranges fixed;
   contexts = sup-contexts fixed;
   common-names = λ n fs gs. look-reduce n (intersectWith fixed fs gs) ∙ ap (mapped reducedForm) (look-common n fs gs) ∙ mapped-both (λ x y. bound fixed up x y) (lookup n fs) (lookup n gs);
-  functions = λ ps qs r s h k. sup-functions fixed ps qs r s h ∙ ap₂ (λ x q. built (function x (cond q (leaf any) (supertype r s)))) (sub-pairs ps qs) k;
+  functions = λ ps qs r s h k. sup-functions fixed ps qs r s h ∙ ap₂ (λ x q. built (function x (cond q (leaf any) (supertype r s)))) (sub-pairs fixed ps qs) k;
   plain-functions = λ r s. sup-functions fixed no-params no-params r s counted;
   other-simple = λ s t h k d. sup-simple fixed s t ∙ ap leaf (join-other s t h k d);
   simple-built = λ s y h. sup-simple-built fixed s y ∙ cond-no (flat s null) (reducedForm (built y)) (leaf any) (not-below-null s h);
@@ -347,7 +348,7 @@ supertype-sentences = record {
 subtype-sentences : SubtypeSentences
 unfolding bound reduce
 subtype-sentences = record {
-  any-with = any-sub;
+  any-with = any-sub false;
   with-any = sub-any;
   equal-simple = λ s. ap leaf (equal-own (same s any) (same s s) s null (eq-eqb (code s) (code s) refl));
   lists = sub-lists fixed;
@@ -355,7 +356,7 @@ subtype-sentences = record {
   contexts = sub-contexts fixed;
   all-names = λ n fs gs v w.
       look-reduce n (merge fixed fs gs) ∙ ap (mapped reducedForm) (look-merge n 0 fs gs v w) ∙ mapped-either (λ x y. bound fixed down x y) (lookup n fs) (lookup n gs);
-  functions = λ ps qs r s h k. sub-functions fixed ps qs r s h ∙ ap₂ (λ x q. built (function x (cond q (leaf any) (subtype r s)))) (sup-pairs ps qs) k;
+  functions = λ ps qs r s h k. sub-functions fixed ps qs r s h ∙ ap₂ (λ x q. built (function x (cond q (leaf any) (subtype r s)))) (sup-pairs fixed ps qs) k;
   plain-functions = λ r s. sub-functions fixed no-params no-params r s counted;
   other-simple = λ s t h k d. sub-simple fixed s t ∙ ap leaf (meet-other s t h k d);
   simple-built = λ s y h. sub-simple-built fixed s y ∙ cond-no (flat any s) (reducedForm (built y)) (leaf null) (not-above-any s h);
@@ -365,16 +366,17 @@ subtype-sentences = record {
 }
 
 -- ---- value against type
-any-value : (v : Val) → valueConformsTo v (leaf any) ≡ true
+pub any-value : (strict : Bool) (v : Val) → conforms (flatOrder strict) v (leaf any) ≡ true
 unfolding conforms
-any-value (v-leaf l) = le-any fixed fixed-laws (leaf (leafType l))
-any-value (v-range i j v w) = refl
-any-value (v-list vs) = refl
-any-value (v-context es) = refl
-any-value (v-function ps b r) = refl
-any-value (v-built-in n) = refl
-any-value (v-type a) = refl
-any-value v-irrelevant = refl
+any-value strict (v-leaf l) = le-any (flatOrder strict) (flat-laws strict) (leaf (leafType l))
+any-value strict (v-range i j v w) = refl
+any-value strict (v-list vs) = refl
+any-value strict (v-context es) = refl
+any-value true (v-function ps b r) = le-any strictOrder (flat-laws true) (built (function (typesOf ps) r))
+any-value false (v-function ps b r) = refl
+any-value strict (v-built-in n) = refl
+any-value strict (v-type a) = refl
+any-value strict v-irrelevant = refl
 
 -- a built value, a function or another value against a simple type that is not Any
 not-any : (s : Simple) → (leaf s ≡ leaf any → ⊥) → flat any s ≡ false
@@ -425,14 +427,14 @@ no-function ps b r (built (range u)) h k = refl
 no-function ps b r (built (context fs)) h k = refl
 no-function ps b r (built (function qs s)) h k = absurd (k qs s refl)
 
-only-any : (t : Ty) → (t ≡ leaf any → ⊥) → isAny fixed t ≡ false
+pub only-any : (t : Ty) → (t ≡ leaf any → ⊥) → isAny fixed t ≡ false
 only-any (leaf s) h = not-any s h
 only-any (built y) h = refl
 
 value-sentences : ValueSentences
 unfolding conforms
 value-sentences = record {
-  any-target = any-value;
+  any-target = any-value false;
   null-value = λ n. le-null fixed fixed-laws;
   simple-kinds = own-type;
   ranges = λ i j v w u. refl;
@@ -451,15 +453,15 @@ value-sentences = record {
 }
 
 -- ---- least type
-every-data : (vs : Vals) → areData fixed vs ≡ allItems isData vs
+pub every-data : (O : Order) (vs : Vals) → areData O vs ≡ allItems (isDataBy O) vs
 unfolding isDataBy allItems
-every-data no-items = refl
-every-data (item v vs) = ap (λ x. isData v && x) (every-data vs)
+every-data O no-items = refl
+every-data O (item v vs) = ap (λ x. isDataBy O v && x) (every-data O vs)
 
-every-entry : (es : Entries) → holdData fixed es ≡ allEntries isData es
+pub every-entry : (O : Order) (es : Entries) → holdData O es ≡ allEntries (isDataBy O) es
 unfolding isDataBy allEntries
-every-entry no-entries = refl
-every-entry (entry n v es) = ap (λ x. isData v && x) (every-entry es)
+every-entry O no-entries = refl
+every-entry O (entry n v es) = ap (λ x. isDataBy O v && x) (every-entry O es)
 
 least-each : (es : Entries) → leastEntries fixed es ≡ eachEntry leastType es
 unfolding least eachEntry
@@ -478,8 +480,8 @@ unfolding isDataBy least cmp
 least-type-sentences = record {
   data-leaf = λ l. refl;
   data-range = λ i j v w. refl;
-  data-list = every-data;
-  data-context = every-entry;
+  data-list = every-data fixed;
+  data-context = every-entry fixed;
   no-definition = λ ps b r. refl;
   no-built-in = λ n. refl;
   no-type = λ t. refl;

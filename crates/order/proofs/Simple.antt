@@ -1,9 +1,9 @@
 -- The laws of an order among the ten simple types, from tests that are computed over them.
 -- Idea: a law over one, two or three simple types is a test at all of them (`every-at`, `every₂-at`, `every₃-at`).
--- Index: `Tested`, `laws-of`, `flat-laws`, `fixed-laws` (the laws of an order); `scmp-refl`, `scmp-trans`, `scmp-bottom`, `scmp-top`, `scmp-bound`, `top-bottom` (in a direction);
+-- Index: `Tested`, `laws-of`, `flat-laws`, `fixed-laws`, `reading-laws` (the laws of an order); `scmp-refl`, `scmp-trans`, `scmp-bottom`, `scmp-top`, `scmp-bound`, `top-bottom` (in a direction);
 -- `same-eq`; `temporal-code`; `and-left`, `and-right`, `and-both`, `imp-use`, `beq-use` (tests).
 -- Assumes nothing.
-use Prim.Native.Nat.{_+_}
+use Prim.Native.Nat.{_+_, ℕ, _%_}
 use mathlib.Core.Path.{_≡_, refl, sym, _∙_, ap}
 use mathlib.Core.Bool.{Bool, true, false, not, _&&_, _||_, Bool·beq, false≢true, true≢false}
 use mathlib.Core.List.{List, [], _∷_}
@@ -12,7 +12,7 @@ use borrow.Author.Tests.{eqb-true}
 use Rattle.form.specs.Trees.{Simple, any, boolean, number, string, date, time, dateTime, daysAndTime, yearsAndMonths, null, code, decode, Temporal, on-date, at-time, at-dateTime, for-daysAndTime}
 use Rattle.form.specs.Trees.{for-yearsAndMonths, codeTemporal}
 use Rattle.form.proofs.ExactTypes.{decode-code}
-use Rattle.order.specs.Order.{same, Dir, up, down, Order, top, bottom, scmp, sbound, Laws, flatOrder, fixed}
+use Rattle.order.specs.Order.{same, Dir, up, down, Order, top, bottom, scmp, sbound, Laws, flatOrder, fixed, orderOf}
 use Rattle.order.specs.Values.{temporalType}
 
 pub same-eq : (s t : Simple) → same s t ≡ true → s ≡ t
@@ -133,6 +133,10 @@ flat-laws b =
 
 pub fixed-laws : Laws fixed
 fixed-laws = flat-laws false
+
+-- those of a reading's order
+pub reading-laws : (reading : ℕ) → Laws (orderOf reading)
+reading-laws reading = flat-laws (eqb (reading % 2) 1)
 
 -- The laws in a direction, as the theory uses them.
 module _ (O : Order) (L : Laws O) where

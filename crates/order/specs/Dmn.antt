@@ -1,22 +1,51 @@
--- FEEL's own definition of conformance (DMN): the result of a function counts, also where there are no parameters. And where that differs from
--- document 01's relation: at the results of two functions without parameters.
+-- FEEL's own definition of conformance (DMN): the result of a function counts, also where there are no parameters. It is the strict reading; DMN's rules, one by one,
+-- admit no other relation. And where that differs from document 01's relation: at the results of two functions without parameters.
 -- Assumes nothing.
 use Prim.Native.Nat.{ℕ}
-use mathlib.Core.Bool.{Bool, true, cond, _&&_}
+use mathlib.Core.Path.{_≡_}
+use mathlib.Core.Bool.{Bool, true, false, cond, _&&_}
 use mathlib.Core.Option.{Option, none, some}
+use mathlib.Core.Logic.{_↔_}
 use lib.Dec.{eqb}
-use Rattle.form.specs.Trees.{Ty, leaf, built, Built, list, range, context, function, Fields, no-fields, field, Tys, no-params, param, Params}
-use Rattle.order.specs.Order.{Dir, up, down, flip, pick, Order, flatOrder}
-use Rattle.order.specs.Types.{lookup, allFields, empty, cmp, le}
+use Rattle.form.specs.Trees.{Simple, any, null, Ty, leaf, built, Built, list, range, context, function, Fields, no-fields, field, Tys, no-params, param, Params}
+use Rattle.order.specs.Order.{Dir, up, down, flip, pick, strictOrder}
+use Rattle.order.specs.Types.{lookup, found, allFields, empty, kind, cmp, le}
 use Rattle.order.specs.Values.{typesOf}
-
--- the ten simple types as in document 01, every function judged by its result
-abbrev pub strictOrder : Order
-strictOrder = flatOrder true
 
 -- A ≤ B by DMN
 abbrev pub dmnConformsTo : Ty → Ty → Bool
 dmnConformsTo a b = le strictOrder a b
+
+-- equal counts, and each pair passes the test
+unfoldable pub allPairs : (Ty → Ty → Bool) → Tys → Tys → Bool
+allPairs c no-params no-params = true
+allPairs c no-params (param b qs) = false
+allPairs c (param a ps) no-params = false
+allPairs c (param a ps) (param b qs) = c a b && allPairs c ps qs
+
+-- DMN's rules, of a relation `c` between types of any size
+pub record DmnRules (c : Ty → Ty → Bool) : Type 0 where
+  -- Null conforms to every type, and every type to Any
+  pub null-below : (t : Ty) → c (leaf null) t ≡ true
+  pub below-any : (t : Ty) → c t (leaf any) ≡ true
+  -- a simple type conforms otherwise to itself alone, and no list, range, context or function to a simple type
+  pub simple-types : (s t : Simple) → (s ≡ null → ⊥) → (t ≡ any → ⊥) → (c (leaf s) (leaf t) ≡ true) ↔ (s ≡ t)
+  pub simple-built : (s : Simple) (y : Built) → (s ≡ null → ⊥) → c (leaf s) (built y) ≡ false
+  pub built-simple : (x : Built) (t : Simple) → (t ≡ any → ⊥) → c (built x) (leaf t) ≡ false
+  -- list<T> conforms to list<S> exactly when T conforms to S; range likewise
+  pub lists : (a b : Ty) → c (built (list a)) (built (list b)) ≡ c a b
+  pub ranges : (a b : Ty) → c (built (range a)) (built (range b)) ≡ c a b
+  -- a context conforms to another exactly when it has each name of the other, with a type that conforms to the other's
+  pub contexts : (fs gs : Fields) → c (built (context fs)) (built (context gs)) ≡ allFields (λ n t. found (lookup n fs) (λ a. c a t)) gs
+  -- a function conforms to another exactly when they have equally many parameters, each of the other's conforms to its own, and its result conforms to the other's
+  pub functions : (ps qs : Tys) (r s : Ty) → c (built (function ps r)) (built (function qs s)) ≡ allPairs c qs ps && c r s
+  -- nothing else conforms
+  pub unlike-kinds : (x y : Built) → (kind x ≡ kind y → ⊥) → c (built x) (built y) ≡ false
+
+-- the strict reading meets DMN's rules, and every relation that meets them is the strict reading
+pub record DmnReading : Type 0 where
+  pub rules : DmnRules dmnConformsTo
+  pub only : (c : Ty → Ty → Bool) → DmnRules c → (a b : Ty) → c a b ≡ dmnConformsTo a b
 
 -- the test, where there is something to test
 abbrev pub if-found {ℓ} : {A : Type ℓ} → Option A → (A → Bool) → Bool

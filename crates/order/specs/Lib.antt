@@ -7,5 +7,6 @@ pub mod Values
 pub mod Inferred
 pub mod Dmn
 pub mod Sentences
+pub mod Strict
 pub mod Theorems
 pub mod ValueTheorems

@@ -1,10 +1,11 @@
 -- An order among the ten simple types, and what it must obey.
--- Everything about types is stated over an `Order`. Two stand here: `fixed`, document 01's relation, and `flatOrder true`, which has the same simple types and
--- judges every function by its result, as DMN does.
+-- Everything about types is stated over an `Order`. Two stand here: `fixed`, document 01's relation, and `strictOrder`, which has the same simple types and
+-- judges every function by its result, as DMN does (document 02, K8). The code has either as a number, its reading (`orderOf`).
 -- Assumes nothing.
 use mathlib.Core.Path.{_≡_}
 use mathlib.Core.Bool.{Bool, true, false, cond, _&&_, _||_}
 use lib.Dec.{eqb}
+use Prim.Native.Nat.{ℕ, _%_}
 use Rattle.form.specs.Trees.{Simple, any, null, code}
 
 -- equal simple types, as a test
@@ -76,3 +77,11 @@ flatOrder b = record { strict = b; sle = flat; sjoin = flatJoin; smeet = flatMee
 -- document 01's relation
 abbrev pub fixed : Order
 fixed = flatOrder false
+
+-- the strict reading (K8): a function without parameters conforms only if its result does
+abbrev pub strictOrder : Order
+strictOrder = flatOrder true
+
+-- A reading as the number that the walks and builders are handed: bit 0 says whether it is strict. 0 is document 01's, 1 the strict one.
+abbrev pub orderOf : ℕ → Order
+orderOf reading = flatOrder (eqb (reading % 2) 1)
