@@ -4,7 +4,7 @@
 -- Assumes nothing.
 use Prim.Native.Nat.{ℕ, zero, suc, _+_, _≤_}
 use mathlib.Core.Path.{_≡_, refl, sym, ap, _∙_}
-use mathlib.Core.Bool.{Bool, true, false, _&&_, _||_, true≢false}
+use mathlib.Core.Bool.{Bool, true, false, not, _&&_, _||_, true≢false}
 use mathlib.Core.List.{List}
 use native.Mathlib.Omega.{arith}
 use lib.ListN.{drop}
@@ -14,16 +14,16 @@ use mathlib.Core.Option.{some}
 use Rattle.form.specs.Trees.{Simple, any, null, Ty, leaf, built, list, range, context, function, Tys, no-params, param, code, decode, simple}
 use Rattle.form.specs.Form.{countTys}
 use Rattle.form.proofs.ExactTypes.{decode-code, code-small}
-use Rattle.order.specs.Order.{fixed, flat}
-use Rattle.order.specs.Types.{le, les, cmp, empty}
+use Rattle.order.specs.Order.{Order, Laws, flatOrder}
+use Rattle.order.specs.Types.{le, les, cmp, empty, ignores}
 use Rattle.order.specs.Size.{size}
 use Rattle.order.specs.Document.{eqTy}
 use Rattle.order.proofs.Bools.{and-assoc}
 use Rattle.order.proofs.Equal.{eq-ty-same}
-use Rattle.order.proofs.Simple.{and-right, fixed-laws}
+use Rattle.order.proofs.Simple.{and-right}
 use Rattle.order.proofs.Sentences.{le-functions}
 use Rattle.types.specs.At.{Sig, sig, cons, funOf, sigAt}
-use Rattle.types.specs.Conform.{leSig}
+use Rattle.types.specs.Conform.{ignoresAt, leSig}
 use Rattle.types.proofs.Reading.{cmd, result}
 use Rattle.types.proofs.Signatures.{first-param}
 
@@ -47,58 +47,54 @@ eq-false t u h = go (eqTy t u) refl
     go true e = absurd (h (eq-ty-same t u e))
     go false e = refl
 
-pub le-null : (t u : Ty) → cmd t ≡ 41 → (size t ≡ 1) × (le fixed t u ≡ true)
-unfolding cmp size
-le-null (leaf s) (leaf t) e = (refl, ap (λ x. flat x t) (same-simple s null e) ∙ fixed-laws .null-least t)
-le-null (leaf s) (built y) e = (refl, ap (λ x. flat x null) (same-simple s null e))
-le-null (built (list t)) u e = absurd (omega arith)
-le-null (built (range t)) u e = absurd (omega arith)
-le-null (built (context fs)) u e = absurd (omega arith)
-le-null (built (function ps r)) u e = absurd (omega arith)
+-- Null and Any, and a simple type with itself, under every order
+module _ {O : Order} (L : Laws O) where
+  pub le-null : (t u : Ty) → cmd t ≡ 41 → (size t ≡ 1) × (le O t u ≡ true)
+  unfolding cmp size
+  le-null (leaf s) (leaf t) e = (refl, ap (λ x. O .sle x t) (same-simple s null e) ∙ L .null-least t)
+  le-null (leaf s) (built y) e = (refl, ap (λ x. O .sle x null) (same-simple s null e) ∙ L .null-least null)
+  le-null (built (list t)) u e = absurd (omega arith)
+  le-null (built (range t)) u e = absurd (omega arith)
+  le-null (built (context fs)) u e = absurd (omega arith)
+  le-null (built (function ps r)) u e = absurd (omega arith)
 
-pub le-any : (t u : Ty) → cmd u ≡ 32 → (size u ≡ 1) × (le fixed t u ≡ true)
-unfolding cmp size
-le-any (leaf s) (leaf t) e = (refl, ap (λ x. flat s x) (same-simple t any e) ∙ fixed-laws .any-greatest s)
-le-any (built x) (leaf t) e = (refl, ap (λ x. flat any x) (same-simple t any e))
-le-any t (built (list u)) e = absurd (omega arith)
-le-any t (built (range u)) e = absurd (omega arith)
-le-any t (built (context fs)) e = absurd (omega arith)
-le-any t (built (function ps r)) e = absurd (omega arith)
+  pub le-any : (t u : Ty) → cmd u ≡ 32 → (size u ≡ 1) × (le O t u ≡ true)
+  unfolding cmp size
+  le-any (leaf s) (leaf t) e = (refl, ap (λ x. O .sle s x) (same-simple t any e) ∙ L .any-greatest s)
+  le-any (built x) (leaf t) e = (refl, ap (λ x. O .sle any x) (same-simple t any e) ∙ L .any-greatest any)
+  le-any t (built (list u)) e = absurd (omega arith)
+  le-any t (built (range u)) e = absurd (omega arith)
+  le-any t (built (context fs)) e = absurd (omega arith)
+  le-any t (built (function ps r)) e = absurd (omega arith)
 
-pub le-other : (t u : Ty) → (cmd t ≡ cmd u → ⊥) → (cmd t ≡ 41 → ⊥) → (cmd u ≡ 32 → ⊥) → le fixed t u ≡ false
+  pub le-leaves : (s t : Simple) → s ≡ t → le O (leaf s) (leaf t) ≡ true
+  unfolding cmp
+  le-leaves s t e = ap (λ x. O .sle x t) e ∙ L .reflexive t
+
+-- two other commands, where simple types conform only to themselves
+pub le-other : (strict : Bool) (t u : Ty) → (cmd t ≡ cmd u → ⊥) → (cmd t ≡ 41 → ⊥) → (cmd u ≡ 32 → ⊥) → le (flatOrder strict) t u ≡ false
 unfolding cmp
-le-other (leaf s) (leaf t) d n a = simp (ne-eqb (code s) 9 (λ e. n (omega arith)), ne-eqb (code t) 0 (λ e. a (omega arith)), ne-eqb (code s) (code t) (λ e. d (omega arith)))
-le-other (leaf s) (built y) d n a = simp (ne-eqb (code s) 9 (λ e. n (omega arith)))
-le-other (built x) (leaf t) d n a = simp (ne-eqb (code t) 0 (λ e. a (omega arith)), ne-eqb 0 (code t) (λ e. a (omega arith)))
-le-other (built (list a)) (built (list b)) d n x = absurd (d refl)
-le-other (built (list a)) (built (range b)) d n x = refl
-le-other (built (list a)) (built (context b)) d n x = refl
-le-other (built (list a)) (built (function q b)) d n x = refl
-le-other (built (range a)) (built (list b)) d n x = refl
-le-other (built (range a)) (built (range b)) d n x = absurd (d refl)
-le-other (built (range a)) (built (context b)) d n x = refl
-le-other (built (range a)) (built (function q b)) d n x = refl
-le-other (built (context a)) (built (list b)) d n x = refl
-le-other (built (context a)) (built (range b)) d n x = refl
-le-other (built (context a)) (built (context b)) d n x = absurd (d refl)
-le-other (built (context a)) (built (function q b)) d n x = refl
-le-other (built (function p a)) (built (list b)) d n x = refl
-le-other (built (function p a)) (built (range b)) d n x = refl
-le-other (built (function p a)) (built (context b)) d n x = refl
-le-other (built (function p a)) (built (function q b)) d n x = absurd (d refl)
-
-pub le-leaves : (s t : Simple) → s ≡ t → le fixed (leaf s) (leaf t) ≡ true
-unfolding cmp
-le-leaves s t e = ap (λ x. flat x t) e ∙ fixed-laws .reflexive t
+le-other g (leaf s) (leaf t) d n a = simp (ne-eqb (code s) 9 (λ e. n (omega arith)), ne-eqb (code t) 0 (λ e. a (omega arith)), ne-eqb (code s) (code t) (λ e. d (omega arith)))
+le-other g (leaf s) (built y) d n a = simp (ne-eqb (code s) 9 (λ e. n (omega arith)))
+le-other g (built x) (leaf t) d n a = simp (ne-eqb (code t) 0 (λ e. a (omega arith)), ne-eqb 0 (code t) (λ e. a (omega arith)))
+le-other g (built (list a)) (built (list b)) d n x = absurd (d refl)
+le-other g (built (list a)) (built (range b)) d n x = refl
+le-other g (built (list a)) (built (context b)) d n x = refl
+le-other g (built (list a)) (built (function q b)) d n x = refl
+le-other g (built (range a)) (built (list b)) d n x = refl
+le-other g (built (range a)) (built (range b)) d n x = absurd (d refl)
+le-other g (built (range a)) (built (context b)) d n x = refl
+le-other g (built (range a)) (built (function q b)) d n x = refl
+le-other g (built (context a)) (built (list b)) d n x = refl
+le-other g (built (context a)) (built (range b)) d n x = refl
+le-other g (built (context a)) (built (context b)) d n x = absurd (d refl)
+le-other g (built (context a)) (built (function q b)) d n x = refl
+le-other g (built (function p a)) (built (list b)) d n x = refl
+le-other g (built (function p a)) (built (range b)) d n x = refl
+le-other g (built (function p a)) (built (context b)) d n x = refl
+le-other g (built (function p a)) (built (function q b)) d n x = absurd (d refl)
 
 -- ---- functions
-les-count : (qs ps : Tys) → les fixed qs ps ≡ true → countTys qs ≡ countTys ps
-unfolding cmp countTys
-les-count no-params no-params e = refl
-les-count no-params (param t ps) e = absurd (true≢false (sym e))
-les-count (param u qs) no-params e = absurd (true≢false (sym e))
-les-count (param u qs) (param t ps) e = ap suc (les-count qs ps (and-right (le fixed u t) (les fixed qs ps) e))
-
 abbrev pub count-sig : Sig → ℕ
 count-sig (sig ps r) = countTys ps
 
@@ -118,16 +114,25 @@ unfolding countTys
 empty-count no-params = sym (eq-eqb 0 0 refl)
 empty-count (param t ps) = sym (ne-eqb (suc (countTys ps)) 0 (λ e. omega arith))
 
-pub le-funs : (f g : Sig) (n : ℕ) → count-sig f ≡ n → le fixed (funOf f) (funOf g) ≡ leSig (eqb n 0) f g
-le-funs (sig ps r) (sig qs s) n e = le-functions fixed ps qs r s ∙ ap (λ x. les fixed qs ps && (x || le fixed r s)) (empty-count ps ∙ ap (λ k. eqb k 0) e)
+module _ (O : Order) where
+  les-count : (qs ps : Tys) → les O qs ps ≡ true → countTys qs ≡ countTys ps
+  unfolding cmp countTys
+  les-count no-params no-params e = refl
+  les-count no-params (param t ps) e = absurd (true≢false (sym e))
+  les-count (param u qs) no-params e = absurd (true≢false (sym e))
+  les-count (param u qs) (param t ps) e = ap suc (les-count qs ps (and-right (le O u t) (les O qs ps) e))
 
-pub le-counts : (f g : Sig) → (count-sig f ≡ count-sig g → ⊥) → le fixed (funOf f) (funOf g) ≡ false
-le-counts (sig ps r) (sig qs s) d = le-functions fixed ps qs r s ∙ go (les fixed qs ps) refl
-  where
-    go : (q : Bool) → les fixed qs ps ≡ q → q && (empty ps || le fixed r s) ≡ false
-    go true e = absurd (d (sym (les-count qs ps e)))
-    go false e = refl
+  pub le-funs : (f g : Sig) (n : ℕ) → count-sig f ≡ n → le O (funOf f) (funOf g) ≡ leSig O (ignoresAt O n) f g
+  le-funs (sig ps r) (sig qs s) n e =
+      le-functions O ps qs r s ∙ ap (λ x. les O qs ps && ((not (O .strict) && x) || le O r s)) (empty-count ps ∙ ap (λ k. eqb k 0) e)
 
-pub le-cons : (ig : Bool) (t u : Ty) (f g : Sig) → leSig ig (cons t f) (cons u g) ≡ le fixed u t && leSig ig f g
-unfolding cmp
-le-cons ig t u (sig ps r) (sig qs s) = and-assoc (le fixed u t) (les fixed qs ps) (ig || le fixed r s)
+  pub le-counts : (f g : Sig) → (count-sig f ≡ count-sig g → ⊥) → le O (funOf f) (funOf g) ≡ false
+  le-counts (sig ps r) (sig qs s) d = le-functions O ps qs r s ∙ go (les O qs ps) refl
+    where
+      go : (q : Bool) → les O qs ps ≡ q → q && (ignores O ps || le O r s) ≡ false
+      go true e = absurd (d (sym (les-count qs ps e)))
+      go false e = refl
+
+  pub le-cons : (ig : Bool) (t u : Ty) (f g : Sig) → leSig O ig (cons t f) (cons u g) ≡ le O u t && leSig O ig f g
+  unfolding cmp
+  le-cons ig t u (sig ps r) (sig qs s) = and-assoc (le O u t) (les O qs ps) (ig || le O r s)

@@ -1,6 +1,6 @@
 -- A call that reads two arguments and holds the first against the second: from one pass over both to the call's outcome.
 -- Idea: a yes of the pass with both lengths is the call's yes; every other end of the pass says that the call does not answer yes.
--- Index: `asked`, `first-refused`, `second-refused`, `asked-yes`, `asked-no`, `both-read` (the outcome); `Whole`, `whole-by` (a reader of a whole); `told-whole`, `apart`, `over-first`,
+-- Index: `asked`, `first-refused`, `second-refused`, `asked-yes`, `not-yes`, `both-read` (the outcome); `Whole`, `whole-by` (a reader of a whole); `told-whole`, `apart`, `over-first`,
 -- `long-first`, `long-second`, `answers-no` (the pass); `Agree`, `agree` (what a yes is of).
 -- Assumes nothing.
 use Prim.Native.Nat.{ℕ, _<_, _≤_}
@@ -46,12 +46,16 @@ module _ {X Y : Type 0} (test : X → Y → Bool) {p : Outcome X} (q : Outcome Y
   pub fails : {x : X} {y : Y} → p ≡ done x → q ≡ done y → false ≡ isYes (asked test p q) → test x y ≡ false
   fails e f z = sym (z ∙ ap isYes (both-read e f))
 
-  pub asked-no : {x : X} {y : Y} → p ≡ done x → q ≡ done y → false ≡ isYes (asked test p q) → done false ≡ asked test p q
-  asked-no e f z = sym (both-read e f ∙ ap done (fails e f z))
-
 pub asked-yes : (o : Outcome Bool) → true ≡ isYes o → done true ≡ o
 asked-yes (done q) e = ap done e
 asked-yes (refused n) e = absurd (let z : _≡_ {A = ℕ} 0 1 = cc in omega arith)
+
+-- no yes: the refusals, or no
+pub not-yes : {X Y : Type 0} (test : X → Y → Bool) (p : Outcome X) (q : Outcome Y) → false ≡ isYes (asked test p q) → asked (λ x y. false) p q ≡ asked test p q
+unfolding _>>=_
+not-yes test (done x) (done y) e = ap done e
+not-yes test (done x) (refused n) e = refl
+not-yes test (refused n) q e = refl
 
 -- what a yes is of
 pub record Agree {X Y : Type 0} (test : X → Y → Bool) (p : Outcome X) (q : Outcome Y) : Type 0 where

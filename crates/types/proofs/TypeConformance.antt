@@ -1,11 +1,11 @@
 -- Two types read and compared at once: what each return of the walks owes. What is left of both decides, whether it is read or not.
 -- Index: `sized`, `unsized`, `two-read` (`skip_both`); `simple-none`, `simple-both`, `simple-apart`, `simple-pair` (`same_simple`); `never`, `fails`, `no-level`, `no-a`, `no-b`, `no-command`
 -- (no, by any test); `met-simple`, `met-null`, `met-any`, `met-list`, `met-range`, `met-context`, `met-function`, `no-other`, `no-counts` (`conforms`);
--- `behind-yes`, `behind-no` (`conform_inner`); `SigGo`, `sig-start`, `sig-turn`, `sig-apart`, `sig-done`, `passed-over` (`conform_sig`).
+-- `behind-yes`, `behind-no` (`conform_inner`); `SigGo`, `sig-start`, `sig-turn`, `sig-apart`, `sig-done`, `compared-strict`, `compared-some`, `passed-over` (`conform_sig`).
 -- Assumes nothing.
 use Prim.Native.Nat.{ℕ, _+_, _-_, _<_, _≤_}
 use mathlib.Core.Path.{_≡_, refl, sym, ap, ap₂, _∙_}
-use mathlib.Core.Bool.{Bool, true, false, _&&_, _||_}
+use mathlib.Core.Bool.{Bool, true, false, not, _&&_, _||_}
 use mathlib.Core.Logic.{_⊎_, ⊎-elim}
 use mathlib.Core.Option.{Option, none, some}
 use mathlib.Core.List.{List}
@@ -19,7 +19,7 @@ use Rattle.form.specs.Read.{readT}
 use Rattle.form.specs.Walks.{Short}
 use Rattle.form.proofs.Runs.{rest, first-at}
 use Rattle.form.proofs.ExactTypes.{code-small}
-use Rattle.order.specs.Order.{fixed}
+use Rattle.order.specs.Order.{Order, Laws, flatOrder}
 use Rattle.order.specs.Types.{le, cmp}
 use Rattle.order.specs.Ascending.{AscFields}
 use Rattle.order.specs.Size.{size, sizeFields}
@@ -30,7 +30,7 @@ use Rattle.order.proofs.Bools.{and-false}
 use Rattle.order.proofs.Equal.{eq-ty-same, eq-ty-self}
 use Rattle.order.proofs.Size.{size-positive}
 use Rattle.types.specs.At.{typeAt, fieldsAt, sig, cons, funOf, sizeSig, sigAt, sizeAt}
-use Rattle.types.specs.Conform.{Conform, judge, conformBy, typesBy, conformOf, entries, leSig, anyTwo, sameSimple, addSizes, Met}
+use Rattle.types.specs.Conform.{Conform, judge, conformBy, typesBy, conformOf, entries, ignoresAt, leSig, anyTwo, sameSimple, addSizes, Met}
 use Rattle.types.proofs.Reading.{type-told, cmd, cmd-is, some-byte, some-level, is-ctx, is-fun, fields-good, size-cons, size-fun}
 use Rattle.types.proofs.Entries.{size-got}
 use Rattle.types.proofs.ByCommand.{same-simple, simple-leaf, simple-small, eq-false, le-null, le-any, le-leaves, le-other, sig-count, le-funs, le-counts, le-cons}
@@ -142,9 +142,9 @@ module _ (l : ℕ) (a : List ℕ) (at : ℕ) (b : List ℕ) (bt n room : ℕ) (h
       ∙ ap (λ q. judge q (size (P .x)) (size (leaf d))) (ap₂ _&&_ (P .leafy) (ap (eqTy (P .x)) (sym same) ∙ eq-ty-self (P .x)))) (P .is) (P .is ∙ ap size same)
 
 -- they conform to each other
-pub simple-pair : (l : ℕ) (a : List ℕ) (at : ℕ) (b : List ℕ) (bt n : ℕ) → Met (typesBy sameSimple (typeAt l (drop at a)) (typeAt l (drop bt b))) n n → (n ≡ 0 → ⊥)
-    → Pair (readable-type l) (readable-type l) (le fixed) a at b bt n n
-simple-pair l a at b bt n w z =
+pub simple-pair : {O : Order} → Laws O → (l : ℕ) (a : List ℕ) (at : ℕ) (b : List ℕ) (bt n : ℕ) → Met (typesBy sameSimple (typeAt l (drop at a)) (typeAt l (drop bt b))) n n → (n ≡ 0 → ⊥)
+    → Pair (readable-type l) (readable-type l) (le O) a at b bt n n
+simple-pair {O} L l a at b bt n w z =
     let B = taken size size sameSimple (typeAt l (drop at a)) (typeAt l (drop bt b)) n n (yes-of (typesBy sameSimple (typeAt l (drop at a)) (typeAt l (drop bt b))) n n w z) in
     let s = simple-leaf (B .x) (and-left (simple (B .x)) (eqTy (B .x) (B .y)) (B .holds)) in
     record {
@@ -152,67 +152,48 @@ simple-pair l a at b bt n w z =
       y = B .y;
       read-a = B .read-a;
       read-b = B .read-b;
-      holds = ap₂ (le fixed) (s .1) (sym (eq-ty-same (B .x) (B .y) (and-right (simple (B .x)) (eqTy (B .x) (B .y)) (B .holds))) ∙ s .1)
-          ∙ le-leaves (s .0) (s .0) refl;
+      holds = ap₂ (le O) (s .1) (sym (eq-ty-same (B .x) (B .y) (and-right (simple (B .x)) (eqTy (B .x) (B .y)) (B .holds))) ∙ s .1)
+          ∙ le-leaves L (s .0) (s .0) refl;
       size-a = B .size-a;
       size-b = B .size-b;
     }
 
 -- ---- the returns of `conforms`
 module _ (l : ℕ) (a b : List ℕ) (t : ℕ) where
-  pub no-other : (getD a 0 0 ≡ getD b 0 0 → ⊥) → (getD a 0 0 ≡ 41 → ⊥) → (getD b 0 0 ≡ 32 → ⊥) → Met (conformOf (typeAt l a) (typeAt l b)) 0 t
-  no-other d n o = fails (le fixed) l a b t (λ x y e f. le-other x y (λ z. d (sym (cmd-is l a x e) ∙ z ∙ cmd-is l b y f)) (λ z. n (sym (cmd-is l a x e) ∙ z)) (λ z. o (sym (cmd-is l b y f) ∙ z)))
+  pub no-other : (strict : Bool) → (getD a 0 0 ≡ getD b 0 0 → ⊥) → (getD a 0 0 ≡ 41 → ⊥) → (getD b 0 0 ≡ 32 → ⊥) → Met (conformOf (flatOrder strict) (typeAt l a) (typeAt l b)) 0 t
+  no-other strict d n o = fails (le (flatOrder strict)) l a b t (λ x y e f. le-other strict x y (λ z. d (sym (cmd-is l a x e) ∙ z ∙ cmd-is l b y f)) (λ z. n (sym (cmd-is l a x e) ∙ z))
+      (λ z. o (sym (cmd-is l b y f) ∙ z)))
 
-  pub no-counts : getD a 0 0 ≡ 45 → getD b 0 0 ≡ 45 → (getD a 1 0 ≡ getD b 1 0 → ⊥) → Met (conformOf (typeAt l a) (typeAt l b)) 0 t
-  no-counts c d n = fails (le fixed) l a b t (λ x y e f.
+  pub no-counts : (O : Order) → getD a 0 0 ≡ 45 → getD b 0 0 ≡ 45 → (getD a 1 0 ≡ getD b 1 0 → ⊥) → Met (conformOf O (typeAt l a) (typeAt l b)) 0 t
+  no-counts O c d n = fails (le O) l a b t (λ x y e f.
       let g = is-fun l a x e c in
       let h = is-fun l b y f d in
-      ap₂ (le fixed) (g .is) (h .is)
-      ∙ le-counts (g .f) (h .f) (λ z. n (sym (sig-count (l - 1) (getD a 1 0) (drop 2 a) (g .f) (g .read)) ∙ z ∙ sig-count (l - 1) (getD b 1 0) (drop 2 b) (h .f) (h .read))))
+      ap₂ (le O) (g .is) (h .is)
+      ∙ le-counts O (g .f) (h .f) (λ z. n (sym (sig-count (l - 1) (getD a 1 0) (drop 2 a) (g .f) (g .read)) ∙ z ∙ sig-count (l - 1) (getD b 1 0) (drop 2 b) (h .f) (h .read))))
 
 -- one is Null, or the other Any: both are only passed over
-module _ (l : ℕ) (a b : List ℕ) (r t : ℕ) (m : MetAt (readable-type l) (readable-type l) anyTwo a 0 b 0 r t) where
-  met-ends : ((x y : Ty) → typeAt l a ≡ some x → typeAt l b ≡ some y → le fixed x y ≡ true) → Met (conformOf (typeAt l a) (typeAt l b)) r t
-  met-ends f = met-as (typesBy anyTwo (typeAt l a) (typeAt l b)) r t (same-test size size (le fixed) anyTwo (typeAt l a) (typeAt l b) f)
+module _ {O : Order} (L : Laws O) (l : ℕ) (a b : List ℕ) (r t : ℕ) (m : MetAt (readable-type l) (readable-type l) anyTwo a 0 b 0 r t) where
+  met-ends : ((x y : Ty) → typeAt l a ≡ some x → typeAt l b ≡ some y → le O x y ≡ true) → Met (conformOf O (typeAt l a) (typeAt l b)) r t
+  met-ends f = met-as (typesBy anyTwo (typeAt l a) (typeAt l b)) r t (same-test size size (le O) anyTwo (typeAt l a) (typeAt l b) f)
       (met-here (readable-type l) (readable-type l) anyTwo a 0 b 0 r t m)
 
-  pub met-null : getD a 0 0 ≡ 41 → Met (conformOf (typeAt l a) (typeAt l b)) r t
-  met-null c = met-ends (λ x y e f. le-null x y (cmd-is l a x e ∙ c) .1)
+  pub met-null : getD a 0 0 ≡ 41 → Met (conformOf O (typeAt l a) (typeAt l b)) r t
+  met-null c = met-ends (λ x y e f. le-null L x y (cmd-is l a x e ∙ c) .1)
 
-  pub met-any : getD b 0 0 ≡ 32 → Met (conformOf (typeAt l a) (typeAt l b)) r t
-  met-any c = met-ends (λ x y e f. le-any x y (cmd-is l b y f ∙ c) .1)
+  pub met-any : getD b 0 0 ≡ 32 → Met (conformOf O (typeAt l a) (typeAt l b)) r t
+  met-any c = met-ends (λ x y e f. le-any L x y (cmd-is l b y f ∙ c) .1)
 
-pub met-simple : (l : ℕ) (a b : List ℕ) → 0 < l → 0 < length a → 0 < length b → getD a 0 0 ≡ getD b 0 0 → 32 ≤ getD a 0 0 → getD a 0 0 ≤ 41 → Met (conformOf (typeAt l a) (typeAt l b)) 1 1
+pub met-simple : {O : Order} → Laws O → (l : ℕ) (a b : List ℕ) → 0 < l → 0 < length a → 0 < length b → getD a 0 0 ≡ getD b 0 0 → 32 ≤ getD a 0 0 → getD a 0 0 ≤ 41
+    → Met (conformOf O (typeAt l a) (typeAt l b)) 1 1
 unfolding size
-met-simple l a b p ha hb e i j =
+met-simple {O} L l a b p ha hb e i j =
     let x = decode (getD a 0 0 - 32) in
     let y = decode (getD b 0 0 - 32) in
     let xy : x ≡ y = ap (λ c. decode (c - 32)) e in
-    met-yes (both size size (le fixed) (typeAt l a) (typeAt l b) (leaf x) (leaf y) (read-simple l a p ha i j) (read-simple l b p hb (omega (arith, e)) (omega (arith, e)))
-    ∙ ap (λ z. judge z 1 1) (le-leaves x y xy)) refl refl
+    met-yes (both size size (le O) (typeAt l a) (typeAt l b) (leaf x) (leaf y) (read-simple l a p ha i j) (read-simple l b p hb (omega (arith, e)) (omega (arith, e)))
+    ∙ ap (λ z. judge z 1 1) (le-leaves L x y xy)) refl refl
 
 module _ (l : ℕ) (a b : List ℕ) (p : 0 < l) (ha : 0 < length a) (hb : 0 < length b) (r t : ℕ) where
-  -- parents of one type each
-  met-wrapped : (wrap : Ty → Ty) → typeAt l a ≡ mapO wrap (typeAt (l - 1) (drop 1 a)) → typeAt l b ≡ mapO wrap (typeAt (l - 1) (drop 1 b))
-      → ((x y : Ty) → le fixed (wrap x) (wrap y) ≡ le fixed x y) → ((x : Ty) → size (wrap x) ≡ size x + 1)
-      → Met (addSizes 1 1 (conformOf (typeAt (l - 1) (take (length a - 1) (drop 1 a))) (typeAt (l - 1) (take (length b - 1) (drop 1 b))))) r t
-      → Met (conformOf (typeAt l a) (typeAt l b)) r t
-  met-wrapped wrap e f test sz m = met-as (addSizes 1 1 (conformOf (typeAt (l - 1) (drop 1 a)) (typeAt (l - 1) (drop 1 b)))) r t
-      (ap₂ conformOf e f ∙ mapped size size (le fixed) size size (le fixed) wrap wrap 1 1 (typeAt (l - 1) (drop 1 a)) (typeAt (l - 1) (drop 1 b)) (λ x y e f. test x y) (λ x e. sz x) sz)
-      (rw (rest a 1, rest b 1) at m)
-
-  pub met-list : getD a 0 0 ≡ 42 → getD b 0 0 ≡ 42
-      → Met (addSizes 1 1 (conformOf (typeAt (l - 1) (take (length a - 1) (drop 1 a))) (typeAt (l - 1) (take (length b - 1) (drop 1 b))))) r t
-      → Met (conformOf (typeAt l a) (typeAt l b)) r t
-  unfolding cmp size
-  met-list c d m = met-wrapped (λ x. built (list x)) (node-list l a p ha c) (node-list l b p hb d) (λ x y. refl) (λ x. omega arith) m
-
-  pub met-range : getD a 0 0 ≡ 43 → getD b 0 0 ≡ 43
-      → Met (addSizes 1 1 (conformOf (typeAt (l - 1) (take (length a - 1) (drop 1 a))) (typeAt (l - 1) (take (length b - 1) (drop 1 b))))) r t
-      → Met (conformOf (typeAt l a) (typeAt l b)) r t
-  unfolding cmp size
-  met-range c d m = met-wrapped (λ x. built (range x)) (node-range l a p ha c) (node-range l b p hb d) (λ x y. refl) (λ x. omega arith) m
-
   -- two contexts, by a test that goes name by name
   pub met-contexts : (test child : Ty → Ty → Bool) → ((x y : Fields) → AscFields x 0 → test (built (context x)) (built (context y)) ≡ entries child x y) → (n k : ℕ)
       → n ≡ numAt 2 1 a → k ≡ numAt 2 1 b → getD a 0 0 ≡ 44 → getD b 0 0 ≡ 44 → 3 ≤ length a → 3 ≤ length b
@@ -225,19 +206,41 @@ module _ (l : ℕ) (a b : List ℕ) (p : 0 < l) (ha : 0 < length a) (hb : 0 < le
       ∙ mapped sizeFields sizeFields (entries child) size size test (λ x. built (context x)) (λ x. built (context x)) 3 3 (fieldsAt (l - 1) n 0 (drop 3 a)) (fieldsAt (l - 1) k 0 (drop 3 b))
       (λ x y e f. is x y (fields-good (l - 1) n 0 (drop 3 a) x e .0)) (λ x e. omega arith) (λ x. omega arith)) (rw (rest a 3, rest b 3) at m)
 
+module _ (O : Order) (l : ℕ) (a b : List ℕ) (p : 0 < l) (ha : 0 < length a) (hb : 0 < length b) (r t : ℕ) where
+  -- parents of one type each
+  met-wrapped : (wrap : Ty → Ty) → typeAt l a ≡ mapO wrap (typeAt (l - 1) (drop 1 a)) → typeAt l b ≡ mapO wrap (typeAt (l - 1) (drop 1 b))
+      → ((x y : Ty) → le O (wrap x) (wrap y) ≡ le O x y) → ((x : Ty) → size (wrap x) ≡ size x + 1)
+      → Met (addSizes 1 1 (conformOf O (typeAt (l - 1) (take (length a - 1) (drop 1 a))) (typeAt (l - 1) (take (length b - 1) (drop 1 b))))) r t
+      → Met (conformOf O (typeAt l a) (typeAt l b)) r t
+  met-wrapped wrap e f test sz m = met-as (addSizes 1 1 (conformOf O (typeAt (l - 1) (drop 1 a)) (typeAt (l - 1) (drop 1 b)))) r t
+      (ap₂ (conformOf O) e f ∙ mapped size size (le O) size size (le O) wrap wrap 1 1 (typeAt (l - 1) (drop 1 a)) (typeAt (l - 1) (drop 1 b)) (λ x y e f. test x y) (λ x e. sz x) sz)
+      (rw (rest a 1, rest b 1) at m)
+
+  pub met-list : getD a 0 0 ≡ 42 → getD b 0 0 ≡ 42
+      → Met (addSizes 1 1 (conformOf O (typeAt (l - 1) (take (length a - 1) (drop 1 a))) (typeAt (l - 1) (take (length b - 1) (drop 1 b))))) r t
+      → Met (conformOf O (typeAt l a) (typeAt l b)) r t
+  unfolding cmp size
+  met-list c d m = met-wrapped (λ x. built (list x)) (node-list l a p ha c) (node-list l b p hb d) (λ x y. refl) (λ x. omega arith) m
+
+  pub met-range : getD a 0 0 ≡ 43 → getD b 0 0 ≡ 43
+      → Met (addSizes 1 1 (conformOf O (typeAt (l - 1) (take (length a - 1) (drop 1 a))) (typeAt (l - 1) (take (length b - 1) (drop 1 b))))) r t
+      → Met (conformOf O (typeAt l a) (typeAt l b)) r t
+  unfolding cmp size
+  met-range c d m = met-wrapped (λ x. built (range x)) (node-range l a p ha c) (node-range l b p hb d) (λ x y. refl) (λ x. omega arith) m
+
   pub met-context : (n k : ℕ) → n ≡ numAt 2 1 a → k ≡ numAt 2 1 b → getD a 0 0 ≡ 44 → getD b 0 0 ≡ 44 → 3 ≤ length a → 3 ≤ length b
-      → Met (addSizes 3 3 (conformBy sizeFields sizeFields (entries (le fixed)) (fieldsAt (l - 1) n 0 (take (length a - 3) (drop 3 a))) (fieldsAt (l - 1) k 0 (take (length b - 3) (drop 3 b))))) r t
-      → Met (conformOf (typeAt l a) (typeAt l b)) r t
-  met-context n k ne ke c d i j m = met-contexts (le fixed) (le fixed) (λ x y w. le-contexts fixed x y) n k ne ke c d i j m
+      → Met (addSizes 3 3 (conformBy sizeFields sizeFields (entries (le O)) (fieldsAt (l - 1) n 0 (take (length a - 3) (drop 3 a))) (fieldsAt (l - 1) k 0 (take (length b - 3) (drop 3 b))))) r t
+      → Met (conformOf O (typeAt l a) (typeAt l b)) r t
+  met-context n k ne ke c d i j m = met-contexts l a b p ha hb r t (le O) (le O) (λ x y w. le-contexts O x y) n k ne ke c d i j m
 
   pub met-function : (n : ℕ) → n ≡ getD a 1 0 → getD a 1 0 ≡ getD b 1 0 → getD a 0 0 ≡ 45 → getD b 0 0 ≡ 45 → 2 ≤ length a → 2 ≤ length b
-      → Met (addSizes 2 2 (conformBy sizeSig sizeSig (leSig (eqb n 0)) (sigAt (l - 1) n (take (length a - 2) (drop 2 a))) (sigAt (l - 1) n (take (length b - 2) (drop 2 b))))) r t
-      → Met (conformOf (typeAt l a) (typeAt l b)) r t
-  met-function n ne ab c d i j m = met-as (addSizes 2 2 (conformBy sizeSig sizeSig (leSig (eqb n 0)) (sigAt (l - 1) n (drop 2 a)) (sigAt (l - 1) n (drop 2 b)))) r t
-      (ap₂ conformOf (node-function l a p ha c i ∙ ap (λ z. mapO funOf (sigAt (l - 1) z (drop 2 a))) (sym ne))
+      → Met (addSizes 2 2 (conformBy sizeSig sizeSig (leSig O (ignoresAt O n)) (sigAt (l - 1) n (take (length a - 2) (drop 2 a))) (sigAt (l - 1) n (take (length b - 2) (drop 2 b))))) r t
+      → Met (conformOf O (typeAt l a) (typeAt l b)) r t
+  met-function n ne ab c d i j m = met-as (addSizes 2 2 (conformBy sizeSig sizeSig (leSig O (ignoresAt O n)) (sigAt (l - 1) n (drop 2 a)) (sigAt (l - 1) n (drop 2 b)))) r t
+      (ap₂ (conformOf O) (node-function l a p ha c i ∙ ap (λ z. mapO funOf (sigAt (l - 1) z (drop 2 a))) (sym ne))
       (node-function l b p hb d j ∙ ap (λ z. mapO funOf (sigAt (l - 1) z (drop 2 b))) (sym (ne ∙ ab)))
-      ∙ mapped sizeSig sizeSig (leSig (eqb n 0)) size size (le fixed) funOf funOf 2 2 (sigAt (l - 1) n (drop 2 a)) (sigAt (l - 1) n (drop 2 b))
-      (λ x y e f. le-funs x y n (sig-count (l - 1) n (drop 2 a) x e)) (λ x e. size-fun x) size-fun) (rw (rest a 2, rest b 2) at m)
+      ∙ mapped sizeSig sizeSig (leSig O (ignoresAt O n)) size size (le O) funOf funOf 2 2 (sigAt (l - 1) n (drop 2 a)) (sigAt (l - 1) n (drop 2 b))
+      (λ x y e f. le-funs O x y n (sig-count (l - 1) n (drop 2 a) x e)) (λ x e. size-fun x) size-fun) (rw (rest a 2, rest b 2) at m)
 
 -- ---- two at the front, behind k bytes each: the returns of `conform_inner` and of a function without parameters
 module _ (test : Ty → Ty → Bool) (l : ℕ) (a b : List ℕ) (k r t : ℕ) (m : MetAt (readable-type l) (readable-type l) test a 0 b 0 r t) where
@@ -254,27 +257,27 @@ behind-pair test l a b k r t P p q e f =
     (omega (arith, e, P .size-a)) (omega (arith, f, P .size-b))
 
 -- ---- parameters in step
-pub record SigGo (l : ℕ) (ig : Bool) (whole : Conform) (a b : List ℕ) (count at bt i : ℕ) : Type 0 where
+pub record SigGo (O : Order) (l : ℕ) (ig : Bool) (whole : Conform) (a b : List ℕ) (count at bt i : ℕ) : Type 0 where
   pub below : i ≤ count
   pub in-a : at ≤ length a
   pub in-b : bt ≤ length b
-  pub goes : whole ≡ addSizes at bt (conformBy sizeSig sizeSig (leSig ig) (sigAt l (count - i) (drop at a)) (sigAt l (count - i) (drop bt b)))
+  pub goes : whole ≡ addSizes at bt (conformBy sizeSig sizeSig (leSig O ig) (sigAt l (count - i) (drop at a)) (sigAt l (count - i) (drop bt b)))
 
-pub sig-start : (l : ℕ) (ig : Bool) (a b : List ℕ) (count : ℕ) → SigGo l ig (conformBy sizeSig sizeSig (leSig ig) (sigAt l count a) (sigAt l count b)) a b count 0 0 0
-sig-start l ig a b count =
+pub sig-start : (O : Order) (l : ℕ) (ig : Bool) (a b : List ℕ) (count : ℕ) → SigGo O l ig (conformBy sizeSig sizeSig (leSig O ig) (sigAt l count a) (sigAt l count b)) a b count 0 0 0
+sig-start O l ig a b count =
     let x : count ≡ count - 0 = omega arith in
     record {
       below = omega arith;
       in-a = omega arith;
       in-b = omega arith;
-      goes = ap (λ p. conformBy sizeSig sizeSig (leSig ig) (sigAt l p a) (sigAt l p b)) x
-          ∙ grown-none (conformBy sizeSig sizeSig (leSig ig) (sigAt l (count - 0) a) (sigAt l (count - 0) b));
+      goes = ap (λ p. conformBy sizeSig sizeSig (leSig O ig) (sigAt l p a) (sigAt l p b)) x
+          ∙ grown-none (conformBy sizeSig sizeSig (leSig O ig) (sigAt l (count - 0) a) (sigAt l (count - 0) b));
     }
 
-module _ {l : ℕ} {ig : Bool} {whole : Conform} {a b : List ℕ} {count at bt i : ℕ} (v : SigGo l ig whole a b count at bt i) where
-  pub sig-turn : i < count → (r s : ℕ) → Pair (readable-type l) (readable-type l) (le fixed) b bt a at r s → SigGo l ig whole a b count (at + s) (bt + r) (i + 1)
+module _ {O : Order} {l : ℕ} {ig : Bool} {whole : Conform} {a b : List ℕ} {count at bt i : ℕ} (v : SigGo O l ig whole a b count at bt i) where
+  pub sig-turn : i < count → (r s : ℕ) → Pair (readable-type l) (readable-type l) (le O) b bt a at r s → SigGo O l ig whole a b count (at + s) (bt + r) (i + 1)
   sig-turn h r s P =
-      let I = pair-in (readable-type l) (readable-type l) (le fixed) b bt a at r s (v .in-b) (v .in-a) P in
+      let I = pair-in (readable-type l) (readable-type l) (le O) b bt a at r s (v .in-b) (v .in-a) P in
       let A = sigAt l (count - (i + 1)) (drop (at + s) a) in
       let B = sigAt l (count - (i + 1)) (drop (bt + r) b) in
       let ea : sigAt l (count - i) (drop at a) ≡ mapO (cons (P .y)) A = param-on l i count at a (P .y) h (P .read-b)
@@ -285,48 +288,57 @@ module _ {l : ℕ} {ig : Bool} {whole : Conform} {a b : List ℕ} {count at bt i
         below = omega arith;
         in-a = I .1;
         in-b = I .0;
-        goes = v .goes ∙ ap (addSizes at bt) (ap₂ (conformBy sizeSig sizeSig (leSig ig)) ea eb
-            ∙ mapped sizeSig sizeSig (leSig ig) sizeSig sizeSig (leSig ig) (cons (P .y)) (cons (P .x)) s r A B (λ f g e o. le-cons ig (P .y) (P .x) f g ∙ ap (λ x. x && leSig ig f g) (P .holds))
+        goes = v .goes ∙ ap (addSizes at bt) (ap₂ (conformBy sizeSig sizeSig (leSig O ig)) ea eb
+            ∙ mapped sizeSig sizeSig (leSig O ig) sizeSig sizeSig (leSig O ig) (cons (P .y)) (cons (P .x)) s r A B
+            (λ f g e o. le-cons O ig (P .y) (P .x) f g ∙ ap (λ x. x && leSig O ig f g) (P .holds))
             (λ f e. omega (arith, size-cons (P .y) f, P .size-b)) (λ g. omega (arith, size-cons (P .x) g, P .size-a)))
-            ∙ grown-on at bt s r (conformBy sizeSig sizeSig (leSig ig) A B);
+            ∙ grown-on at bt s r (conformBy sizeSig sizeSig (leSig O ig) A B);
       }
 
-  pub sig-apart : i < count → (k t r s : ℕ) → MetAt (readable-type l) (readable-type l) (le fixed) b bt a at r s → r ≡ 0 → Met (addSizes k k whole) 0 t
-  sig-apart h k t r s m z = met-no 0 t (ap (addSizes k k) (v .goes ∙ ap (addSizes at bt) (no-when sizeSig sizeSig (leSig ig) (sigAt l (count - i) (drop at a)) (sigAt l (count - i) (drop bt b))
+  pub sig-apart : i < count → (k t r s : ℕ) → MetAt (readable-type l) (readable-type l) (le O) b bt a at r s → r ≡ 0 → Met (addSizes k k whole) 0 t
+  sig-apart h k t r s m z = met-no 0 t (ap (addSizes k k) (v .goes ∙ ap (addSizes at bt) (no-when sizeSig sizeSig (leSig O ig) (sigAt l (count - i) (drop at a)) (sigAt l (count - i) (drop bt b))
       (λ f g e o.
       let A = param-at l i count at a f h (v .in-a) e in
       let B = param-at l i count bt b g h (v .in-b) o in
-      ap₂ (leSig ig) (A .is) (B .is) ∙ le-cons ig (A .x) (B .x) (A .more) (B .more)
-      ∙ ap (λ x. x && leSig ig (A .more) (B .more)) (pair-no (readable-type l) (readable-type l) (le fixed) b bt a at r s m z (B .x) (A .x) (B .first) (A .first)))))) refl
+      ap₂ (leSig O ig) (A .is) (B .is) ∙ le-cons O ig (A .x) (B .x) (A .more) (B .more)
+      ∙ ap (λ x. x && leSig O ig (A .more) (B .more)) (pair-no (readable-type l) (readable-type l) (le O) b bt a at r s m z (B .x) (A .x) (B .first) (A .first)))))) refl
 
   -- behind the last: the results
-  last-is : count ≤ i → whole ≡ addSizes at bt (typesBy (λ r s. ig || le fixed r s) (typeAt l (drop at a)) (typeAt l (drop bt b)))
+  last-is : count ≤ i → whole ≡ addSizes at bt (typesBy (λ r s. ig || le O r s) (typeAt l (drop at a)) (typeAt l (drop bt b)))
   unfolding cmp size
   last-is h =
       let z : count - i ≡ 0 = omega arith in
       v .goes
-      ∙ ap (addSizes at bt) (ap (λ k. conformBy sizeSig sizeSig (leSig ig) (sigAt l k (drop at a)) (sigAt l k (drop bt b))) z
-      ∙ ap₂ (conformBy sizeSig sizeSig (leSig ig)) (result-read l (drop at a)) (result-read l (drop bt b))
-      ∙ mapped size size (λ r s. ig || le fixed r s) sizeSig sizeSig (leSig ig) (sig no-params) (sig no-params) 0 0 (typeAt l (drop at a)) (typeAt l (drop bt b)) (λ x y e f. refl)
+      ∙ ap (addSizes at bt) (ap (λ k. conformBy sizeSig sizeSig (leSig O ig) (sigAt l k (drop at a)) (sigAt l k (drop bt b))) z
+      ∙ ap₂ (conformBy sizeSig sizeSig (leSig O ig)) (result-read l (drop at a)) (result-read l (drop bt b))
+      ∙ mapped size size (λ r s. ig || le O r s) sizeSig sizeSig (leSig O ig) (sig no-params) (sig no-params) 0 0 (typeAt l (drop at a)) (typeAt l (drop bt b)) (λ x y e f. refl)
       (λ x e. omega arith) (λ x. omega arith)
-      ∙ sym (grown-none (typesBy (λ r s. ig || le fixed r s) (typeAt l (drop at a)) (typeAt l (drop bt b)))))
+      ∙ sym (grown-none (typesBy (λ r s. ig || le O r s) (typeAt l (drop at a)) (typeAt l (drop bt b)))))
 
--- parameters: the results are compared
-module _ {l : ℕ} {whole : Conform} {a b : List ℕ} {count at bt i : ℕ} (v : SigGo l (eqb count 0) whole a b count at bt i) (h : count ≤ i) (nz : 0 ≡ count → ⊥) (r s : ℕ)
-    (m : MetAt (readable-type l) (readable-type l) (le fixed) a at b bt r s) where
-  looked-at : whole ≡ addSizes at bt (conformOf (typeAt l (drop at a)) (typeAt l (drop bt b)))
-  looked-at = last-is v h ∙ ap (λ q. addSizes at bt (typesBy (λ x y. q || le fixed x y) (typeAt l (drop at a)) (typeAt l (drop bt b)))) (ne-eqb count 0 (λ e. nz (sym e)))
+-- the results are compared
+module _ {O : Order} {l : ℕ} {ig : Bool} {whole : Conform} {a b : List ℕ} {count at bt i : ℕ} (v : SigGo O l ig whole a b count at bt i) (h : count ≤ i) (nz : ig ≡ false) (r s : ℕ)
+    (m : MetAt (readable-type l) (readable-type l) (le O) a at b bt r s) where
+  looked-at : whole ≡ addSizes at bt (conformOf O (typeAt l (drop at a)) (typeAt l (drop bt b)))
+  looked-at = last-is v h ∙ ap (λ q. addSizes at bt (typesBy (λ x y. q || le O x y) (typeAt l (drop at a)) (typeAt l (drop bt b)))) nz
 
   pub sig-done : (r ≡ 0 → ⊥) → (p q : ℕ) → p ≡ at + r + 2 → q ≡ bt + s + 2 → Met (addSizes 2 2 whole) p q
-  sig-done z p q e f = met-yes (ap (addSizes 2 2) (looked-at ∙ ap (addSizes at bt) (pair-yes (readable-type l) (readable-type l) (le fixed) a at b bt r s m z))) (omega (arith, e)) (omega (arith, f))
+  sig-done z p q e f = met-yes (ap (addSizes 2 2) (looked-at ∙ ap (addSizes at bt) (pair-yes (readable-type l) (readable-type l) (le O) a at b bt r s m z))) (omega (arith, e)) (omega (arith, f))
 
   pub sig-last-apart : r ≡ 0 → (t : ℕ) → Met (addSizes 2 2 whole) 0 t
-  sig-last-apart z t = met-no 0 t (ap (addSizes 2 2) (looked-at ∙ ap (addSizes at bt) (pair-none (readable-type l) (readable-type l) (le fixed) a at b bt r s m z))) refl
+  sig-last-apart z t = met-no 0 t (ap (addSizes 2 2) (looked-at ∙ ap (addSizes at bt) (pair-none (readable-type l) (readable-type l) (le O) a at b bt r s m z))) refl
 
--- no parameters: the results are passed over
-pub passed-over : (l : ℕ) (a b : List ℕ) (count : ℕ) → 0 ≡ count → (r t : ℕ) → Met (addSizes 2 2 (typesBy anyTwo (typeAt l a) (typeAt l b))) r t
-    → Met (addSizes 2 2 (conformBy sizeSig sizeSig (leSig (eqb count 0)) (sigAt l count a) (sigAt l count b))) r t
-passed-over l a b count z r t m =
+-- when they are: strict, or with parameters
+pub compared-strict : (O : Order) (count : ℕ) → O .strict ≡ true → ignoresAt O count ≡ false
+compared-strict O count e = ap (λ q. not q && eqb count 0) e
+
+pub compared-some : (O : Order) (count : ℕ) → (0 ≡ count → ⊥) → ignoresAt O count ≡ false
+compared-some O count nz = ap (λ q. not (O .strict) && q) (ne-eqb count 0 (λ e. nz (sym e))) ∙ and-false (not (O .strict))
+
+-- no parameters, and not strict: the results are passed over
+pub passed-over : (O : Order) (l : ℕ) (a b : List ℕ) (count : ℕ) → 0 ≡ count → O .strict ≡ false → (r t : ℕ) → Met (addSizes 2 2 (typesBy anyTwo (typeAt l a) (typeAt l b))) r t
+    → Met (addSizes 2 2 (conformBy sizeSig sizeSig (leSig O (ignoresAt O count)) (sigAt l count a) (sigAt l count b))) r t
+passed-over O l a b count z plain r t m =
     met-as (addSizes 2 2 (typesBy anyTwo (typeAt l a) (typeAt l b))) r t
-    (ap (addSizes 2 2) (last-is (sig-start l (eqb count 0) a b count) (omega (arith, z)) ∙ sym (grown-none (typesBy (λ r s. eqb count 0 || le fixed r s) (typeAt l a) (typeAt l b)))
-    ∙ ap (λ q. typesBy (λ r s. q || le fixed r s) (typeAt l a) (typeAt l b)) (eq-eqb count 0 (sym z)))) m
+    (ap (addSizes 2 2) (last-is (sig-start O l (ignoresAt O count) a b count) (omega (arith, z))
+    ∙ sym (grown-none (typesBy (λ r s. ignoresAt O count || le O r s) (typeAt l a) (typeAt l b)))
+    ∙ ap₂ (λ p q. typesBy (λ r s. (not p && q) || le O r s) (typeAt l a) (typeAt l b)) plain (eq-eqb count 0 (sym z)))) m

@@ -6,15 +6,31 @@ use Prim.Native.Nat.{ℕ}
 use Rattle.form.specs.Trees.{null, Ty, leaf, built, simple}
 use Rattle.form.specs.Outcome.{Outcome, done, refused, _>>=_}
 use Rattle.form.specs.Read.{readType}
-use Rattle.order.specs.Order.{same}
-use Rattle.order.specs.Document.{conformsTo, isInstanceOf}
+use Rattle.order.specs.Order.{Order, fixed, strictOrder, same}
+use Rattle.order.specs.Types.{le}
+use Rattle.order.specs.Document.{isInstanceOf}
 
--- FeelType::is_conformant: self, then the target
-unfoldable pub isConformant : List ℕ → List ℕ → Outcome Bool
-isConformant a b = do
+-- conformance of two types under an order: self, then the target
+unfoldable pub isConformantBy : Order → List ℕ → List ℕ → Outcome Bool
+isConformantBy O a b = do
   s ← readType a
   t ← readType b
-  done (conformsTo s t)
+  done (le O s t)
+
+-- FeelType::is_conformant: document 01's relation
+abbrev pub isConformant : List ℕ → List ℕ → Outcome Bool
+isConformant a b = isConformantBy fixed a b
+
+-- K8: as DMN has it
+abbrev pub strictIsConformant : List ℕ → List ℕ → Outcome Bool
+strictIsConformant a b = isConformantBy strictOrder a b
+
+-- both are read, and the answer is no: what is left to say where they do not conform
+unfoldable pub readThenNo : List ℕ → List ℕ → Outcome Bool
+readThenNo a b = do
+  s ← readType a
+  t ← readType b
+  done false
 
 -- it answers yes
 abbrev pub isYes : Outcome Bool → Bool

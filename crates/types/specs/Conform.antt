@@ -2,10 +2,11 @@
 -- Assumes nothing.
 use Prim.Native.Nat.{ℕ, _+_}
 use mathlib.Core.Path.{_≡_}
-use mathlib.Core.Bool.{Bool, true, false, _&&_, _||_}
+use mathlib.Core.Bool.{Bool, true, false, not, _&&_, _||_}
 use mathlib.Core.Option.{Option, none, some}
+use lib.Dec.{eqb}
 use Rattle.form.specs.Trees.{Ty, Fields, simple}
-use Rattle.order.specs.Order.{up, fixed}
+use Rattle.order.specs.Order.{up, Order}
 use Rattle.order.specs.Types.{lookup, found, allFields, le, cmps}
 use Rattle.order.specs.Size.{size}
 use Rattle.order.specs.Document.{eqTy}
@@ -29,16 +30,21 @@ conformBy sx sy test none y = No
 abbrev pub typesBy : (Ty → Ty → Bool) → Option Ty → Option Ty → Conform
 typesBy test x y = conformBy size size test x y
 
-abbrev pub conformOf : Option Ty → Option Ty → Conform
-conformOf x y = typesBy (le fixed) x y
+-- conformance under an order
+abbrev pub conformOf : Order → Option Ty → Option Ty → Conform
+conformOf O x y = typesBy (le O) x y
 
 -- each name of the second is in the first, with a type that passes the test
 abbrev pub entries : (Ty → Ty → Bool) → Fields → Fields → Bool
 entries test fs gs = allFields (λ n t. found (lookup n fs) (λ a. test a t)) gs
 
+-- whether the results of two functions with so many parameters are ignored
+abbrev pub ignoresAt : Order → ℕ → Bool
+ignoresAt O n = not (O .strict) && eqb n 0
+
 -- parameters the other way round; whether the results are looked at is told from outside
-abbrev pub leSig : Bool → Sig → Sig → Bool
-leSig ignored (sig ps r) (sig qs s) = cmps fixed up qs ps && (ignored || le fixed r s)
+abbrev pub leSig : Order → Bool → Sig → Sig → Bool
+leSig O ignored (sig ps r) (sig qs s) = cmps O up qs ps && (ignored || le O r s)
 
 -- nothing is asked but that both were read
 abbrev pub anyTwo : Ty → Ty → Bool

@@ -2,13 +2,13 @@
 ghost use mathlib.Core.Path.{_≡_};
 ghost use Prim.Native.Nat.{_+_, _<_, _≤_, _^_};
 ghost use lib.ListN.{length, drop};
-ghost use lib.Dec.{eqb};
-ghost use Rattle.order.specs.Order.{fixed};
+ghost use Rattle.order.specs.Order.{orderOf};
 ghost use Rattle.order.specs.Types.{le};
 ghost use Rattle.order.specs.Size.{sizeFields};
 ghost use Rattle.types.specs.At.{typeAt, fieldsAt, sigAt, sizeSig};
-ghost use Rattle.types.specs.Conform.{conformOf, conformBy, typesBy, entries, leSig, anyTwo, sameSimple, addSizes, Met};
-ghost use Rattle.types.specs.Calls.{isYes, isConformant};
+ghost use Rattle.types.specs.Conform.{conformOf, conformBy, typesBy, entries, ignoresAt, leSig, anyTwo, sameSimple, addSizes, Met};
+ghost use Rattle.types.specs.Calls.{isYes, isConformantBy};
+use crate::readings;
 use crate::walk;
 use form::commands;
 use form::limits::MOST_BYTES;
@@ -53,8 +53,8 @@ fn same_simple(a: &[u8], at: usize, b: &[u8], bt: usize, left: usize) -> usize
 }
 
 // Whether the type at the front of `a` conforms to the one at the front of `b`.
-pub fn conforms(a: &[u8], b: &[u8], left: usize, other: &mut usize) -> usize
-    ensures { λ r. ⌜ Met (conformOf (typeAt left (now (a .entry))) (typeAt left (now (b .entry)))) r (now (other .exit)) ⌝ }
+pub fn conforms(a: &[u8], b: &[u8], left: usize, other: &mut usize, reading: u64) -> usize
+    ensures { λ r. ⌜ Met (conformOf (orderOf reading) (typeAt left (now (a .entry))) (typeAt left (now (b .entry)))) r (now (other .exit)) ⌝ }
 {
     if left == 0 {
         return 0;
@@ -81,8 +81,8 @@ pub fn conforms(a: &[u8], b: &[u8], left: usize, other: &mut usize) -> usize
             *other = 1;
             1
         }
-        commands::LIST_TYPE => conform_inner(&a[1..], &b[1..], left - 1, other),
-        commands::RANGE_TYPE => conform_inner(&a[1..], &b[1..], left - 1, other),
+        commands::LIST_TYPE => conform_inner(&a[1..], &b[1..], left - 1, other, reading),
+        commands::RANGE_TYPE => conform_inner(&a[1..], &b[1..], left - 1, other, reading),
         commands::CONTEXT_TYPE => {
             if a.len() < 3 {
                 return 0;
@@ -97,6 +97,7 @@ pub fn conforms(a: &[u8], b: &[u8], left: usize, other: &mut usize) -> usize
                 form::bytes::word_at(b, 1),
                 left - 1,
                 other,
+                reading,
             )
         }
         commands::FUNCTION_TYPE => {
@@ -110,23 +111,30 @@ pub fn conforms(a: &[u8], b: &[u8], left: usize, other: &mut usize) -> usize
             if k != b[1] {
                 return 0;
             }
-            conform_sig(&a[2..], &b[2..], form::bytes::wide(k), left - 1, other)
+            conform_sig(
+                &a[2..],
+                &b[2..],
+                form::bytes::wide(k),
+                left - 1,
+                other,
+                reading,
+            )
         }
         _ => 0,
     }
 }
 
 // Two inner types, behind one byte each.
-fn conform_inner(a: &[u8], b: &[u8], left: usize, other: &mut usize) -> usize
+fn conform_inner(a: &[u8], b: &[u8], left: usize, other: &mut usize, reading: u64) -> usize
     requires { ⌜ (length (now a) + 1 < 2 ^ 64) × (length (now b) + 1 < 2 ^ 64) ⌝ }
-    ensures { λ r. ⌜ Met (addSizes 1 1 (conformOf (typeAt left (now (a .entry))) (typeAt left (now (b .entry))))) r (now (other .exit)) ⌝ }
+    ensures { λ r. ⌜ Met (addSizes 1 1 (conformOf (orderOf reading) (typeAt left (now (a .entry))) (typeAt left (now (b .entry))))) r (now (other .exit)) ⌝ }
 {
     let k = same_simple(a, 0, b, 0, left);
     if k != 0 {
         *other = k + 1;
         return k + 1;
     }
-    let x = conforms(&a[0..], &b[0..], left, other);
+    let x = conforms(&a[0..], &b[0..], left, other, reading);
     if x == 0 {
         return 0;
     }
@@ -134,18 +142,27 @@ fn conform_inner(a: &[u8], b: &[u8], left: usize, other: &mut usize) -> usize
     x + 1
 }
 
-// `count` parameters, the other way round, and the results behind them, which count 0 only passes over; behind two bytes each.
-fn conform_sig(a: &[u8], b: &[u8], count: usize, left: usize, other: &mut usize) -> usize
+// `count` parameters, the other way round, and the results behind them, which document 01 only passes over for count 0; behind two bytes each.
+fn conform_sig(
+    a: &[u8],
+    b: &[u8],
+    count: usize,
+    left: usize,
+    other: &mut usize,
+    reading: u64,
+) -> usize
     requires { ⌜ (length (now a) + 2 < 2 ^ 64) × (length (now b) + 2 < 2 ^ 64) ⌝ }
-    ensures { λ r. ⌜ Met (addSizes 2 2 (conformBy sizeSig sizeSig (leSig (eqb count 0)) (sigAt left count (now (a .entry))) (sigAt left count (now (b .entry))))) r (now (other .exit)) ⌝ }
+    ensures { λ r. ⌜ Met (addSizes 2 2 (conformBy sizeSig sizeSig (leSig (orderOf reading) (ignoresAt (orderOf reading) count)) (sigAt left count (now (a .entry))) (sigAt left count (now (b .entry))))) r (now (other .exit)) ⌝ }
 {
     if 0 == count {
-        let x = skip_both(&a[0..], &b[0..], left, other);
-        if x == 0 {
-            return 0;
+        if !readings::is_strict(reading) {
+            let x = skip_both(&a[0..], &b[0..], left, other);
+            if x == 0 {
+                return 0;
+            }
+            *other = *other + 2;
+            return x + 2;
         }
-        *other = *other + 2;
-        return x + 2;
     }
     let mut at: usize = 0;
     let mut bt: usize = 0;
@@ -158,14 +175,14 @@ fn conform_sig(a: &[u8], b: &[u8], count: usize, left: usize, other: &mut usize)
             at = at + k;
             continue;
         }
-        let y = conforms(&b[bt..], &a[at..], left, other);
+        let y = conforms(&b[bt..], &a[at..], left, other, reading);
         if y == 0 {
             return 0;
         }
         bt = bt + y;
         at = at + *other;
     }
-    let x = conforms(&a[at..], &b[bt..], left, other);
+    let x = conforms(&a[at..], &b[bt..], left, other, reading);
     if x == 0 {
         return 0;
     }
@@ -174,9 +191,17 @@ fn conform_sig(a: &[u8], b: &[u8], count: usize, left: usize, other: &mut usize)
 }
 
 // n entries of one context type and m of another, the names of both ascending; behind three bytes each.
-fn conform_fields(a: &[u8], n: usize, b: &[u8], m: usize, left: usize, other: &mut usize) -> usize
+fn conform_fields(
+    a: &[u8],
+    n: usize,
+    b: &[u8],
+    m: usize,
+    left: usize,
+    other: &mut usize,
+    reading: u64,
+) -> usize
     requires { ⌜ (length (now a) + 3 < 2 ^ 64) × (length (now b) + 3 < 2 ^ 64) ⌝ }
-    ensures { λ r. ⌜ Met (addSizes 3 3 (conformBy sizeFields sizeFields (entries (le fixed)) (fieldsAt left n 0 (now (a .entry))) (fieldsAt left m 0 (now (b .entry))))) r (now (other .exit)) ⌝ }
+    ensures { λ r. ⌜ Met (addSizes 3 3 (conformBy sizeFields sizeFields (entries (le (orderOf reading))) (fieldsAt left n 0 (now (a .entry))) (fieldsAt left m 0 (now (b .entry))))) r (now (other .exit)) ⌝ }
 {
     let mut at: usize = 0;
     let mut least: usize = 0;
@@ -221,7 +246,7 @@ fn conform_fields(a: &[u8], n: usize, b: &[u8], m: usize, left: usize, other: &m
             bt = q + k;
             continue;
         }
-        let x = conforms(&a[p..], &b[q..], left, other);
+        let x = conforms(&a[p..], &b[q..], left, other, reading);
         if x == 0 {
             return 0;
         }
@@ -236,8 +261,8 @@ fn conform_fields(a: &[u8], n: usize, b: &[u8], m: usize, left: usize, other: &m
 }
 
 // Whether both are whole types and the first conforms to the second.
-pub(crate) fn passes(a: &[u8], b: &[u8]) -> bool
-    ensures { λ r. ⌜ r ≡ isYes (isConformant (now (a .entry)) (now (b .entry))) ⌝ }
+pub(crate) fn passes(a: &[u8], b: &[u8], reading: u64) -> bool
+    ensures { λ r. ⌜ r ≡ isYes (isConformantBy (orderOf reading) (now (a .entry)) (now (b .entry))) ⌝ }
 {
     if MOST_BYTES < a.len() {
         return false;
@@ -246,7 +271,7 @@ pub(crate) fn passes(a: &[u8], b: &[u8]) -> bool
         return false;
     }
     let mut other: usize = 0;
-    let size = conforms(a, b, TYPE_LEVELS, &mut other);
+    let size = conforms(a, b, TYPE_LEVELS, &mut other, reading);
     if size == 0 {
         return false;
     }

@@ -2,10 +2,11 @@
 ghost use mathlib.Core.Path.{_≡_};
 ghost use Prim.Native.Nat.{_<_};
 ghost use Rattle.form.specs.Answers.{verdict};
-ghost use Rattle.types.specs.Calls.{isConformant, instanceOf, isSimpleBuiltInType, isNull};
+ghost use Rattle.types.specs.Calls.{isConformant, strictIsConformant, readThenNo, instanceOf, isSimpleBuiltInType, isNull};
 
 pub mod compare;
 mod instance;
+pub mod readings;
 pub mod walk;
 
 use form::Checked;
@@ -16,9 +17,26 @@ use form::commands;
 pub fn is_conformant(a: &[u8], b: &[u8]) -> Verdict
     ensures { λ r. ⌜ verdict r ≡ isConformant (now (a .entry)) (now (b .entry)) ⌝ }
 {
-    if compare::passes(a, b) {
+    if compare::passes(a, b, readings::DOCUMENT) {
         return Verdict::Yes;
     }
+    refuse(a, b)
+}
+
+// Conformance of types as DMN has it: a function without parameters conforms only if its result does.
+pub fn strict_is_conformant(a: &[u8], b: &[u8]) -> Verdict
+    ensures { λ r. ⌜ verdict r ≡ strictIsConformant (now (a .entry)) (now (b .entry)) ⌝ }
+{
+    if compare::passes(a, b, readings::STRICT) {
+        return Verdict::Yes;
+    }
+    refuse(a, b)
+}
+
+// Where the walk does not say yes: the readers' refusals, then no.
+fn refuse(a: &[u8], b: &[u8]) -> Verdict
+    ensures { λ r. ⌜ verdict r ≡ readThenNo (now (a .entry)) (now (b .entry)) ⌝ }
+{
     if let Checked::Refused(n) = form::check_type(a) {
         return Verdict::Refused(n);
     }
@@ -61,11 +79,5 @@ pub fn instance_of(a: &[u8], b: &[u8]) -> Verdict
     if instance::is_instance(a, b) {
         return Verdict::Yes;
     }
-    if let Checked::Refused(n) = form::check_type(a) {
-        return Verdict::Refused(n);
-    }
-    if let Checked::Refused(n) = form::check_type(b) {
-        return Verdict::Refused(n);
-    }
-    Verdict::No
+    refuse(a, b)
 }

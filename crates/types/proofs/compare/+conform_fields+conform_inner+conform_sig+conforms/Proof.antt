@@ -21,24 +21,27 @@ use Rattle.form.proofs.bytes.name_at.Reads as name-at-reads
 use Rattle.form.proofs.bytes.wide.Reads as wide-reads
 use Rattle.form.proofs.bytes.word_at.Reads as word-at-reads
 use Rattle.types.proofs.walk.next_name.Reads as next-name-reads
+use Rattle.types.proofs.readings.is_strict.Reads as is-strict-reads
 use Rattle.types.proofs.compare.same_simple.Reads as same-simple-reads
 use Rattle.types.proofs.walk.skip.Reads as skip-reads
 use Rattle.types.proofs.compare.skip_both.Reads as skip-both-reads
 use Rattle.types.proofs.compare.+conform_fields+conform_inner+conform_sig+conforms.{statement}
 use Rattle.types.proofs.compare.+conform_fields+conform_inner+conform_sig+conforms.Tie.{close}
 use borrow.Author.Needs.{needs}
+use borrow.Author.Tests.{not-true, not-false}
 use native.Mathlib.Omega.{arith}
-use mathlib.Core.Path.{refl, sym, _∙_}
+use mathlib.Core.Path.{_≡_, refl, sym, _∙_}
+use mathlib.Core.Bool.{false}
 use mathlib.Core.Logic.{⊎-elim, inl, inr}
-use lib.Dec.{eqb}
 use lib.ListN.{length}
 use Rattle.form.specs.Limits.{nameWidth}
 use Rattle.form.proofs.WalkAnswers.{part-room}
-use Rattle.order.specs.Order.{fixed}
+use Rattle.order.specs.Order.{orderOf}
+use Rattle.order.proofs.Simple.{reading-laws}
 use Rattle.order.specs.Types.{le}
 use Rattle.order.specs.Size.{size, sizeFields}
 use Rattle.types.specs.At.{typeAt, fieldsAt, sigAt, sizeSig}
-use Rattle.types.specs.Conform.{conformBy, entries, leSig, anyTwo}
+use Rattle.types.specs.Conform.{conformBy, entries, ignoresAt, leSig, anyTwo}
 use Rattle.form.specs.Trees.{no-fields, field}
 use Rattle.order.specs.Ascending.{AscFields}
 use Rattle.types.proofs.Pairs.{pair, pair-in, sized-in}
@@ -48,7 +51,7 @@ use Rattle.types.proofs.EntryTests.{fields-tests}
 use Rattle.types.proofs.TypeConformance.{simple-pair, behind-pair, sized-part, unsized-part, no-level, no-a, no-b, no-command, beyond}
 use Rattle.types.proofs.TypeConformance.{no-context, no-function, no-other, no-counts, met-null, met-any, met-simple, met-list, met-range}
 use Rattle.types.proofs.TypeConformance.{met-context, met-function, behind-yes, behind-no, passed-over, SigGo, sig-start, sig-turn}
-use Rattle.types.proofs.TypeConformance.{sig-apart, sig-done, sig-last-apart}
+use Rattle.types.proofs.TypeConformance.{sig-apart, sig-done, sig-last-apart, compared-strict, compared-some}
 
 abbrev μ-conform-fields : Measures 3 conform-fields-kinds.ps ℕ
 μ-conform-fields κs a = 2 * (a .1 .1 .1 .1 .0) + 1
@@ -106,23 +109,23 @@ conforms-below t =
     and 3 conforms-kinds.ps (falls 3 conforms-kinds.ps _<_ μ-conforms t) conforms.Pre
 
 abbrev conform-fields-Inv-loop : conform-fields-lts.InvT-loop
-conform-fields-Inv-loop a n b m left other₀ at₀ least₀ i₀ bt₀ j₀ other at least i bt j =
-    NamesGo size sizeFields (typeAt left) (fieldsAt left) no-fields field AscFields (le fixed)
-    (entries (le fixed)) left
-    (conformBy sizeFields sizeFields (entries (le fixed)) (fieldsAt left n 0 a) (fieldsAt left m 0 b))
+conform-fields-Inv-loop a n b m left other₀ reading at₀ least₀ i₀ bt₀ j₀ other at least i bt j =
+    NamesGo size sizeFields (typeAt left) (fieldsAt left) no-fields field AscFields (le (orderOf reading))
+    (entries (le (orderOf reading))) left
+    (conformBy sizeFields sizeFields (entries (le (orderOf reading))) (fieldsAt left n 0 a) (fieldsAt left m 0 b))
     a n b m at least i bt j
 
 abbrev conform-fields-μ-loop : conform-fields-lts.MeasureT-loop
-conform-fields-μ-loop a n b m left other₀ at₀ least₀ i₀ bt₀ j₀ other at least i bt j = n - i
+conform-fields-μ-loop a n b m left other₀ reading at₀ least₀ i₀ bt₀ j₀ other at least i bt j = n - i
 
 abbrev conform-sig-Inv-loop : conform-sig-lts.InvT-loop
-conform-sig-Inv-loop a b count left other₀ at₀ bt₀ i₀ other at bt i =
-    SigGo left (eqb count 0)
-    (conformBy sizeSig sizeSig (leSig (eqb count 0)) (sigAt left count a) (sigAt left count b)) a b
+conform-sig-Inv-loop a b count left other₀ reading at₀ bt₀ i₀ other at bt i =
+    SigGo (orderOf reading) left (ignoresAt (orderOf reading) count)
+    (conformBy sizeSig sizeSig (leSig (orderOf reading) (ignoresAt (orderOf reading) count)) (sigAt left count a) (sigAt left count b)) a b
     count at bt i
 
 abbrev conform-sig-μ-loop : conform-sig-lts.MeasureT-loop
-conform-sig-μ-loop a b count left other₀ at₀ bt₀ i₀ other at bt i = count - i
+conform-sig-μ-loop a b count left other₀ reading at₀ bt₀ i₀ other at bt i = count - i
 
 abbrev conform-fields-claims : ℕ → conform-fields-lts.Claims
 conform-fields-claims t = (
@@ -143,6 +146,8 @@ conform-inner-claims t = (same-simple-reads.Asked, same-simple-reads.Learnt, con
 
 abbrev conform-sig-claims : ℕ → conform-sig-lts.Claims
 conform-sig-claims t = (
+  is-strict-reads.Asked,
+  is-strict-reads.Learnt,
   skip-both-reads.Asked,
   skip-both-reads.Learnt,
   same-simple-reads.Asked,
@@ -181,7 +186,7 @@ conform-fields-loop-holds : (t : ℕ) →
     conform-fields.Post conform-fields-Inv-loop conform-fields-μ-loop
 conform-fields-loop-holds t c =
     let args = c .before .before .args in
-    names-start (fields-run (args .left)) (fields-tests (le fixed)) (args .left) (args .a .now)
+    names-start (fields-run (args .left)) (fields-tests (le (orderOf (args .reading)))) (args .left) (args .a .now)
     (args .n) (args .b .now) (args .m)
 
 conform-fields-sub-if1 : (t : ℕ) →
@@ -385,7 +390,7 @@ conform-fields-add-at-2 t c =
           let c9 = c7 .before .before in
           let args = c9 .before .before .before .before .args in
           let loop = c9 .before .loop in
-          pair-in (readable-type (args .left)) (readable-type (args .left)) (le fixed) (args .a .now)
+          pair-in (readable-type (args .left)) (readable-type (args .left)) (le (orderOf (args .reading))) (args .a .now)
           (loop .at + nameWidth) (args .b .now) (loop .bt + nameWidth) (c .before .same-simple .result)
           (c .before .same-simple .result) (omega (arith, loop .inv, c7 .before .if1 .left))
           (there t (c4 .before)
@@ -393,7 +398,7 @@ conform-fields-add-at-2 t c =
           (c7 .name-at .result) (c4 .next-name .result) (c7 .name-at .ensures .0) (c4 .before .before .if2 .left)
           (c7 .name-at .ensures .1) (c4 .next-name .ensures .0) (c .before .before .if6 .left)
           (c .before .before .before .if5 .left)))
-          (simple-pair (args .left) (args .a .now) (loop .at + nameWidth) (args .b .now) (loop .bt + nameWidth)
+          (simple-pair (reading-laws (args .reading)) (args .left) (args .a .now) (loop .at + nameWidth) (args .b .now) (loop .bt + nameWidth)
           (c .before .same-simple .result) (c .before .same-simple .ensures) (c .if8 .taken)),
     )
 
@@ -408,7 +413,7 @@ conform-fields-add-bt t c =
           let c9 = c7 .before .before in
           let args = c9 .before .before .before .before .args in
           let loop = c9 .before .loop in
-          pair-in (readable-type (args .left)) (readable-type (args .left)) (le fixed) (args .a .now)
+          pair-in (readable-type (args .left)) (readable-type (args .left)) (le (orderOf (args .reading))) (args .a .now)
           (loop .at + nameWidth) (args .b .now) (loop .bt + nameWidth) (c .before .same-simple .result)
           (c .before .same-simple .result) (omega (arith, loop .inv, c7 .before .if1 .left))
           (there t (c4 .before)
@@ -416,7 +421,7 @@ conform-fields-add-bt t c =
           (c7 .name-at .result) (c4 .next-name .result) (c7 .name-at .ensures .0) (c4 .before .before .if2 .left)
           (c7 .name-at .ensures .1) (c4 .next-name .ensures .0) (c .before .before .if6 .left)
           (c .before .before .before .if5 .left)))
-          (simple-pair (args .left) (args .a .now) (loop .at + nameWidth) (args .b .now) (loop .bt + nameWidth)
+          (simple-pair (reading-laws (args .reading)) (args .left) (args .a .now) (loop .at + nameWidth) (args .b .now) (loop .bt + nameWidth)
           (c .before .same-simple .result) (c .before .same-simple .ensures) (c .if8 .taken)),
     )
 
@@ -446,7 +451,7 @@ conform-fields-loop-again-2 t c =
     (c7 .name-at .ensures .0) (c6 .if2 .left) (c7 .name-at .ensures .1) (c4 .next-name .ensures .0)
     (c2 .if6 .left) (c2 .before .if5 .left)))
     (c .before .same-simple .result) (c .before .same-simple .result)
-    (simple-pair (args .left) (args .a .now) (c10 .loop .at + nameWidth) (args .b .now)
+    (simple-pair (reading-laws (args .reading)) (args .left) (args .a .now) (c10 .loop .at + nameWidth) (args .b .now)
     (c10 .loop .bt + nameWidth) (c .before .same-simple .result) (c .before .same-simple .ensures)
     (c .if8 .taken))
 
@@ -533,7 +538,7 @@ conform-fields-add-at-3 t c =
           let args = c12 .before .before .before .before .before .before .args in
           let loop = c12 .before .before .before .loop in
           let conforms = c .before .conforms in
-          pair-in (readable-type (args .left)) (readable-type (args .left)) (le fixed) (args .a .now)
+          pair-in (readable-type (args .left)) (readable-type (args .left)) (le (orderOf (args .reading))) (args .a .now)
           (loop .at + nameWidth) (args .b .now) (loop .bt + nameWidth) (conforms .result)
           (conforms .last .1 .1 .1 .0) (omega (arith, loop .inv, c12 .before .if1 .left))
           (there t (c9 .before)
@@ -541,7 +546,7 @@ conform-fields-add-at-3 t c =
           (omega (arith, loop .inv, c12 .before .if1 .left)) (c12 .name-at .result) (c9 .next-name .result)
           (c12 .name-at .ensures .0) (c9 .before .before .if2 .left) (c12 .name-at .ensures .1)
           (c9 .next-name .ensures .0) (c7 .if6 .left) (c7 .before .if5 .left)))
-          (pair (readable-type (args .left)) (readable-type (args .left)) (le fixed) (args .a .now)
+          (pair (readable-type (args .left)) (readable-type (args .left)) (le (orderOf (args .reading))) (args .a .now)
           (loop .at + nameWidth) (args .b .now) (loop .bt + nameWidth) (conforms .result)
           (conforms .last .1 .1 .1 .0) (conforms .ensures) (c .if9 .left)),
     )
@@ -558,7 +563,7 @@ conform-fields-add-bt-2 t c =
           let c13 = c10 .before .before .before in
           let args = c13 .before .before .before .before .before .before .args in
           let loop = c13 .before .before .before .loop in
-          pair-in (readable-type (args .left)) (readable-type (args .left)) (le fixed) (args .a .now)
+          pair-in (readable-type (args .left)) (readable-type (args .left)) (le (orderOf (args .reading))) (args .a .now)
           (loop .at + nameWidth) (args .b .now) (loop .bt + nameWidth) (c2 .conforms .result)
           (c2 .conforms .last .1 .1 .1 .0) (omega (arith, loop .inv, c13 .before .if1 .left))
           (there t (c10 .before)
@@ -566,7 +571,7 @@ conform-fields-add-bt-2 t c =
           (omega (arith, loop .inv, c13 .before .if1 .left)) (c13 .name-at .result) (c10 .next-name .result)
           (c13 .name-at .ensures .0) (c10 .before .before .if2 .left) (c13 .name-at .ensures .1)
           (c10 .next-name .ensures .0) (c8 .if6 .left) (c8 .before .if5 .left)))
-          (pair (readable-type (args .left)) (readable-type (args .left)) (le fixed) (args .a .now)
+          (pair (readable-type (args .left)) (readable-type (args .left)) (le (orderOf (args .reading))) (args .a .now)
           (loop .at + nameWidth) (args .b .now) (loop .bt + nameWidth) (c2 .conforms .result)
           (c2 .conforms .last .1 .1 .1 .0) (c2 .conforms .ensures) (c .before .if9 .left)),
     )
@@ -596,7 +601,7 @@ conform-fields-loop-again-3 t c =
     (c13 .name-at .ensures .0) (c10 .before .before .if2 .left) (c13 .name-at .ensures .1)
     (c10 .next-name .ensures .0) (c8 .if6 .left) (c8 .before .if5 .left)))
     (c2 .conforms .result) (c2 .conforms .last .1 .1 .1 .0)
-    (pair (readable-type (args .left)) (readable-type (args .left)) (le fixed) (args .a .now)
+    (pair (readable-type (args .left)) (readable-type (args .left)) (le (orderOf (args .reading))) (args .a .now)
     (c16 .loop .at + nameWidth) (args .b .now) (c16 .loop .bt + nameWidth) (c2 .conforms .result)
     (c2 .conforms .last .1 .1 .1 .0) (c2 .conforms .ensures) (c .before .if9 .left))
 
@@ -636,10 +641,10 @@ conform-inner-add-other t c =
     let c4 = c .before .before .before .before in
     omega (
       arith,
-      pair-in (readable-type (c4 .args .left)) (readable-type (c4 .args .left)) (le fixed)
+      pair-in (readable-type (c4 .args .left)) (readable-type (c4 .args .left)) (le (orderOf (c4 .args .reading)))
           (c4 .args .a .now) 0 (c4 .args .b .now) 0 (c .before .same-simple .result)
           (c .before .same-simple .result) (omega arith) (omega arith)
-          (simple-pair (c4 .args .left) (c4 .args .a .now) 0 (c4 .args .b .now) 0
+          (simple-pair (reading-laws (c4 .args .reading)) (c4 .args .left) (c4 .args .a .now) 0 (c4 .args .b .now) 0
           (c .before .same-simple .result) (c .before .same-simple .ensures) (c .if1 .taken)),
       c4 .pre,
     )
@@ -650,10 +655,10 @@ conform-inner-add-result t c =
     let c4 = c .before .before .before .before in
     omega (
       arith,
-      pair-in (readable-type (c4 .args .left)) (readable-type (c4 .args .left)) (le fixed)
+      pair-in (readable-type (c4 .args .left)) (readable-type (c4 .args .left)) (le (orderOf (c4 .args .reading)))
           (c4 .args .a .now) 0 (c4 .args .b .now) 0 (c .before .same-simple .result)
           (c .before .same-simple .result) (omega arith) (omega arith)
-          (simple-pair (c4 .args .left) (c4 .args .a .now) 0 (c4 .args .b .now) 0
+          (simple-pair (reading-laws (c4 .args .reading)) (c4 .args .left) (c4 .args .a .now) 0 (c4 .args .b .now) 0
           (c .before .same-simple .result) (c .before .same-simple .ensures) (c .if1 .taken)),
       c4 .pre,
     )
@@ -662,9 +667,9 @@ conform-inner-returns : (t : ℕ) →
     conform-inner-lts.Need-returns (conform-inner-claims t) (conform-inner-at t) conform-inner.Post
 conform-inner-returns t c =
     let args = c .before .before .before .before .args in
-    behind-pair (le fixed) (args .left) (args .a .now) (args .b .now) 1 (c .before .same-simple .result)
+    behind-pair (le (orderOf (args .reading))) (args .left) (args .a .now) (args .b .now) 1 (c .before .same-simple .result)
     (c .before .same-simple .result)
-    (simple-pair (args .left) (args .a .now) 0 (args .b .now) 0 (c .before .same-simple .result)
+    (simple-pair (reading-laws (args .reading)) (args .left) (args .a .now) 0 (args .b .now) 0 (c .before .same-simple .result)
     (c .before .same-simple .ensures) (c .if1 .taken))
     _ _ refl refl
 
@@ -706,7 +711,7 @@ conform-inner-returns-2 : (t : ℕ) →
     conform-inner-lts.Need-returns-2 (conform-inner-claims t) (conform-inner-at t) conform-inner.Post
 conform-inner-returns-2 t c =
     let args = c .before .before .before .before .before .before .before .before .before .args in
-    behind-no (le fixed) (args .left) (args .a .now) (args .b .now) 1 (c .before .conforms .result)
+    behind-no (le (orderOf (args .reading))) (args .left) (args .a .now) (args .b .now) 1 (c .before .conforms .result)
     (c .before .conforms .last .1 .1 .1 .0) (c .before .conforms .ensures) (c .if2 .taken) _
 
 conform-inner-add-other-2 : (t : ℕ) →
@@ -717,9 +722,9 @@ conform-inner-add-other-2 t c =
     omega (
       arith,
       let readable-type1 = readable-type (c10 .args .left) in
-          pair-in readable-type1 readable-type1 (le fixed) (c10 .args .a .now) 0 (c10 .args .b .now) 0
+          pair-in readable-type1 readable-type1 (le (orderOf (c10 .args .reading))) (c10 .args .a .now) 0 (c10 .args .b .now) 0
           (c2 .conforms .result) (c2 .conforms .last .1 .1 .1 .0) (omega arith) (omega arith)
-          (pair readable-type1 readable-type1 (le fixed) (c10 .args .a .now) 0 (c10 .args .b .now) 0
+          (pair readable-type1 readable-type1 (le (orderOf (c10 .args .reading))) (c10 .args .a .now) 0 (c10 .args .b .now) 0
           (c2 .conforms .result) (c2 .conforms .last .1 .1 .1 .0) (c2 .conforms .ensures)
           (c .before .if2 .left)),
       c10 .pre,
@@ -733,9 +738,9 @@ conform-inner-add-result-2 t c =
     omega (
       arith,
       let readable-type1 = readable-type (c10 .args .left) in
-          pair-in readable-type1 readable-type1 (le fixed) (c10 .args .a .now) 0 (c10 .args .b .now) 0
+          pair-in readable-type1 readable-type1 (le (orderOf (c10 .args .reading))) (c10 .args .a .now) 0 (c10 .args .b .now) 0
           (c2 .conforms .result) (c2 .conforms .last .1 .1 .1 .0) (omega arith) (omega arith)
-          (pair readable-type1 readable-type1 (le fixed) (c10 .args .a .now) 0 (c10 .args .b .now) 0
+          (pair readable-type1 readable-type1 (le (orderOf (c10 .args .reading))) (c10 .args .a .now) 0 (c10 .args .b .now) 0
           (c2 .conforms .result) (c2 .conforms .last .1 .1 .1 .0) (c2 .conforms .ensures)
           (c .before .if2 .left)),
       c10 .pre,
@@ -746,8 +751,19 @@ conform-inner-returns-3 : (t : ℕ) →
 conform-inner-returns-3 t c =
     let c2 = c .before .before in
     let args = c2 .before .before .before .before .before .before .before .before .args in
-    behind-yes (le fixed) (args .left) (args .a .now) (args .b .now) 1 (c2 .conforms .result)
+    behind-yes (le (orderOf (args .reading))) (args .left) (args .a .now) (args .b .now) 1 (c2 .conforms .result)
     (c2 .conforms .last .1 .1 .1 .0) (c2 .conforms .ensures) (c .before .if2 .left) _ _ refl refl
+
+-- the loop is reached with the results to be compared: strict, or with parameters
+looked-at : (t : ℕ) (c : conform-sig-lts.Joined1 (conform-sig-claims t) (conform-sig-at t) conform-sig.Post conform-sig-Inv-loop conform-sig-μ-loop)
+    → ignoresAt (orderOf (c .before .before .before .args .reading)) (c .before .before .before .args .count) ≡ false
+looked-at t c = ⊎-elim (λ w. compared-strict (orderOf (c .before .before .before .args .reading)) (c .before .before .before .args .count) (sym (w .1 .ensures) ∙ not-false _ (w .2 .left)))
+    (λ w. compared-some (orderOf (c .before .before .before .args .reading)) (c .before .before .before .args .count) (w .left)) (c .if1 .came)
+
+conform-sig-is-strict-requires : (t : ℕ) →
+    conform-sig-lts.Need-is-strict-requires (conform-sig-claims t) (conform-sig-at t) conform-sig.Post
+    conform-sig-Inv-loop conform-sig-μ-loop
+conform-sig-is-strict-requires t c κs = search needs
 
 conform-sig-sub-skip-both : (t : ℕ) →
     conform-sig-lts.Need-sub-skip-both (conform-sig-claims t) (conform-sig-at t) conform-sig.Post
@@ -788,27 +804,28 @@ conform-sig-returns : (t : ℕ) →
     conform-sig-lts.Need-returns (conform-sig-claims t) (conform-sig-at t) conform-sig.Post
     conform-sig-Inv-loop conform-sig-μ-loop
 conform-sig-returns t c =
-    let c5 = c .before .before .before .before .before in
-    let args = c5 .before .before .before .args in
-    passed-over (args .left) (args .a .now) (args .b .now) (args .count) (c5 .if1 .taken) 0 _
+    let c7 = c .before .before .before .before .before .before .before in
+    let args = c7 .before .before .before .args in
+    passed-over (orderOf (args .reading)) (args .left) (args .a .now) (args .b .now) (args .count) (c7 .if1 .taken)
+    (sym (c .before .before .before .before .before .before .is-strict .ensures) ∙ not-true _ (c .before .before .before .before .before .if2 .taken)) 0 _
     (behind-no anyTwo (args .left) (args .a .now) (args .b .now) 2 (c .before .skip-both .result)
-    (c .before .skip-both .last .1 .1 .1 .0) (c .before .skip-both .ensures) (c .if2 .taken) _)
+    (c .before .skip-both .last .1 .1 .1 .0) (c .before .skip-both .ensures) (c .if3 .taken) _)
 
 conform-sig-add-other : (t : ℕ) →
     conform-sig-lts.Need-add-other (conform-sig-claims t) (conform-sig-at t) conform-sig.Post
     conform-sig-Inv-loop conform-sig-μ-loop
 conform-sig-add-other t c =
     let c2 = c .before .before in
-    let c9 = c2 .before .before .before .before .before .before .before in
+    let c11 = c2 .before .before .before .before .before .before .before .before .before in
     omega (
       arith,
-      let readable-type1 = readable-type (c9 .args .left) in
-          pair-in readable-type1 readable-type1 anyTwo (c9 .args .a .now) 0 (c9 .args .b .now) 0
+      let readable-type1 = readable-type (c11 .args .left) in
+          pair-in readable-type1 readable-type1 anyTwo (c11 .args .a .now) 0 (c11 .args .b .now) 0
           (c2 .skip-both .result) (c2 .skip-both .last .1 .1 .1 .0) (omega arith) (omega arith)
-          (pair readable-type1 readable-type1 anyTwo (c9 .args .a .now) 0 (c9 .args .b .now) 0
+          (pair readable-type1 readable-type1 anyTwo (c11 .args .a .now) 0 (c11 .args .b .now) 0
           (c2 .skip-both .result) (c2 .skip-both .last .1 .1 .1 .0) (c2 .skip-both .ensures)
-          (c .before .if2 .left)),
-      c9 .pre,
+          (c .before .if3 .left)),
+      c11 .pre,
     )
 
 conform-sig-add-result : (t : ℕ) →
@@ -816,16 +833,16 @@ conform-sig-add-result : (t : ℕ) →
     conform-sig-Inv-loop conform-sig-μ-loop
 conform-sig-add-result t c =
     let c2 = c .before .before in
-    let c9 = c2 .before .before .before .before .before .before .before in
+    let c11 = c2 .before .before .before .before .before .before .before .before .before in
     omega (
       arith,
-      let readable-type1 = readable-type (c9 .args .left) in
-          pair-in readable-type1 readable-type1 anyTwo (c9 .args .a .now) 0 (c9 .args .b .now) 0
+      let readable-type1 = readable-type (c11 .args .left) in
+          pair-in readable-type1 readable-type1 anyTwo (c11 .args .a .now) 0 (c11 .args .b .now) 0
           (c2 .skip-both .result) (c2 .skip-both .last .1 .1 .1 .0) (omega arith) (omega arith)
-          (pair readable-type1 readable-type1 anyTwo (c9 .args .a .now) 0 (c9 .args .b .now) 0
+          (pair readable-type1 readable-type1 anyTwo (c11 .args .a .now) 0 (c11 .args .b .now) 0
           (c2 .skip-both .result) (c2 .skip-both .last .1 .1 .1 .0) (c2 .skip-both .ensures)
-          (c .before .if2 .left)),
-      c9 .pre,
+          (c .before .if3 .left)),
+      c11 .pre,
     )
 
 conform-sig-returns-2 : (t : ℕ) →
@@ -833,18 +850,19 @@ conform-sig-returns-2 : (t : ℕ) →
     conform-sig-Inv-loop conform-sig-μ-loop
 conform-sig-returns-2 t c =
     let c2 = c .before .before in
-    let c6 = c2 .before .before .before .before in
-    let args = c6 .before .before .before .args in
-    passed-over (args .left) (args .a .now) (args .b .now) (args .count) (c6 .if1 .taken) _ _
+    let c8 = c2 .before .before .before .before .before .before in
+    let args = c8 .before .before .before .args in
+    passed-over (orderOf (args .reading)) (args .left) (args .a .now) (args .b .now) (args .count) (c8 .if1 .taken)
+    (sym (c2 .before .before .before .before .before .is-strict .ensures) ∙ not-true _ (c2 .before .before .before .before .if2 .taken)) _ _
     (behind-yes anyTwo (args .left) (args .a .now) (args .b .now) 2 (c2 .skip-both .result)
-    (c2 .skip-both .last .1 .1 .1 .0) (c2 .skip-both .ensures) (c .before .if2 .left) _ _ refl refl)
+    (c2 .skip-both .last .1 .1 .1 .0) (c2 .skip-both .ensures) (c .before .if3 .left) _ _ refl refl)
 
 conform-sig-loop-holds : (t : ℕ) →
     conform-sig-lts.Need-loop-holds (conform-sig-claims t) (conform-sig-at t) conform-sig.Post
     conform-sig-Inv-loop conform-sig-μ-loop
 conform-sig-loop-holds t c =
     let args = c .before .before .before .args in
-    sig-start (args .left) (eqb (args .count) 0) (args .a .now) (args .b .now) (args .count)
+    sig-start (orderOf (args .reading)) (args .left) (ignoresAt (orderOf (args .reading)) (args .count)) (args .a .now) (args .b .now) (args .count)
 
 conform-sig-add-i : (t : ℕ) →
     conform-sig-lts.Need-add-i (conform-sig-claims t) (conform-sig-at t) conform-sig.Post
@@ -864,11 +882,11 @@ conform-sig-add-bt t c =
       arith,
       let c3 = c .before .before .before in
           let args = c3 .before .before .before .before .args in
-          pair-in (readable-type (args .left)) (readable-type (args .left)) (le fixed) (args .b .now)
+          pair-in (readable-type (args .left)) (readable-type (args .left)) (le (orderOf (args .reading))) (args .b .now)
           (c3 .loop .bt) (args .a .now) (c3 .loop .at) (c .before .same-simple .result)
           (c .before .same-simple .result) ((c3 .loop .inv) .in-b) ((c3 .loop .inv) .in-a)
-          (simple-pair (args .left) (args .b .now) (c3 .loop .bt) (args .a .now) (c3 .loop .at)
-          (c .before .same-simple .result) (c .before .same-simple .ensures) (c .if3 .taken)),
+          (simple-pair (reading-laws (args .reading)) (args .left) (args .b .now) (c3 .loop .bt) (args .a .now) (c3 .loop .at)
+          (c .before .same-simple .result) (c .before .same-simple .ensures) (c .if4 .taken)),
     )
 
 conform-sig-add-at : (t : ℕ) →
@@ -879,11 +897,11 @@ conform-sig-add-at t c =
       arith,
       let c3 = c .before .before .before in
           let args = c3 .before .before .before .before .args in
-          pair-in (readable-type (args .left)) (readable-type (args .left)) (le fixed) (args .b .now)
+          pair-in (readable-type (args .left)) (readable-type (args .left)) (le (orderOf (args .reading))) (args .b .now)
           (c3 .loop .bt) (args .a .now) (c3 .loop .at) (c .before .same-simple .result)
           (c .before .same-simple .result) ((c3 .loop .inv) .in-b) ((c3 .loop .inv) .in-a)
-          (simple-pair (args .left) (args .b .now) (c3 .loop .bt) (args .a .now) (c3 .loop .at)
-          (c .before .same-simple .result) (c .before .same-simple .ensures) (c .if3 .taken)),
+          (simple-pair (reading-laws (args .reading)) (args .left) (args .b .now) (c3 .loop .bt) (args .a .now) (c3 .loop .at)
+          (c .before .same-simple .result) (c .before .same-simple .ensures) (c .if4 .taken)),
     )
 
 conform-sig-loop-less : (t : ℕ) →
@@ -899,8 +917,8 @@ conform-sig-loop-again t c =
     let args = c3 .before .before .before .before .args in
     sig-turn (c3 .loop .inv) (c .before .before .loop-test .taken) (c .before .same-simple .result)
     (c .before .same-simple .result)
-    (simple-pair (args .left) (args .b .now) (c3 .loop .bt) (args .a .now) (c3 .loop .at)
-    (c .before .same-simple .result) (c .before .same-simple .ensures) (c .if3 .taken))
+    (simple-pair (reading-laws (args .reading)) (args .left) (args .b .now) (c3 .loop .bt) (args .a .now) (c3 .loop .at)
+    (c .before .same-simple .result) (c .before .same-simple .ensures) (c .if4 .taken))
 
 conform-sig-sub-conforms : (t : ℕ) →
     conform-sig-lts.Need-sub-conforms (conform-sig-claims t) (conform-sig-at t) conform-sig.Post
@@ -943,7 +961,7 @@ conform-sig-returns-3 : (t : ℕ) →
 conform-sig-returns-3 t c =
     let c7 = c .before .before .before .before .before .before .before in
     sig-apart (c7 .before .loop .inv) (c7 .loop-test .taken) 2 _ (c .before .conforms .result)
-    (c .before .conforms .last .1 .1 .1 .0) (c .before .conforms .ensures) (c .if4 .taken)
+    (c .before .conforms .last .1 .1 .1 .0) (c .before .conforms .ensures) (c .if5 .taken)
 
 conform-sig-add-bt-2 : (t : ℕ) →
     conform-sig-lts.Need-add-bt-2 (conform-sig-claims t) (conform-sig-at t) conform-sig.Post
@@ -954,12 +972,12 @@ conform-sig-add-bt-2 t c =
       let c8 = c .before .before .before .before .before .before .before .before in
           let args = c8 .before .before .before .before .args in
           let conforms = c .before .conforms in
-          pair-in (readable-type (args .left)) (readable-type (args .left)) (le fixed) (args .b .now)
+          pair-in (readable-type (args .left)) (readable-type (args .left)) (le (orderOf (args .reading))) (args .b .now)
           (c8 .loop .bt) (args .a .now) (c8 .loop .at) (conforms .result) (conforms .last .1 .1 .1 .0)
           ((c8 .loop .inv) .in-b) ((c8 .loop .inv) .in-a)
-          (pair (readable-type (args .left)) (readable-type (args .left)) (le fixed) (args .b .now)
+          (pair (readable-type (args .left)) (readable-type (args .left)) (le (orderOf (args .reading))) (args .b .now)
           (c8 .loop .bt) (args .a .now) (c8 .loop .at) (conforms .result) (conforms .last .1 .1 .1 .0)
-          (conforms .ensures) (c .if4 .left)),
+          (conforms .ensures) (c .if5 .left)),
     )
 
 conform-sig-add-at-2 : (t : ℕ) →
@@ -971,12 +989,12 @@ conform-sig-add-at-2 t c =
       let c2 = c .before .before in
           let c9 = c2 .before .before .before .before .before .before .before in
           let args = c9 .before .before .before .before .args in
-          pair-in (readable-type (args .left)) (readable-type (args .left)) (le fixed) (args .b .now)
+          pair-in (readable-type (args .left)) (readable-type (args .left)) (le (orderOf (args .reading))) (args .b .now)
           (c9 .loop .bt) (args .a .now) (c9 .loop .at) (c2 .conforms .result) (c2 .conforms .last .1 .1 .1 .0)
           ((c9 .loop .inv) .in-b) ((c9 .loop .inv) .in-a)
-          (pair (readable-type (args .left)) (readable-type (args .left)) (le fixed) (args .b .now)
+          (pair (readable-type (args .left)) (readable-type (args .left)) (le (orderOf (args .reading))) (args .b .now)
           (c9 .loop .bt) (args .a .now) (c9 .loop .at) (c2 .conforms .result) (c2 .conforms .last .1 .1 .1 .0)
-          (c2 .conforms .ensures) (c .before .if4 .left)),
+          (c2 .conforms .ensures) (c .before .if5 .left)),
     )
 
 conform-sig-loop-less-2 : (t : ℕ) →
@@ -993,9 +1011,9 @@ conform-sig-loop-again-2 t c =
     let args = c8 .before .before .before .before .before .args in
     sig-turn (c8 .before .loop .inv) (c8 .loop-test .taken) (c2 .conforms .result)
     (c2 .conforms .last .1 .1 .1 .0)
-    (pair (readable-type (args .left)) (readable-type (args .left)) (le fixed) (args .b .now)
+    (pair (readable-type (args .left)) (readable-type (args .left)) (le (orderOf (args .reading))) (args .b .now)
     (c8 .before .loop .bt) (args .a .now) (c8 .before .loop .at) (c2 .conforms .result)
-    (c2 .conforms .last .1 .1 .1 .0) (c2 .conforms .ensures) (c .before .if4 .left))
+    (c2 .conforms .last .1 .1 .1 .0) (c2 .conforms .ensures) (c .before .if5 .left))
 
 conform-sig-sub-conforms-3 : (t : ℕ) →
     conform-sig-lts.Need-sub-conforms-3 (conform-sig-claims t) (conform-sig-at t) conform-sig.Post
@@ -1037,9 +1055,9 @@ conform-sig-returns-4 : (t : ℕ) →
     conform-sig-Inv-loop conform-sig-μ-loop
 conform-sig-returns-4 t c =
     let c5 = c .before .before .before .before .before in
-    sig-last-apart (c5 .before .loop .inv) (c5 .loop-test .left) (c5 .before .before .if1 .left)
+    sig-last-apart (c5 .before .loop .inv) (c5 .loop-test .left) (looked-at t (c5 .before .before))
     (c .before .conforms2 .result) (c .before .conforms2 .last .1 .1 .1 .0)
-    (c .before .conforms2 .ensures) (c .if5 .taken) _
+    (c .before .conforms2 .ensures) (c .if6 .taken) _
 
 conform-sig-add-other-2 : (t : ℕ) →
     conform-sig-lts.Need-add-other-2 (conform-sig-claims t) (conform-sig-at t) conform-sig.Post
@@ -1050,12 +1068,12 @@ conform-sig-add-other-2 t c =
     omega (
       arith,
       let args = c7 .before .before .before .before .args in
-          pair-in (readable-type (args .left)) (readable-type (args .left)) (le fixed) (args .a .now)
+          pair-in (readable-type (args .left)) (readable-type (args .left)) (le (orderOf (args .reading))) (args .a .now)
           (c7 .loop .at) (args .b .now) (c7 .loop .bt) (c2 .conforms2 .result)
           (c2 .conforms2 .last .1 .1 .1 .0) ((c7 .loop .inv) .in-a) ((c7 .loop .inv) .in-b)
-          (pair (readable-type (args .left)) (readable-type (args .left)) (le fixed) (args .a .now)
+          (pair (readable-type (args .left)) (readable-type (args .left)) (le (orderOf (args .reading))) (args .a .now)
           (c7 .loop .at) (args .b .now) (c7 .loop .bt) (c2 .conforms2 .result)
-          (c2 .conforms2 .last .1 .1 .1 .0) (c2 .conforms2 .ensures) (c .before .if5 .left)),
+          (c2 .conforms2 .last .1 .1 .1 .0) (c2 .conforms2 .ensures) (c .before .if6 .left)),
       c7 .before .before .before .before .pre,
     )
 
@@ -1068,12 +1086,12 @@ conform-sig-add-other-3 t c =
     omega (
       arith,
       let args = c7 .before .before .before .before .args in
-          pair-in (readable-type (args .left)) (readable-type (args .left)) (le fixed) (args .a .now)
+          pair-in (readable-type (args .left)) (readable-type (args .left)) (le (orderOf (args .reading))) (args .a .now)
           (c7 .loop .at) (args .b .now) (c7 .loop .bt) (c2 .conforms2 .result)
           (c2 .conforms2 .last .1 .1 .1 .0) ((c7 .loop .inv) .in-a) ((c7 .loop .inv) .in-b)
-          (pair (readable-type (args .left)) (readable-type (args .left)) (le fixed) (args .a .now)
+          (pair (readable-type (args .left)) (readable-type (args .left)) (le (orderOf (args .reading))) (args .a .now)
           (c7 .loop .at) (args .b .now) (c7 .loop .bt) (c2 .conforms2 .result)
-          (c2 .conforms2 .last .1 .1 .1 .0) (c2 .conforms2 .ensures) (c .before .if5 .left)),
+          (c2 .conforms2 .last .1 .1 .1 .0) (c2 .conforms2 .ensures) (c .before .if6 .left)),
       c7 .before .before .before .before .pre,
     )
 
@@ -1086,12 +1104,12 @@ conform-sig-add-result-2 t c =
     omega (
       arith,
       let args = c7 .before .before .before .before .args in
-          pair-in (readable-type (args .left)) (readable-type (args .left)) (le fixed) (args .a .now)
+          pair-in (readable-type (args .left)) (readable-type (args .left)) (le (orderOf (args .reading))) (args .a .now)
           (c7 .loop .at) (args .b .now) (c7 .loop .bt) (c2 .conforms2 .result)
           (c2 .conforms2 .last .1 .1 .1 .0) ((c7 .loop .inv) .in-a) ((c7 .loop .inv) .in-b)
-          (pair (readable-type (args .left)) (readable-type (args .left)) (le fixed) (args .a .now)
+          (pair (readable-type (args .left)) (readable-type (args .left)) (le (orderOf (args .reading))) (args .a .now)
           (c7 .loop .at) (args .b .now) (c7 .loop .bt) (c2 .conforms2 .result)
-          (c2 .conforms2 .last .1 .1 .1 .0) (c2 .conforms2 .ensures) (c .before .if5 .left)),
+          (c2 .conforms2 .last .1 .1 .1 .0) (c2 .conforms2 .ensures) (c .before .if6 .left)),
       c7 .before .before .before .before .pre,
     )
 
@@ -1104,12 +1122,12 @@ conform-sig-add-result-3 t c =
     omega (
       arith,
       let args = c7 .before .before .before .before .args in
-          pair-in (readable-type (args .left)) (readable-type (args .left)) (le fixed) (args .a .now)
+          pair-in (readable-type (args .left)) (readable-type (args .left)) (le (orderOf (args .reading))) (args .a .now)
           (c7 .loop .at) (args .b .now) (c7 .loop .bt) (c2 .conforms2 .result)
           (c2 .conforms2 .last .1 .1 .1 .0) ((c7 .loop .inv) .in-a) ((c7 .loop .inv) .in-b)
-          (pair (readable-type (args .left)) (readable-type (args .left)) (le fixed) (args .a .now)
+          (pair (readable-type (args .left)) (readable-type (args .left)) (le (orderOf (args .reading))) (args .a .now)
           (c7 .loop .at) (args .b .now) (c7 .loop .bt) (c2 .conforms2 .result)
-          (c2 .conforms2 .last .1 .1 .1 .0) (c2 .conforms2 .ensures) (c .before .if5 .left)),
+          (c2 .conforms2 .last .1 .1 .1 .0) (c2 .conforms2 .ensures) (c .before .if6 .left)),
       c7 .before .before .before .before .pre,
     )
 
@@ -1119,24 +1137,24 @@ conform-sig-returns-5 : (t : ℕ) →
 conform-sig-returns-5 t c =
     let c2 = c .before .before in
     let c6 = c2 .before .before .before .before in
-    sig-done (c6 .before .loop .inv) (c6 .loop-test .left) (c6 .before .before .if1 .left)
+    sig-done (c6 .before .loop .inv) (c6 .loop-test .left) (looked-at t (c6 .before .before))
     (c2 .conforms2 .result) (c2 .conforms2 .last .1 .1 .1 .0) (c2 .conforms2 .ensures)
-    (c .before .if5 .left) _ _ refl refl
+    (c .before .if6 .left) _ _ refl refl
 
 conforms-returns : (t : ℕ) → conforms-lts.Need-returns (conforms-claims t) (conforms-at t) conforms.Post
 conforms-returns t c =
     let args = c .before .before .before .args in
-    no-level (le fixed) (args .left) (args .a .now) (args .b .now) _ (c .if1 .taken)
+    no-level (le (orderOf (args .reading))) (args .left) (args .a .now) (args .b .now) _ (c .if1 .taken)
 
 conforms-returns-2 : (t : ℕ) → conforms-lts.Need-returns-2 (conforms-claims t) (conforms-at t) conforms.Post
 conforms-returns-2 t c =
     let args = c .before .before .before .before .args in
-    no-a (le fixed) (args .left) (args .a .now) (args .b .now) _ (c .if2 .taken)
+    no-a (le (orderOf (args .reading))) (args .left) (args .a .now) (args .b .now) _ (c .if2 .taken)
 
 conforms-returns-3 : (t : ℕ) → conforms-lts.Need-returns-3 (conforms-claims t) (conforms-at t) conforms.Post
 conforms-returns-3 t c =
     let args = c .before .before .before .before .before .args in
-    no-b (le fixed) (args .left) (args .a .now) (args .b .now) _ (c .if3 .taken)
+    no-b (le (orderOf (args .reading))) (args .left) (args .a .now) (args .b .now) _ (c .if3 .taken)
 
 conforms-shared-slice-read-e : (t : ℕ) →
     conforms-lts.Need-shared-slice-read-e (conforms-claims t) (conforms-at t) conforms.Post
@@ -1176,7 +1194,7 @@ conforms-returns-4 : (t : ℕ) → conforms-lts.Need-returns-4 (conforms-claims 
 conforms-returns-4 t c =
     let c4 = c .before .before .before .before in
     let args = c4 .before .before .before .before .before .before .before .before .before .args in
-    met-null (args .left) (args .a .now) (args .b .now) _ _ (c .skip-both .ensures) (c4 .if5 .taken)
+    met-null (reading-laws (args .reading)) (args .left) (args .a .now) (args .b .now) _ _ (c .skip-both .ensures) (c4 .if5 .taken)
 
 conforms-sub-skip-both-3 : (t : ℕ) → conforms-lts.Need-sub-skip-both-3 (conforms-claims t) (conforms-at t) conforms.Post
 conforms-sub-skip-both-3 t c = search needs
@@ -1209,13 +1227,13 @@ conforms-returns-5 t c =
     let c4 = c .before .before .before .before in
     let args =
     c4 .before .before .before .before .before .before .before .before .before .before .args in
-    met-any (args .left) (args .a .now) (args .b .now) _ _ (c .skip-both2 .ensures) (c4 .if6 .taken)
+    met-any (reading-laws (args .reading)) (args .left) (args .a .now) (args .b .now) _ _ (c .skip-both2 .ensures) (c4 .if6 .taken)
 
 conforms-returns-6 : (t : ℕ) → conforms-lts.Need-returns-6 (conforms-claims t) (conforms-at t) conforms.Post
 conforms-returns-6 t c =
     let args =
     c .before .before .before .before .before .before .before .before .before .before .args in
-    no-other (args .left) (args .a .now) (args .b .now) _ (c .before .before .if4 .taken)
+    no-other (args .left) (args .a .now) (args .b .now) _ (orderOf (args .reading) .strict) (c .before .before .if4 .taken)
     (c .before .if5 .left) (c .if6 .left)
 
 conforms-sub-conform-inner : (t : ℕ) →
@@ -1302,7 +1320,7 @@ conforms-returns-7 : (t : ℕ) → conforms-lts.Need-returns-7 (conforms-claims 
 conforms-returns-7 t c =
     let args =
     c .before .before .before .before .before .before .before .before .before .before .args in
-    no-context (le fixed) (args .left) (args .a .now) (args .b .now) _ (c .before .match .keys3)
+    no-context (le (orderOf (args .reading))) (args .left) (args .a .now) (args .b .now) _ (c .before .match .keys3)
     (sym (c .before .before .if4 .left) ∙ c .before .match .keys3)
     (λ x y. omega arith)
 
@@ -1310,7 +1328,7 @@ conforms-returns-8 : (t : ℕ) → conforms-lts.Need-returns-8 (conforms-claims 
 conforms-returns-8 t c =
     let c2 = c .before .before in
     let args = c2 .before .before .before .before .before .before .before .before .before .args in
-    no-context (le fixed) (args .left) (args .a .now) (args .b .now) _ (c2 .match .keys3)
+    no-context (le (orderOf (args .reading))) (args .left) (args .a .now) (args .b .now) _ (c2 .match .keys3)
     (sym (c2 .before .if4 .left) ∙ c2 .match .keys3)
     (λ x y. omega arith)
 
@@ -1366,7 +1384,7 @@ conforms-returns-9 : (t : ℕ) → conforms-lts.Need-returns-9 (conforms-claims 
 conforms-returns-9 t c =
     let args =
     c .before .before .before .before .before .before .before .before .before .before .args in
-    no-function (le fixed) (args .left) (args .a .now) (args .b .now) _ (c .before .match .keys4)
+    no-function (le (orderOf (args .reading))) (args .left) (args .a .now) (args .b .now) _ (c .before .match .keys4)
     (sym (c .before .before .if4 .left) ∙ c .before .match .keys4)
     (λ x y. omega arith)
 
@@ -1374,7 +1392,7 @@ conforms-returns-10 : (t : ℕ) → conforms-lts.Need-returns-10 (conforms-claim
 conforms-returns-10 t c =
     let c2 = c .before .before in
     let args = c2 .before .before .before .before .before .before .before .before .before .args in
-    no-function (le fixed) (args .left) (args .a .now) (args .b .now) _ (c2 .match .keys4)
+    no-function (le (orderOf (args .reading))) (args .left) (args .a .now) (args .b .now) _ (c2 .match .keys4)
     (sym (c2 .before .if4 .left) ∙ c2 .match .keys4)
     (λ x y. omega arith)
 
@@ -1390,7 +1408,7 @@ conforms-returns-11 : (t : ℕ) → conforms-lts.Need-returns-11 (conforms-claim
 conforms-returns-11 t c =
     let c5 = c .before .before .before .before .before in
     let args = c5 .before .before .before .before .before .before .before .before .before .args in
-    no-counts (args .left) (args .a .now) (args .b .now) _ (c5 .match .keys4)
+    no-counts (args .left) (args .a .now) (args .b .now) _ (orderOf (args .reading)) (c5 .match .keys4)
     (sym (c5 .before .if4 .left) ∙ c5 .match .keys4) (c .if11 .taken)
 
 conforms-sub-conform-sig : (t : ℕ) → conforms-lts.Need-sub-conform-sig (conforms-claims t) (conforms-at t) conforms.Post
@@ -1439,14 +1457,14 @@ conforms-returns-12 : (t : ℕ) → conforms-lts.Need-returns-12 (conforms-claim
 conforms-returns-12 t c =
     let c4 = c .before .before .before .before in
     let args = c4 .before .before .before .before .before .before .before .before .before .args in
-    met-list (args .left) (args .a .now) (args .b .now) (omega arith) (omega arith) (omega arith) _ _
+    met-list (orderOf (args .reading)) (args .left) (args .a .now) (args .b .now) (omega arith) (omega arith) (omega arith) _ _
     (c4 .match .keys1) (sym (c4 .before .if4 .left) ∙ c4 .match .keys1) (c .conform-inner .ensures)
 
 conforms-returns-13 : (t : ℕ) → conforms-lts.Need-returns-13 (conforms-claims t) (conforms-at t) conforms.Post
 conforms-returns-13 t c =
     let c4 = c .before .before .before .before in
     let args = c4 .before .before .before .before .before .before .before .before .before .args in
-    met-range (args .left) (args .a .now) (args .b .now) (omega arith) (omega arith) (omega arith) _ _
+    met-range (orderOf (args .reading)) (args .left) (args .a .now) (args .b .now) (omega arith) (omega arith) (omega arith) _ _
     (c4 .match .keys2) (sym (c4 .before .if4 .left) ∙ c4 .match .keys2) (c .conform-inner2 .ensures)
 
 conforms-returns-14 : (t : ℕ) → conforms-lts.Need-returns-14 (conforms-claims t) (conforms-at t) conforms.Post
@@ -1454,7 +1472,7 @@ conforms-returns-14 t c =
     let c4 = c .before .before .before .before in
     let c8 = c4 .before .before .before .before in
     let args = c8 .before .before .before .before .before .before .before .before .before .args in
-    met-context (args .left) (args .a .now) (args .b .now) (omega arith) (omega arith) (omega arith) _ _
+    met-context (orderOf (args .reading)) (args .left) (args .a .now) (args .b .now) (omega arith) (omega arith) (omega arith) _ _
     (c4 .word-at .result) (c .before .before .word-at2 .result) (c4 .word-at .ensures .0)
     (c .before .before .word-at2 .ensures .0) (c8 .match .keys3)
     (sym (c8 .before .if4 .left) ∙ c8 .match .keys3) (omega arith) (omega arith)
@@ -1465,7 +1483,7 @@ conforms-returns-15 t c =
     let c2 = c .before .before in
     let c10 = c2 .before .before .before .before .before .before .before .before in
     let args = c10 .before .before .before .before .before .before .before .before .before .args in
-    met-function (args .left) (args .a .now) (args .b .now) (omega arith) (omega arith) (omega arith) _
+    met-function (orderOf (args .reading)) (args .left) (args .a .now) (args .b .now) (omega arith) (omega arith) (omega arith) _
     _ (c2 .wide .result) (c2 .wide .ensures .0) (c2 .before .before .before .if11 .left)
     (c10 .match .keys4) (sym (c10 .before .if4 .left) ∙ c10 .match .keys4) (omega arith) (omega arith)
     (c .conform-sig .ensures)
@@ -1474,21 +1492,21 @@ conforms-returns-16 : (t : ℕ) → conforms-lts.Need-returns-16 (conforms-claim
 conforms-returns-16 t c =
     let args =
     c .before .before .before .before .before .before .before .before .before .before .before .args in
-    met-simple (args .left) (args .a .now) (args .b .now) (omega arith) (omega arith) (omega arith)
+    met-simple (reading-laws (args .reading)) (args .left) (args .a .now) (args .b .now) (omega arith) (omega arith) (omega arith)
     (c .before .before .before .if4 .left) (c .before .if12 .left) (omega arith)
 
 conforms-returns-17 : (t : ℕ) → conforms-lts.Need-returns-17 (conforms-claims t) (conforms-at t) conforms.Post
 conforms-returns-17 t c =
     let args =
     c .before .before .before .before .before .before .before .before .before .before .args in
-    no-command (le fixed) (args .left) (args .a .now) (args .b .now) _ (inl (c .if12 .taken))
+    no-command (le (orderOf (args .reading))) (args .left) (args .a .now) (args .b .now) _ (inl (c .if12 .taken))
 
 conforms-returns-18 : (t : ℕ) → conforms-lts.Need-returns-18 (conforms-claims t) (conforms-at t) conforms.Post
 conforms-returns-18 t c =
     let args =
     c .before .before .before .before .before .before .before .before .before .before .before .args in
     let rest = c .before .before .match .rest in
-    no-command (le fixed) (args .left) (args .a .now) (args .b .now) _
+    no-command (le (orderOf (args .reading))) (args .left) (args .a .now) (args .b .now) _
     (inr (beyond _ (c .if13 .left) (rest .0 .0 .0 .1) (rest .0 .0 .1) (rest .0 .1) (rest .1)))
 
 pub +conform-fields+conform-inner+conform-sig+conforms-spec : {M : Type 1} → statement M
@@ -1523,7 +1541,7 @@ pub +conform-fields+conform-inner+conform-sig+conforms-spec : {M : Type 1} → s
     (conform-inner-add-result-2 t) (conform-inner-returns-3 t))
     (λ t.
     conform-sig-lts.spec (conform-sig-claims t) (conform-sig-at t) conform-sig.Post conform-sig-Inv-loop
-    conform-sig-μ-loop (conform-sig-sub-skip-both t) (conform-sig-part-skip-both-start t)
+    conform-sig-μ-loop (conform-sig-is-strict-requires t) (conform-sig-sub-skip-both t) (conform-sig-part-skip-both-start t)
     (conform-sig-part-skip-both-end t) (conform-sig-sub-skip-both-2 t)
     (conform-sig-part-skip-both-start-2 t) (conform-sig-part-skip-both-end-2 t)
     (conform-sig-skip-both-requires t) (conform-sig-returns t) (conform-sig-add-other t)

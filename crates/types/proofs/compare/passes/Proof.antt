@@ -3,49 +3,49 @@
 use borrow.Author.Needs.{needs}
 use Rattle.types.proofs.compare.passes.Statement.{statement}
 use Rattle.types.proofs.compare.passes.Tie as tie
-use Rattle.order.specs.Order.{fixed}
+use Rattle.order.specs.Order.{orderOf}
 use Rattle.order.specs.Types.{le}
-use Rattle.types.specs.Calls.{isConformant}
+use Rattle.types.specs.Calls.{isConformantBy}
 use Rattle.types.proofs.TwoArguments.{long-first, long-second, apart, over-first, told-whole}
 use Rattle.types.proofs.CallContracts.{whole-type}
 
 returns : tie.Need-returns
-unfolding isConformant
+unfolding isConformantBy
 returns c =
-    long-first whole-type whole-type (le fixed) (c .before .before .before .args .a .now)
+    long-first whole-type whole-type (le (orderOf (c .before .before .before .args .reading))) (c .before .before .before .args .a .now)
     (c .before .before .before .args .b .now) (c .if1 .taken)
 
 returns-2 : tie.Need-returns-2
-unfolding isConformant
+unfolding isConformantBy
 returns-2 c =
     let args = c .before .before .before .before .args in
-    long-second whole-type whole-type (le fixed) (args .a .now) (args .b .now) (c .if2 .taken)
+    long-second whole-type whole-type (le (orderOf (args .reading))) (args .a .now) (args .b .now) (c .if2 .taken)
 
 conforms-requires : tie.Need-conforms-requires
 conforms-requires c κs = search needs
 
 returns-3 : tie.Need-returns-3
-unfolding isConformant
+unfolding isConformantBy
 returns-3 c =
     let args = c .before .before .before .before .before .before .before .args in
-    apart whole-type whole-type (le fixed) (args .a .now) (args .b .now) (c .before .conforms .result)
+    apart whole-type whole-type (le (orderOf (args .reading))) (args .a .now) (args .b .now) (c .before .conforms .result)
     (c .before .conforms .last .1 .1 .1 .0) (c .before .conforms .ensures) (c .if3 .taken)
 
 returns-4 : tie.Need-returns-4
-unfolding isConformant
+unfolding isConformantBy
 returns-4 c =
     let c2 = c .before .before in
     let args = c2 .before .before .before .before .before .before .args in
-    over-first whole-type whole-type (le fixed) (args .a .now) (args .b .now) (c2 .conforms .result)
+    over-first whole-type whole-type (le (orderOf (args .reading))) (args .a .now) (args .b .now) (c2 .conforms .result)
     (c2 .conforms .last .1 .1 .1 .0) (c2 .conforms .ensures) (c .before .if3 .left) (c .if4 .taken)
 
 returns-5 : tie.Need-returns-5
-unfolding isConformant
+unfolding isConformantBy
 returns-5 c =
     let c2 = c .before .before in
     let c4 = c2 .before .before in
     let args = c4 .before .before .before .before .args in
-    told-whole whole-type whole-type (le fixed) (args .a .now) (args .b .now) (c2 .conforms .result)
+    told-whole whole-type whole-type (le (orderOf (args .reading))) (args .a .now) (args .b .now) (c2 .conforms .result)
     (c2 .conforms .last .1 .1 .1 .0) (c2 .conforms .ensures) (c .before .if3 .left) (c .if4 .left)
     (c4 .before .if1 .left) (c4 .if2 .left)
 
