@@ -1,10 +1,10 @@
 -- A value against a type by their commands: a value of one kind conforms to no other kind's types but Any, and a null to all.
 -- Index: `kind`, `kind-is`, `kind-leaf`, `kind-other`, `leaf-is`, `small-is`, `long-is`, `definition-is` (a value that was read, by its command); `kinds-differ`, `to-any` (conformance by kinds);
--- `short-data`, `leaf-null`, `leaf-same`, `simple-is`, `simple-cmd` (leaves); `held-function`, `counts-differ` (definitions).
+-- `short-data`, `leaf-null`, `leaf-same`, `leaf-alike`, `simple-is`, `simple-cmd` (leaves); `held-function`, `counts-differ` (definitions).
 -- Assumes nothing.
 use Prim.Native.Nat.{ℕ, zero, suc, _+_, _-_, _<_, _≤_}
 use mathlib.Core.Path.{_≡_, refl, sym, ap, _∙_}
-use mathlib.Core.Bool.{true, false, _&&_, true≢false}
+use mathlib.Core.Bool.{Bool, true, false, not, cond, _&&_, _||_, true≢false}
 use mathlib.Core.Option.{some}
 use mathlib.Core.List.{List}
 use native.Mathlib.Omega.{arith}
@@ -18,17 +18,18 @@ use Rattle.form.specs.Form.{countTys}
 use Rattle.form.specs.Outcome.{pick}
 use Rattle.form.proofs.ExactTypes.{code-small}
 use Rattle.form.proofs.ExactValues.{code-decode}
-use Rattle.order.specs.Order.{up, fixed, flat}
-use Rattle.order.specs.Types.{cmp, cmps}
+use Rattle.order.specs.Order.{Dir, up, down, Order, Laws, flat, flatOrder, fixed}
+use Rattle.order.specs.Types.{empty, cmp, cmps}
 use Rattle.order.specs.Size.{size}
-use Rattle.order.specs.Values.{leafType, typesOf, conforms}
-use Rattle.order.proofs.Simple.{fixed-laws, temporal-code}
+use Rattle.order.specs.Values.{leafType, typesOf, conformsDefinition, conforms}
+use Rattle.order.proofs.Simple.{temporal-code}
+use Rattle.order.proofs.Alone.{le-functions-down}
 use Rattle.order.proofs.Bools.{and-false}
 use Rattle.types.specs.At.{Sig, sig, funOf}
 use Rattle.types.proofs.Reading.{cmd}
 use Rattle.types.proofs.ByCommand.{le-null, le-other, le-leaves, same-simple, count-sig}
 use Rattle.values.specs.At.{valueAt, Definition, definition, definitionAt}
-use Rattle.values.specs.Held.{definitionConforms}
+use Rattle.values.specs.Held.{parameterWay, definitionConforms}
 use Rattle.values.proofs.Reading.{IsVal, is-null, is-boolean, is-number, is-string, is-temporal, is-range, is-list, is-context, is-definition, is-built-in, is-type, is-decimal}
 use Rattle.values.proofs.Reading.{is-irrelevant, is-val, as-definition, paramsAt, no-parameter, definition-parts, first-parameter}
 use Rattle.form.specs.Layout.{ValueKind, kDefinition, isLeafCommand, leafTypeCommand}
@@ -133,35 +134,40 @@ module _ (l : ℕ) (s : List ℕ) (x : Val) (e : valueAt l s ≡ some x) where
 not-any : (s : Simple) → (cmd (leaf s) ≡ 32 → ⊥) → flat any s ≡ false
 not-any s a = simp (ne-eqb (code s) 0 (λ e. a (omega arith)), ne-eqb 0 (code s) (λ e. a (omega arith)))
 
-pub kinds-differ : (x : Val) (u : Ty) → (kind x ≡ 41 → ⊥) → (cmd u ≡ 32 → ⊥) → (kind x ≡ cmd u → ⊥) → conforms fixed x u ≡ false
+-- a definition, strict as its function type
+definition-other : (strict : Bool) (ps : Tys) (r u : Ty) → (cmd u ≡ 32 → ⊥) → (cmd (built (function ps r)) ≡ cmd u → ⊥) → conformsDefinition (flatOrder strict) ps r u ≡ false
+definition-other true ps r u a d = le-other true (built (function ps r)) u d (λ e. omega arith) a
+definition-other false ps r (leaf s) a d = not-any s a
+definition-other false ps r (built (list t)) a d = refl
+definition-other false ps r (built (range t)) a d = refl
+definition-other false ps r (built (context fs)) a d = refl
+definition-other false ps r (built (function qs s)) a d = absurd (d refl)
+
+pub kinds-differ : (strict : Bool) (x : Val) (u : Ty) → (kind x ≡ 41 → ⊥) → (cmd u ≡ 32 → ⊥) → (kind x ≡ cmd u → ⊥) → conforms (flatOrder strict) x u ≡ false
 unfolding conforms
-kinds-differ (v-leaf f) u n a d = le-other (leaf (leafType f)) u d n a
-kinds-differ (v-range i j x y) (leaf s) n a d = not-any s a
-kinds-differ (v-range i j x y) (built (list t)) n a d = refl
-kinds-differ (v-range i j x y) (built (range t)) n a d = absurd (d refl)
-kinds-differ (v-range i j x y) (built (context fs)) n a d = refl
-kinds-differ (v-range i j x y) (built (function ps r)) n a d = refl
-kinds-differ (v-list vs) (leaf s) n a d = not-any s a
-kinds-differ (v-list vs) (built (list t)) n a d = absurd (d refl)
-kinds-differ (v-list vs) (built (range t)) n a d = refl
-kinds-differ (v-list vs) (built (context fs)) n a d = refl
-kinds-differ (v-list vs) (built (function ps r)) n a d = refl
-kinds-differ (v-context es) (leaf s) n a d = not-any s a
-kinds-differ (v-context es) (built (list t)) n a d = refl
-kinds-differ (v-context es) (built (range t)) n a d = refl
-kinds-differ (v-context es) (built (context fs)) n a d = absurd (d refl)
-kinds-differ (v-context es) (built (function ps r)) n a d = refl
-kinds-differ (v-function ps b r) (leaf s) n a d = not-any s a
-kinds-differ (v-function ps b r) (built (list t)) n a d = refl
-kinds-differ (v-function ps b r) (built (range t)) n a d = refl
-kinds-differ (v-function ps b r) (built (context fs)) n a d = refl
-kinds-differ (v-function ps b r) (built (function qs s)) n a d = absurd (d refl)
-kinds-differ (v-built-in y) (leaf s) n a d = not-any s a
-kinds-differ (v-built-in y) (built t) n a d = refl
-kinds-differ (v-type t) (leaf s) n a d = not-any s a
-kinds-differ (v-type t) (built u) n a d = refl
-kinds-differ v-irrelevant (leaf s) n a d = not-any s a
-kinds-differ v-irrelevant (built t) n a d = refl
+kinds-differ g (v-leaf f) u n a d = le-other g (leaf (leafType f)) u d n a
+kinds-differ g (v-range i j x y) (leaf s) n a d = not-any s a
+kinds-differ g (v-range i j x y) (built (list t)) n a d = refl
+kinds-differ g (v-range i j x y) (built (range t)) n a d = absurd (d refl)
+kinds-differ g (v-range i j x y) (built (context fs)) n a d = refl
+kinds-differ g (v-range i j x y) (built (function ps r)) n a d = refl
+kinds-differ g (v-list vs) (leaf s) n a d = not-any s a
+kinds-differ g (v-list vs) (built (list t)) n a d = absurd (d refl)
+kinds-differ g (v-list vs) (built (range t)) n a d = refl
+kinds-differ g (v-list vs) (built (context fs)) n a d = refl
+kinds-differ g (v-list vs) (built (function ps r)) n a d = refl
+kinds-differ g (v-context es) (leaf s) n a d = not-any s a
+kinds-differ g (v-context es) (built (list t)) n a d = refl
+kinds-differ g (v-context es) (built (range t)) n a d = refl
+kinds-differ g (v-context es) (built (context fs)) n a d = absurd (d refl)
+kinds-differ g (v-context es) (built (function ps r)) n a d = refl
+kinds-differ g (v-function ps b r) u n a d = definition-other g (typesOf ps) r u a d
+kinds-differ g (v-built-in y) (leaf s) n a d = not-any s a
+kinds-differ g (v-built-in y) (built t) n a d = refl
+kinds-differ g (v-type t) (leaf s) n a d = not-any s a
+kinds-differ g (v-type t) (built u) n a d = refl
+kinds-differ g v-irrelevant (leaf s) n a d = not-any s a
+kinds-differ g v-irrelevant (built t) n a d = refl
 
 any-type : (u : Ty) → cmd u ≡ 32 → u ≡ leaf any
 any-type (leaf s) e = ap leaf (same-simple s any e)
@@ -170,19 +176,24 @@ any-type (built (range t)) e = absurd (omega arith)
 any-type (built (context fs)) e = absurd (omega arith)
 any-type (built (function ps r)) e = absurd (omega arith)
 
-of-any : (x : Val) → conforms fixed x (leaf any) ≡ true
-unfolding conforms cmp
-of-any (v-leaf f) = fixed-laws .any-greatest (leafType f)
-of-any (v-range i j a b) = refl
-of-any (v-list vs) = refl
-of-any (v-context es) = refl
-of-any (v-function ps b r) = refl
-of-any (v-built-in x) = refl
-of-any (v-type t) = refl
-of-any v-irrelevant = refl
+module _ {O : Order} (L : Laws O) where
+  either-way : (q : Bool) → cond q (O .sle any any) (O .sle any any) ≡ true
+  either-way true = L .reflexive any
+  either-way false = L .reflexive any
 
-pub to-any : (x : Val) (u : Ty) → cmd u ≡ 32 → conforms fixed x u ≡ true
-to-any x u e = ap (conforms fixed x) (any-type u e) ∙ of-any x
+  of-any : (x : Val) → conforms O x (leaf any) ≡ true
+  unfolding conforms cmp
+  of-any (v-leaf f) = L .any-greatest (leafType f)
+  of-any (v-range i j a b) = L .reflexive any
+  of-any (v-list vs) = L .reflexive any
+  of-any (v-context es) = L .reflexive any
+  of-any (v-function ps b r) = either-way (O .strict)
+  of-any (v-built-in x) = L .reflexive any
+  of-any (v-type t) = L .reflexive any
+  of-any v-irrelevant = L .reflexive any
+
+  pub to-any : (x : Val) (u : Ty) → cmd u ≡ 32 → conforms O x u ≡ true
+  to-any x u e = ap (conforms O x) (any-type u e) ∙ of-any x
 
 -- ---- a leaf of data
 pub short-data : (x : Val) → isShortLeaf x ≡ true → isDataLeaf x ≡ true
@@ -205,14 +216,23 @@ leaf-tree (v-built-in x) e = absurd (true≢false (sym e))
 leaf-tree (v-type t) e = absurd (true≢false (sym e))
 leaf-tree v-irrelevant e = absurd (true≢false (sym e))
 
-pub leaf-null : (x : Val) (u : Ty) → isDataLeaf x ≡ true → kind x ≡ 41 → conforms fixed x u ≡ true
-unfolding conforms
-leaf-null x u h e = let g = leaf-tree x h in ap (λ y. conforms fixed y u) (g .1) ∙ le-null (leaf (leafType (g .0))) u (sym (ap kind (g .1)) ∙ e) .1
+module _ {O : Order} (L : Laws O) where
+  pub leaf-null : (x : Val) (u : Ty) → isDataLeaf x ≡ true → kind x ≡ 41 → conforms O x u ≡ true
+  unfolding conforms
+  leaf-null x u h e = let g = leaf-tree x h in ap (λ y. conforms O y u) (g .1) ∙ le-null L (leaf (leafType (g .0))) u (sym (ap kind (g .1)) ∙ e) .1
 
-pub leaf-same : (x : Val) (u : Ty) → isDataLeaf x ≡ true → simple u ≡ true → kind x ≡ cmd u → conforms fixed x u ≡ true
-unfolding conforms
-leaf-same x (leaf s) h k e = let g = leaf-tree x h in ap (λ y. conforms fixed y (leaf s)) (g .1) ∙ le-leaves (leafType (g .0)) s (same-simple (leafType (g .0)) s (sym (ap kind (g .1)) ∙ e))
-leaf-same x (built y) h k e = absurd (true≢false (sym k))
+  pub leaf-same : (x : Val) (u : Ty) → isDataLeaf x ≡ true → simple u ≡ true → kind x ≡ cmd u → conforms O x u ≡ true
+  unfolding conforms
+  leaf-same x (leaf s) h k e =
+      let g = leaf-tree x h in
+      ap (λ y. conforms O y (leaf s)) (g .1) ∙ le-leaves L (leafType (g .0)) s (same-simple (leafType (g .0)) s (sym (ap kind (g .1)) ∙ e))
+  leaf-same x (built y) h k e = absurd (true≢false (sym k))
+
+-- against a simple type a leaf conforms alike, strict or not
+pub leaf-alike : (strict : Bool) (x : Val) (u : Ty) → isDataLeaf x ≡ true → simple u ≡ true → conforms (flatOrder strict) x u ≡ conforms fixed x u
+unfolding conforms cmp
+leaf-alike g x (leaf s) h k = let l = leaf-tree x h in ap (λ y. conforms (flatOrder g) y (leaf s)) (l .1) ∙ sym (ap (λ y. conforms fixed y (leaf s)) (l .1))
+leaf-alike g x (built y) h k = absurd (true≢false (sym k))
 
 pub simple-is : (u : Ty) → cmd u ≤ 41 → simple u ≡ true
 simple-is (leaf s) h = refl
@@ -227,12 +247,12 @@ simple-cmd (leaf s) h = let k = code-small s in (omega arith, refl)
 simple-cmd (built y) h = absurd (true≢false (sym h))
 
 -- ---- definitions
-cmps-count : (ps qs : Tys) → (countTys ps ≡ countTys qs → ⊥) → cmps fixed up ps qs ≡ false
+cmps-count : (O : Order) (d : Dir) (ps qs : Tys) → (countTys ps ≡ countTys qs → ⊥) → cmps O d ps qs ≡ false
 unfolding cmp countTys
-cmps-count no-params no-params d = absurd (d refl)
-cmps-count no-params (param t qs) d = refl
-cmps-count (param t ps) no-params d = refl
-cmps-count (param t ps) (param u qs) d = ap (λ x. cmp fixed up t u && x) (cmps-count ps qs (λ e. d (ap suc e))) ∙ and-false (cmp fixed up t u)
+cmps-count O d no-params no-params n = absurd (n refl)
+cmps-count O d no-params (param t qs) n = refl
+cmps-count O d (param t ps) no-params n = refl
+cmps-count O d (param t ps) (param u qs) n = ap (λ x. cmp O d t u && x) (cmps-count O d ps qs (λ e. n (ap suc e))) ∙ and-false (cmp O d t u)
 
 params-count : (l n : ℕ) (s : List ℕ) (ps : Params) → paramsAt l n s ≡ some ps → countTys (typesOf ps) ≡ n
 unfolding countTys typesOf paramsAt
@@ -249,10 +269,25 @@ definition-count l n s r ps e =
     let g = definition-parts l n s (definition r ps) e in
     ap (λ d. countTys (typesOf (params-of d))) (g .is) ∙ params-count l n (drop (size (g .r)) s) (g .ps) (g .second)
 
-pub held-function : (ps : Params) (b : ℕ) (r : Ty) (f : Sig) → conforms fixed (v-function ps b r) (funOf f) ≡ definitionConforms (definition r ps) f
-unfolding conforms
-held-function ps b r (sig qs s) = refl
+module _ (O : Order) where
+  -- strict or not: with the parameters compared that way round
+  pub held-function : (ps : Params) (b : ℕ) (r : Ty) (f : Sig) → conforms O (v-function ps b r) (funOf f) ≡ definitionConforms O (definition r ps) f
+  unfolding conforms
+  held-function ps b r (sig qs s) = go (O .strict) refl
+    where
+      rest : Dir → Bool
+      rest d = cmps O d (typesOf ps) qs && cmp O up r s
 
--- no, since the counts differ
-pub counts-differ : (l n : ℕ) (s : List ℕ) (r : Ty) (ps : Params) (f : Sig) → definitionAt l n s ≡ some (definition r ps) → (n ≡ count-sig f → ⊥) → definitionConforms (definition r ps) f ≡ false
-counts-differ l n s r ps (sig qs t) e d = ap (λ x. x && cmp fixed up r t) (cmps-count (typesOf ps) qs (λ z. d (sym (definition-count l n s r ps e) ∙ z)))
+      go : (q : Bool) → O .strict ≡ q → cond (O .strict) (cmp O up (built (function (typesOf ps) r)) (built (function qs s))) (rest up) ≡ rest (parameterWay O)
+      go true e =
+          ap (λ q. cond q (cmp O up (built (function (typesOf ps) r)) (built (function qs s))) (rest up)) e
+          ∙ le-functions-down O (typesOf ps) qs r s
+          ∙ ap (λ q. cmps O down (typesOf ps) qs && ((not q && empty (typesOf ps)) || cmp O up r s)) e
+          ∙ sym (ap (λ q. rest (cond q down up)) e)
+      go false e = ap (λ q. cond q (cmp O up (built (function (typesOf ps) r)) (built (function qs s))) (rest up)) e ∙ sym (ap (λ q. rest (cond q down up)) e)
+
+  -- no, since the counts differ
+  pub counts-differ : (l n : ℕ) (s : List ℕ) (r : Ty) (ps : Params) (f : Sig) → definitionAt l n s ≡ some (definition r ps) → (n ≡ count-sig f → ⊥)
+      → definitionConforms O (definition r ps) f ≡ false
+  counts-differ l n s r ps (sig qs t) e d =
+      ap (λ x. x && cmp O up r t) (cmps-count O (parameterWay O) (typesOf ps) qs (λ z. d (sym (definition-count l n s r ps e) ∙ z)))

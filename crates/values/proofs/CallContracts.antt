@@ -27,7 +27,7 @@ use Rattle.values.proofs.Reading.{value-told}
 use mathlib.Core.Bool.{true, false}
 use Rattle.order.specs.Inferred.{valueConformsTo}
 use Rattle.types.specs.Calls.{isYes}
-use Rattle.values.specs.Calls.{isConformant, Accepted}
+use Rattle.values.specs.Calls.{isConformantBy, isConformant, Accepted}
 
 -- ---- what a reader's answer says
 pub value-refused : (s : List ℕ) (c : Checked) (n : ℕ) → c ≡ checked-is.Refused n → checked c ≡ checkValue s → readValue s ≡ refused n
@@ -58,7 +58,7 @@ whole-value = whole-by sizeVal (readV valueLevels) valueRefusals size-val-positi
 
 -- both were accepted, and the call says no
 pub not-held : (t v : List ℕ) (A : Accepted t v) → false ≡ isYes (isConformant v t) → valueConformsTo (A .value) (A .type) ≡ false
-unfolding isConformant
+unfolding isConformantBy
 not-held t v A e = fails valueConformsTo (readType t) (A .read-v) (A .read-t) e
 
 -- both were accepted, and the value conforms
@@ -67,7 +67,7 @@ pub record Passed (t v : List ℕ) : Type 0 where
   pub holds : valueConformsTo (both .value) (both .type) ≡ true
 
 pub passed : (t v : List ℕ) → Bytes t → Bytes v → true ≡ isYes (isConformant v t) → Passed t v
-unfolding isConformant
+unfolding isConformantBy
 passed t v bt bv e =
     let G = agree valueConformsTo (readValue v) (readType t) e in
     record { both = record { bytes-t = bt; bytes-v = bv; type = G .y; value = G .x; read-t = G .second; read-v = G .first }; holds = G .holds }

@@ -20,10 +20,10 @@ use Rattle.form.specs.Walks.{Short}
 use Rattle.form.proofs.Options.{none-some}
 use Rattle.form.proofs.CommandKinds.{leaf-low, leaf-type-in, plain-type-in, no-leaf-high}
 use Rattle.form.proofs.Runs.{rest, first-at}
-use Rattle.order.specs.Order.{fixed}
+use Rattle.order.specs.Order.{Order, Laws, flatOrder, fixed}
 use Rattle.order.specs.Size.{size, sizeFields, sizeVal, sizeVals, sizeEntries}
 use Rattle.order.specs.Values.{conforms, allConform}
-use Rattle.order.specs.Inferred.{valueConformsTo}
+use Rattle.order.proofs.Simple.{fixed-laws}
 use Rattle.order.proofs.Size.{size-val-positive}
 use Rattle.order.proofs.Bools.{and-true, and-false}
 use Rattle.types.specs.At.{typeAt, fieldsAt}
@@ -40,7 +40,7 @@ use Rattle.values.specs.Held.{heldBy, held, leafConforms, heldItems, ent
 use Rattle.values.proofs.Reading.{value-told, as-leaf, some-byte, some-level, v-inside, size-got, nth, no-nth}
 use Rattle.values.proofs.Forward.{rangeOf, node-range, no-range, node-list, node-context}
 use Rattle.values.proofs.ByKind.{kind, kindAt, kind-leaf, kind-other, kind-is, leaf-is, long-is, small-is, kinds-differ, to-any, short-data, leaf-null, leaf-same, simple-is}
-use Rattle.values.proofs.ByKind.{simple-cmd}
+use Rattle.values.proofs.ByKind.{leaf-alike, simple-cmd}
 
 pub readable-value : (l : ℕ) → Readable sizeVal (valueAt l)
 readable-value l = record { positive = size-val-positive; inside = λ s x e. v-inside l s x e }
@@ -126,7 +126,7 @@ module _ (l m : ℕ) (v : List ℕ) (at : ℕ) (t : List ℕ) (bt : ℕ) where
       leaf-to-none c a d u = fails leafConforms l m (drop at v) (drop bt t) u (λ x y e f.
           let k : kind x ≡ leafTypeCommand (getD v at 0) = kind-is l (drop at v) x e ∙ ap kindAt (first-at v at) ∙ kind-leaf (getD v at 0) leafy in
           let g = cmd-there y f in
-          ap (λ q. isShortLeaf x && (simple y && q)) (kinds-differ x y (λ w. omega (arith, plain-type-in (getD v at 0) leafy c)) (λ w. a (sym g ∙ w)) (λ w. d (sym g ∙ sym w ∙ k)))
+          ap (λ q. isShortLeaf x && (simple y && q)) (kinds-differ false x y (λ w. omega (arith, plain-type-in (getD v at 0) leafy c)) (λ w. a (sym g ∙ w)) (λ w. d (sym g ∙ sym w ∙ k)))
           ∙ ap (λ q. isShortLeaf x && q) (and-false (simple y)) ∙ and-false (isShortLeaf x))
 
       module _ (ml : 0 < m) (there : bt < length t) where
@@ -146,14 +146,14 @@ module _ (l m : ℕ) (v : List ℕ) (at : ℕ) (t : List ℕ) (bt : ℕ) where
 
           pub leaf-is-null : getD v at 0 ≡ 0 → Met (heldBy leafConforms (valueAt l (drop at v)) (typeAt m (drop bt t))) n 1
           unfolding kindAt leafTypeCommand
-          leaf-is-null c = tests (leaf-null (P .x) (T .x) (short-data (P .x) (P .leafy)) (leaf-kind ∙ ap kindAt c))
+          leaf-is-null c = tests (leaf-null fixed-laws (P .x) (T .x) (short-data (P .x) (P .leafy)) (leaf-kind ∙ ap kindAt c))
 
         pub leaf-to-any : getD t bt 0 ≡ 32 → Met (heldBy leafConforms (valueAt l (drop at v)) (typeAt m (drop bt t))) n 1
         leaf-to-any d =
             let lo : 32 ≤ getD t bt 0 = omega arith in
             let hi : getD t bt 0 ≤ 41 = omega arith in
             let S = T lo hi in
-            tests lo hi (to-any (P .x) (S .x) (cmd-there (S .x) (S .read) ∙ d))
+            tests lo hi (to-any fixed-laws (P .x) (S .x) (cmd-there (S .x) (S .read) ∙ d))
 
         pub leaf-to-own : getD t bt 0 ≡ leafTypeCommand (getD v at 0) → Met (heldBy leafConforms (valueAt l (drop at v)) (typeAt m (drop bt t))) n 1
         leaf-to-own d =
@@ -161,62 +161,62 @@ module _ (l m : ℕ) (v : List ℕ) (at : ℕ) (t : List ℕ) (bt : ℕ) where
             let lo : 32 ≤ getD t bt 0 = omega arith in
             let hi : getD t bt 0 ≤ 41 = omega arith in
             let S = T lo hi in
-            tests lo hi (leaf-same (P .x) (S .x) (short-data (P .x) (P .leafy)) (simple-is (S .x) (omega (arith, cmd-there (S .x) (S .read))))
+            tests lo hi (leaf-same fixed-laws (P .x) (S .x) (short-data (P .x) (P .leafy)) (simple-is (S .x) (omega (arith, cmd-there (S .x) (S .read))))
             (leaf-kind ∙ kind-leaf (getD v at 0) leafy ∙ sym d ∙ sym (cmd-there (S .x) (S .read))))
 
--- a leaf that conforms conforms as a value
-pub leaf-pair : (l m : ℕ) (v : List ℕ) (at : ℕ) (t : List ℕ) (bt n : ℕ) → Met (heldBy leafConforms (valueAt l (drop at v)) (typeAt m (drop bt t))) n 1 → (n ≡ 0 → ⊥)
-    → Pair (readable-value l) (readable-type m) valueConformsTo v at t bt n 1
-leaf-pair l m v at t bt n w z =
+-- a leaf that conforms conforms as a value, strict or not
+pub leaf-pair : (strict : Bool) (l m : ℕ) (v : List ℕ) (at : ℕ) (t : List ℕ) (bt n : ℕ) → Met (heldBy leafConforms (valueAt l (drop at v)) (typeAt m (drop bt t))) n 1 → (n ≡ 0 → ⊥)
+    → Pair (readable-value l) (readable-type m) (conforms (flatOrder strict)) v at t bt n 1
+leaf-pair strict l m v at t bt n w z =
     let B = taken sizeVal size leafConforms (valueAt l (drop at v)) (typeAt m (drop bt t)) n 1 (yes-of (heldBy leafConforms (valueAt l (drop at v)) (typeAt m (drop bt t))) n 1 w z) in
     record {
       x = B .x;
       y = B .y;
       read-a = B .read-a;
       read-b = B .read-b;
-      holds = last (isShortLeaf (B .x)) (simple (B .y)) (conforms fixed (B .x) (B .y))
-          (B .holds);
+      holds = all (isShortLeaf (B .x)) (simple (B .y)) (conforms fixed (B .x) (B .y)) (B .holds) (λ p q r. leaf-alike strict (B .x) (B .y) (short-data (B .x) p) q ∙ r);
       size-a = B .size-a;
       size-b = B .size-b;
     }
   where
-    last : (a b c : Bool) → a && (b && c) ≡ true → c ≡ true
-    last true true c e = e
-    last true false c e = absurd (true≢false (sym e))
-    last false b c e = absurd (true≢false (sym e))
+    all : {X : Type 0} (a b c : Bool) → a && (b && c) ≡ true → (a ≡ true → b ≡ true → c ≡ true → X) → X
+    all true true c e k = k refl refl e
+    all true false c e k = absurd (true≢false (sym e))
+    all false b c e k = absurd (true≢false (sym e))
 
 -- ---- the returns of `conforms` and `conform_other`
 -- to a simple type that every value there conforms to
-module _ (l m : ℕ) (v t : List ℕ) (n : ℕ) (e : n ≡ sizeAtV (valueAt l (take (length v - 0) (drop 0 v)))) where
+module _ (O : Order) (l m : ℕ) (v t : List ℕ) (n : ℕ) (e : n ≡ sizeAtV (valueAt l (take (length v - 0) (drop 0 v)))) where
   abbrev simple-there : Ty
   simple-there = leaf (decode (getD t 0 0 - 32))
 
-  met-simple : typeAt m t ≡ some simple-there → ((x : Val) → valueAt l v ≡ some x → conforms fixed x simple-there ≡ true) → Met (held (valueAt l v) (typeAt m t)) n 1
+  met-simple : typeAt m t ≡ some simple-there → ((x : Val) → valueAt l v ≡ some x → conforms O x simple-there ≡ true) → Met (held O (valueAt l v) (typeAt m t)) n 1
   unfolding size sizeAtV
   met-simple T f = go (valueAt l v) refl
     where
       size-is : n ≡ sizeAtV (valueAt l v)
       size-is = e ∙ ap (λ r. sizeAtV (valueAt l r)) (rest v 0)
 
-      go : (r : Option Val) → valueAt l v ≡ r → Met (held (valueAt l v) (typeAt m t)) n 1
-      go (some x) r = met-yes (both sizeVal size valueConformsTo (valueAt l v) (typeAt m t) x simple-there r T ∙ ap (λ q. judge q (sizeVal x) 1) (f x r)) (size-is ∙ ap sizeAtV r) refl
-      go none r = met-no n 1 (no-when sizeVal size valueConformsTo (valueAt l v) (typeAt m t) (λ x y g k. absurd (none-some (sym r ∙ g)))) (size-is ∙ ap sizeAtV r)
+      go : (r : Option Val) → valueAt l v ≡ r → Met (held O (valueAt l v) (typeAt m t)) n 1
+      go (some x) r = met-yes (both sizeVal size (conforms O) (valueAt l v) (typeAt m t) x simple-there r T ∙ ap (λ q. judge q (sizeVal x) 1) (f x r)) (size-is ∙ ap sizeAtV r) refl
+      go none r = met-no n 1 (no-when sizeVal size (conforms O) (valueAt l v) (typeAt m t) (λ x y g k. absurd (none-some (sym r ∙ g)))) (size-is ∙ ap sizeAtV r)
 
-pub met-any : (l m : ℕ) (v t : List ℕ) → 0 < m → 0 < length t → getD t 0 0 ≡ 32 → (n : ℕ) → n ≡ sizeAtV (valueAt l (take (length v - 0) (drop 0 v))) → Met (held (valueAt l v) (typeAt m t)) n 1
-met-any l m v t p h d n e =
+pub met-any : {O : Order} → Laws O → (l m : ℕ) (v t : List ℕ) → 0 < m → 0 < length t → getD t 0 0 ≡ 32 → (n : ℕ) → n ≡ sizeAtV (valueAt l (take (length v - 0) (drop 0 v)))
+    → Met (held O (valueAt l v) (typeAt m t)) n 1
+met-any {O} L l m v t p h d n e =
     let y = leaf (decode (getD t 0 0 - 32)) in
     let T = forward.read-simple m t p h (omega arith) (omega arith) in
-    met-simple l m v t n e T (λ x r. to-any x y (cmd-is m t y T ∙ d))
+    met-simple O l m v t n e T (λ x r. to-any L x y (cmd-is m t y T ∙ d))
 
 -- another leaf of data, and its own type
-pub met-plain : (l m : ℕ) (v t : List ℕ) → 0 < m → 0 < length t → isLeafCommand (getD v 0 0) ≡ true → getD t 0 0 ≡ leafTypeCommand (getD v 0 0) → (n : ℕ)
-    → n ≡ sizeAtV (valueAt l (take (length v - 0) (drop 0 v))) → Met (held (valueAt l v) (typeAt m t)) n 1
-met-plain l m v t p h k d n e =
+pub met-plain : {O : Order} → Laws O → (l m : ℕ) (v t : List ℕ) → 0 < m → 0 < length t → isLeafCommand (getD v 0 0) ≡ true → getD t 0 0 ≡ leafTypeCommand (getD v 0 0) → (n : ℕ)
+    → n ≡ sizeAtV (valueAt l (take (length v - 0) (drop 0 v))) → Met (held O (valueAt l v) (typeAt m t)) n 1
+met-plain {O} L l m v t p h k d n e =
     let b = leaf-type-in (getD v 0 0) k in
     let y = leaf (decode (getD t 0 0 - 32)) in
     let T = forward.read-simple m t p h (omega (arith, d, b)) (omega (arith, d, b)) in
-    met-simple l m v t n e T (λ x r.
-    leaf-same x y (ap isDataLeaf (as-leaf l v x r k .is)) refl (kind-is l v x r ∙ kind-leaf (getD v 0 0) k ∙ sym d ∙ sym (cmd-is m t y T)))
+    met-simple O l m v t n e T (λ x r.
+    leaf-same L x y (ap isDataLeaf (as-leaf l v x r k .is)) refl (kind-is l v x r ∙ kind-leaf (getD v 0 0) k ∙ sym d ∙ sym (cmd-is m t y T)))
 
 -- what `conform_other` is asked, and told
 pub other-short : (v : List ℕ) → length v < 3 → 3 ≤ length (take (length v - 0) (drop 0 v)) → 9 ≤ getD (take (length v - 0) (drop 0 v)) 0 0 → 11 < getD (take (length v - 0) (drop 0 v)) 0 0
@@ -226,72 +226,75 @@ pub other-rest : (v : List ℕ) → (getD v 0 0 ≡ 9 → ⊥) → (getD v 0 0 �
     → 9 ≤ getD (take (length v - 0) (drop 0 v)) 0 0 → 11 < getD (take (length v - 0) (drop 0 v)) 0 0
 other-rest v p q r a b = rw (rest v 0) (let h = rw (rest v 0) at b in omega arith)
 
-pub told-other : (l m : ℕ) (v t : List ℕ) (r u : ℕ) → Met (held (valueAt l (take (length v - 0) (drop 0 v))) (typeAt m (take (length t - 0) (drop 0 t)))) r u
-    → Met (held (valueAt l v) (typeAt m t)) r u
-told-other l m v t r u w = rw (rest v 0, rest t 0) at w
+pub told-other : (O : Order) (l m : ℕ) (v t : List ℕ) (r u : ℕ) → Met (held O (valueAt l (take (length v - 0) (drop 0 v))) (typeAt m (take (length t - 0) (drop 0 t)))) r u
+    → Met (held O (valueAt l v) (typeAt m t)) r u
+told-other O l m v t r u w = rw (rest v 0, rest t 0) at w
 
-module _ (l m : ℕ) (v t : List ℕ) (u : ℕ) where
+module _ (strict : Bool) (l m : ℕ) (v t : List ℕ) (u : ℕ) where
   -- of another kind
-  other-kind : (k : ℕ) → kindAt (getD v 0 0) ≡ k → (k ≡ 41 → ⊥) → (getD t 0 0 ≡ 32 → ⊥) → (getD t 0 0 ≡ k → ⊥) → Met (held (valueAt l v) (typeAt m t)) 0 u
-  other-kind k e n a d = fails valueConformsTo l m v t u (λ x y f g.
+  other-kind : (k : ℕ) → kindAt (getD v 0 0) ≡ k → (k ≡ 41 → ⊥) → (getD t 0 0 ≡ 32 → ⊥) → (getD t 0 0 ≡ k → ⊥) → Met (held (flatOrder strict) (valueAt l v) (typeAt m t)) 0 u
+  other-kind k e n a d = fails (conforms (flatOrder strict)) l m v t u (λ x y f g.
       let c = kind-is l v x f ∙ e in
       let b = cmd-is m t y g in
-      kinds-differ x y (λ w. n (sym c ∙ w)) (λ w. a (sym b ∙ w)) (λ w. d (sym b ∙ sym w ∙ c)))
+      kinds-differ strict x y (λ w. n (sym c ∙ w)) (λ w. a (sym b ∙ w)) (λ w. d (sym b ∙ sym w ∙ c)))
 
-  pub range-apart : getD v 0 0 ≡ 9 → (getD t 0 0 ≡ 32 → ⊥) → (getD t 0 0 ≡ 43 → ⊥) → Met (held (valueAt l v) (typeAt m t)) 0 u
+  pub range-apart : getD v 0 0 ≡ 9 → (getD t 0 0 ≡ 32 → ⊥) → (getD t 0 0 ≡ 43 → ⊥) → Met (held (flatOrder strict) (valueAt l v) (typeAt m t)) 0 u
   unfolding kindAt
   range-apart c a d = other-kind 43 (ap kindAt c) (λ z. omega arith) a d
 
-  pub list-apart : getD v 0 0 ≡ 10 → (getD t 0 0 ≡ 32 → ⊥) → (getD t 0 0 ≡ 42 → ⊥) → Met (held (valueAt l v) (typeAt m t)) 0 u
+  pub list-apart : getD v 0 0 ≡ 10 → (getD t 0 0 ≡ 32 → ⊥) → (getD t 0 0 ≡ 42 → ⊥) → Met (held (flatOrder strict) (valueAt l v) (typeAt m t)) 0 u
   unfolding kindAt
   list-apart c a d = other-kind 42 (ap kindAt c) (λ z. omega arith) a d
 
-  pub context-apart : getD v 0 0 ≡ 11 → (getD t 0 0 ≡ 32 → ⊥) → (getD t 0 0 ≡ 44 → ⊥) → Met (held (valueAt l v) (typeAt m t)) 0 u
+  pub context-apart : getD v 0 0 ≡ 11 → (getD t 0 0 ≡ 32 → ⊥) → (getD t 0 0 ≡ 44 → ⊥) → Met (held (flatOrder strict) (valueAt l v) (typeAt m t)) 0 u
   unfolding kindAt
   context-apart c a d = other-kind 44 (ap kindAt c) (λ z. omega arith) a d
 
-  pub function-apart : getD v 0 0 ≡ 12 → (getD t 0 0 ≡ 32 → ⊥) → (getD t 0 0 ≡ 45 → ⊥) → Met (held (valueAt l v) (typeAt m t)) 0 u
+  pub function-apart : getD v 0 0 ≡ 12 → (getD t 0 0 ≡ 32 → ⊥) → (getD t 0 0 ≡ 45 → ⊥) → Met (held (flatOrder strict) (valueAt l v) (typeAt m t)) 0 u
   unfolding kindAt
   function-apart c a d = other-kind 45 (ap kindAt c) (λ z. omega arith) a d
 
-  pub plain-apart : isLeafCommand (getD v 0 0) ≡ true → (getD v 0 0 ≡ 0 → ⊥) → (getD t 0 0 ≡ 32 → ⊥) → (getD t 0 0 ≡ leafTypeCommand (getD v 0 0) → ⊥) → Met (held (valueAt l v) (typeAt m t)) 0 u
+  pub plain-apart : isLeafCommand (getD v 0 0) ≡ true → (getD v 0 0 ≡ 0 → ⊥) → (getD t 0 0 ≡ 32 → ⊥) → (getD t 0 0 ≡ leafTypeCommand (getD v 0 0) → ⊥)
+      → Met (held (flatOrder strict) (valueAt l v) (typeAt m t)) 0 u
   plain-apart h n a d = other-kind (leafTypeCommand (getD v 0 0)) (kind-leaf (getD v 0 0) h) (λ z. omega (arith, plain-type-in (getD v 0 0) h n)) a d
 
   -- no range, list or context that is there whole, no leaf, no definition
   pub rest-apart : (3 ≤ length v → 9 ≤ getD v 0 0 → 11 < getD v 0 0) → (getD t 0 0 ≡ 32 → ⊥) → isLeafCommand (getD v 0 0) ≡ false → (getD v 0 0 ≡ 12 → ⊥)
-      → Met (held (valueAt l v) (typeAt m t)) 0 u
-  rest-apart w a h n = fails valueConformsTo l m v t u (λ x y f g. go x y f g (leb (getD v 0 0) 11) refl)
+      → Met (held (flatOrder strict) (valueAt l v) (typeAt m t)) 0 u
+  rest-apart w a h n = fails (conforms (flatOrder strict)) l m v t u (λ x y f g. go x y f g (leb (getD v 0 0) 11) refl)
     where
-      go : (x : Val) (y : Ty) → valueAt l v ≡ some x → typeAt m t ≡ some y → (q : Bool) → leb (getD v 0 0) 11 ≡ q → conforms fixed x y ≡ false
+      go : (x : Val) (y : Ty) → valueAt l v ≡ some x → typeAt m t ≡ some y → (q : Bool) → leb (getD v 0 0) 11 ≡ q → conforms (flatOrder strict) x y ≡ false
       go x y f g true e = absurd (let k = leb-true (getD v 0 0) 11 e in let j = no-leaf-high (getD v 0 0) h in omega (arith, w (long-is l v x f j k) j))
       go x y f g false e =
           let b = cmd-is m t y g in
           let i = leb-false (getD v 0 0) 11 e in
           let c = kind-is l v x f ∙ kind-other (getD v 0 0) (omega arith) h in
-          kinds-differ x y (λ z. omega arith) (λ z. a (sym b ∙ z)) (λ z. a (sym b ∙ sym z ∙ c))
+          kinds-differ strict x y (λ z. omega arith) (λ z. a (sym b ∙ z)) (λ z. a (sym b ∙ sym z ∙ c))
 
+-- no, whatever the test is: one of the two is cut short or none
+module _ (test : Val → Ty → Bool) (l m : ℕ) (v t : List ℕ) (u : ℕ) where
   -- a range's interval bytes
-  pub no-interval : 0 < l → 3 ≤ length v → getD v 0 0 ≡ 9 → (getD v 1 0 ≤ 3 → getD v 2 0 ≤ 3 → ⊥) → Met (held (valueAt l v) (typeAt m t)) 0 u
-  no-interval p h c w = never valueConformsTo l m v t u (λ x y f g. none-some (sym (no-range l v p h c w) ∙ f))
+  pub no-interval : 0 < l → 3 ≤ length v → getD v 0 0 ≡ 9 → (getD v 1 0 ≤ 3 → getD v 2 0 ≤ 3 → ⊥) → Met (heldBy test (valueAt l v) (typeAt m t)) 0 u
+  no-interval p h c w = never test l m v t u (λ x y f g. none-some (sym (no-range l v p h c w) ∙ f))
 
   -- a type that is cut short
-  pub no-fields-there : getD t 0 0 ≡ 44 → (3 ≤ length t → ⊥) → Met (held (valueAt l v) (typeAt m t)) 0 u
-  no-fields-there d w = never valueConformsTo l m v t u (λ x y f g. w (is-ctx m t y g d .three))
+  pub no-fields-there : getD t 0 0 ≡ 44 → (3 ≤ length t → ⊥) → Met (heldBy test (valueAt l v) (typeAt m t)) 0 u
+  no-fields-there d w = never test l m v t u (λ x y f g. w (is-ctx m t y g d .three))
 
-  pub no-signature-there : getD t 0 0 ≡ 45 → (2 ≤ length t → ⊥) → Met (held (valueAt l v) (typeAt m t)) 0 u
-  no-signature-there d w = never valueConformsTo l m v t u (λ x y f g. w (is-fun m t y g d .two))
+  pub no-signature-there : getD t 0 0 ≡ 45 → (2 ≤ length t → ⊥) → Met (heldBy test (valueAt l v) (typeAt m t)) 0 u
+  no-signature-there d w = never test l m v t u (λ x y f g. w (is-fun m t y g d .two))
 
   -- a null
-  pub no-null : (n room : ℕ) → Short isShortLeaf (readV l v) n room → n ≡ 0 → getD v 0 0 ≡ 0 → Met (held (valueAt l v) (typeAt m t)) 0 u
-  no-null n room h z c = never valueConformsTo l m v t u (λ x y f g. true≢false (sym (leaf-is l v x f (omega arith)) ∙ no-leaf l v n room h z x f))
+  pub no-null : (n room : ℕ) → Short isShortLeaf (readV l v) n room → n ≡ 0 → getD v 0 0 ≡ 0 → Met (heldBy test (valueAt l v) (typeAt m t)) 0 u
+  no-null n room h z c = never test l m v t u (λ x y f g. true≢false (sym (leaf-is l v x f (omega arith)) ∙ no-leaf l v n room h z x f))
 
-pub met-null : (l m : ℕ) (v t : List ℕ) (n room : ℕ) → Short isShortLeaf (readV l v) n room → (n ≡ 0 → ⊥) → getD v 0 0 ≡ 0 → (k : ℕ) → Sized size (typeAt m) t k
-    → Met (held (valueAt l v) (typeAt m t)) n k
+pub met-null : {O : Order} → Laws O → (l m : ℕ) (v t : List ℕ) (n room : ℕ) → Short isShortLeaf (readV l v) n room → (n ≡ 0 → ⊥) → getD v 0 0 ≡ 0 → (k : ℕ) → Sized size (typeAt m) t k
+    → Met (held O (valueAt l v) (typeAt m t)) n k
 unfolding kindAt leafTypeCommand
-met-null l m v t n room h z c k T =
+met-null {O} L l m v t n room h z c k T =
     let P = passed-leaf l v n room h z in
-    met-yes (both sizeVal size valueConformsTo (valueAt l v) (typeAt m t) (P .x) (T .x) (P .read) (T .read)
-    ∙ ap (λ q. judge q (sizeVal (P .x)) (size (T .x))) (leaf-null (P .x) (T .x) (short-data (P .x) (P .leafy)) (kind-is l v (P .x) (P .read) ∙ ap kindAt c))) (P .is) (T .is)
+    met-yes (both sizeVal size (conforms O) (valueAt l v) (typeAt m t) (P .x) (T .x) (P .read) (T .read)
+    ∙ ap (λ q. judge q (sizeVal (P .x)) (size (T .x))) (leaf-null L (P .x) (T .x) (short-data (P .x) (P .leafy)) (kind-is l v (P .x) (P .read) ∙ ap kindAt c))) (P .is) (T .is)
 
 -- ---- ranges, lists, contexts
 two-of : (l : ℕ) (s : List ℕ) (vs : Vals) → itemsAt l 2 s ≡ some vs → (a : Val) × (b : Val) × (vs ≡ item a (item b no-items))
@@ -301,22 +304,22 @@ two-of l s vs e =
     let C = no-nth l 2 2 (0 + sizeVal (A .x) + sizeVal (B .x)) s (B .more) (omega arith) (B .second) in
     (A .x, B .x, cc)
 
-module _ (l m : ℕ) (v t : List ℕ) (lp : 0 < l) (mp : 0 < m) (three : 3 ≤ length v) (some-t : 0 < length t) (r u : ℕ) where
+module _ (O : Order) (l m : ℕ) (v t : List ℕ) (lp : 0 < l) (mp : 0 < m) (three : 3 ≤ length v) (some-t : 0 < length t) (r u : ℕ) where
   pub met-range : getD v 0 0 ≡ 9 → getD t 0 0 ≡ 43 → getD v 1 0 ≤ 3 → getD v 2 0 ≤ 3
-      → Met (addSizes 3 1 (heldItems (itemsAt (l - 1) 2 (take (length v - 3) (drop 3 v))) (typeAt (m - 1) (take (length t - 1) (drop 1 t))))) r u
-      → Met (held (valueAt l v) (typeAt m t)) r u
+      → Met (addSizes 3 1 (heldItems O (itemsAt (l - 1) 2 (take (length v - 3) (drop 3 v))) (typeAt (m - 1) (take (length t - 1) (drop 1 t))))) r u
+      → Met (held O (valueAt l v) (typeAt m t)) r u
   unfolding conforms rangeOf sizeVal size
-  met-range c d i j w = met-as (addSizes 3 1 (heldItems (itemsAt (l - 1) 2 (drop 3 v)) (typeAt (m - 1) (drop 1 t)))) r u
-      (ap₂ held (node-range l v lp three c i j) (forward.node-range m t mp some-t d)
-      ∙ mapped sizeVals size (allConform fixed) sizeVal size valueConformsTo (rangeOf (getD v 1 0) (getD v 2 0)) (λ y. built (range y)) 3 1 (itemsAt (l - 1) 2 (drop 3 v))
+  met-range c d i j w = met-as (addSizes 3 1 (heldItems O (itemsAt (l - 1) 2 (drop 3 v)) (typeAt (m - 1) (drop 1 t)))) r u
+      (ap₂ (held O) (node-range l v lp three c i j) (forward.node-range m t mp some-t d)
+      ∙ mapped sizeVals size (allConform O) sizeVal size (conforms O) (rangeOf (getD v 1 0) (getD v 2 0)) (λ y. built (range y)) 3 1 (itemsAt (l - 1) 2 (drop 3 v))
       (typeAt (m - 1) (drop 1 t)) tested sizes wrapped) (rw (rest v 3, rest t 1) at w)
     where
       tested : (vs : Vals) (y : Ty) → itemsAt (l - 1) 2 (drop 3 v) ≡ some vs → typeAt (m - 1) (drop 1 t) ≡ some y
-          → conforms fixed (rangeOf (getD v 1 0) (getD v 2 0) vs) (built (range y)) ≡ allConform fixed vs y
+          → conforms O (rangeOf (getD v 1 0) (getD v 2 0) vs) (built (range y)) ≡ allConform O vs y
       tested vs y e f =
           let g = two-of (l - 1) (drop 3 v) vs e in
-          ap (λ z. conforms fixed (rangeOf (getD v 1 0) (getD v 2 0) z) (built (range y))) (g .2)
-          ∙ ap (λ q. conforms fixed (g .0) y && q) (sym (and-true (conforms fixed (g .1) y))) ∙ sym (ap (λ z. allConform fixed z y) (g .2))
+          ap (λ z. conforms O (rangeOf (getD v 1 0) (getD v 2 0) z) (built (range y))) (g .2)
+          ∙ ap (λ q. conforms O (g .0) y && q) (sym (and-true (conforms O (g .1) y))) ∙ sym (ap (λ z. allConform O z y) (g .2))
 
       sizes : (vs : Vals) → itemsAt (l - 1) 2 (drop 3 v) ≡ some vs → sizeVal (rangeOf (getD v 1 0) (getD v 2 0) vs) ≡ sizeVals vs + 3
       sizes vs e =
@@ -327,20 +330,20 @@ module _ (l m : ℕ) (v t : List ℕ) (lp : 0 < l) (mp : 0 < m) (three : 3 ≤ l
       wrapped y = omega arith
 
   pub met-list : getD v 0 0 ≡ 10 → getD t 0 0 ≡ 42 → (n : ℕ) → n ≡ numAt 2 1 v
-      → Met (addSizes 3 1 (heldItems (itemsAt (l - 1) n (take (length v - 3) (drop 3 v))) (typeAt (m - 1) (take (length t - 1) (drop 1 t))))) r u
-      → Met (held (valueAt l v) (typeAt m t)) r u
+      → Met (addSizes 3 1 (heldItems O (itemsAt (l - 1) n (take (length v - 3) (drop 3 v))) (typeAt (m - 1) (take (length t - 1) (drop 1 t))))) r u
+      → Met (held O (valueAt l v) (typeAt m t)) r u
   unfolding conforms sizeVal size
-  met-list c d n ne w = met-as (addSizes 3 1 (heldItems (itemsAt (l - 1) n (drop 3 v)) (typeAt (m - 1) (drop 1 t)))) r u
-      (ap₂ held (node-list l v lp three c ∙ ap (λ k. mapO v-list (itemsAt (l - 1) k (drop 3 v))) (sym ne)) (forward.node-list m t mp some-t d)
-      ∙ mapped sizeVals size (allConform fixed) sizeVal size valueConformsTo v-list (λ y. built (list y)) 3 1 (itemsAt (l - 1) n (drop 3 v)) (typeAt (m - 1) (drop 1 t)) (λ x y e f. refl)
+  met-list c d n ne w = met-as (addSizes 3 1 (heldItems O (itemsAt (l - 1) n (drop 3 v)) (typeAt (m - 1) (drop 1 t)))) r u
+      (ap₂ (held O) (node-list l v lp three c ∙ ap (λ k. mapO v-list (itemsAt (l - 1) k (drop 3 v))) (sym ne)) (forward.node-list m t mp some-t d)
+      ∙ mapped sizeVals size (allConform O) sizeVal size (conforms O) v-list (λ y. built (list y)) 3 1 (itemsAt (l - 1) n (drop 3 v)) (typeAt (m - 1) (drop 1 t)) (λ x y e f. refl)
       (λ x e. omega arith) (λ y. omega arith)) (rw (rest v 3, rest t 1) at w)
 
   pub met-context : getD v 0 0 ≡ 11 → getD t 0 0 ≡ 44 → 3 ≤ length t → (n k : ℕ) → n ≡ numAt 2 1 v → k ≡ numAt 2 1 t
-      → Met (addSizes 3 3 (heldEntries (entriesAt (l - 1) n 0 (take (length v - 3) (drop 3 v))) (fieldsAt (m - 1) k 0 (take (length t - 3) (drop 3 t))))) r u
-      → Met (held (valueAt l v) (typeAt m t)) r u
+      → Met (addSizes 3 3 (heldEntries O (entriesAt (l - 1) n 0 (take (length v - 3) (drop 3 v))) (fieldsAt (m - 1) k 0 (take (length t - 3) (drop 3 t))))) r u
+      → Met (held O (valueAt l v) (typeAt m t)) r u
   unfolding conforms sizeVal size
-  met-context c d i n k ne ke w = met-as (addSizes 3 3 (heldEntries (entriesAt (l - 1) n 0 (drop 3 v)) (fieldsAt (m - 1) k 0 (drop 3 t)))) r u
-      (ap₂ held (node-context l v lp three c ∙ ap (λ z. mapO v-context (entriesAt (l - 1) z 0 (drop 3 v))) (sym ne))
+  met-context c d i n k ne ke w = met-as (addSizes 3 3 (heldEntries O (entriesAt (l - 1) n 0 (drop 3 v)) (fieldsAt (m - 1) k 0 (drop 3 t)))) r u
+      (ap₂ (held O) (node-context l v lp three c ∙ ap (λ z. mapO v-context (entriesAt (l - 1) z 0 (drop 3 v))) (sym ne))
       (forward.node-context m t mp some-t d i ∙ ap (λ z. mapO (λ fs. built (context fs)) (fieldsAt (m - 1) z 0 (drop 3 t))) (sym ke))
-      ∙ mapped sizeEntries sizeFields entriesConform sizeVal size valueConformsTo v-context (λ fs. built (context fs)) 3 3 (entriesAt (l - 1) n 0 (drop 3 v)) (fieldsAt (m - 1) k 0 (drop 3 t))
+      ∙ mapped sizeEntries sizeFields (entriesConform O) sizeVal size (conforms O) v-context (λ fs. built (context fs)) 3 3 (entriesAt (l - 1) n 0 (drop 3 v)) (fieldsAt (m - 1) k 0 (drop 3 t))
       (λ x y e f. refl) (λ x e. omega arith) (λ y. omega arith)) (rw (rest v 3, rest t 3) at w)

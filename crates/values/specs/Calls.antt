@@ -1,21 +1,37 @@
 -- The definitions of the calls: refusals in document 01's order, then the answer.
 -- Assumes nothing.
-use mathlib.Core.Bool.{Bool}
+use mathlib.Core.Bool.{Bool, false}
 use mathlib.Core.List.{List}
 use Prim.Native.Nat.{ℕ}
 use Rattle.form.specs.Outcome.{Outcome, done, _>>=_}
 use Rattle.form.specs.Read.{readType, readValue}
-use Rattle.order.specs.Inferred.{valueConformsTo}
+use Rattle.order.specs.Order.{Order, fixed, strictOrder}
+use Rattle.order.specs.Values.{conforms}
 use mathlib.Core.Path.{_≡_}
 use Rattle.form.specs.Trees.{Ty, Val}
 use Rattle.form.specs.Form.{Bytes}
 
--- Value::is_conformant: self, then the target
-unfoldable pub isConformant : List ℕ → List ℕ → Outcome Bool
-isConformant v t = do
+-- conformance of a value to a type under an order: self, then the target
+unfoldable pub isConformantBy : Order → List ℕ → List ℕ → Outcome Bool
+isConformantBy O v t = do
   w ← readValue v
   u ← readType t
-  done (valueConformsTo w u)
+  done (conforms O w u)
+
+-- Value::is_conformant: document 01's relation
+abbrev pub isConformant : List ℕ → List ℕ → Outcome Bool
+isConformant v t = isConformantBy fixed v t
+
+-- K8: as DMN has it
+abbrev pub strictIsConformant : List ℕ → List ℕ → Outcome Bool
+strictIsConformant v t = isConformantBy strictOrder v t
+
+-- both are read, and the answer is no: what is left to say where the value does not conform
+unfoldable pub readThenNo : List ℕ → List ℕ → Outcome Bool
+readThenNo v t = do
+  w ← readValue v
+  u ← readType t
+  done false
 
 -- both arguments of a call were accepted
 pub record Accepted (t v : List ℕ) : Type 0 where

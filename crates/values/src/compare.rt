@@ -2,17 +2,20 @@
 ghost use mathlib.Core.Path.{_≡_};
 ghost use Prim.Native.Nat.{_+_, _-_, _<_, _≤_, _^_};
 ghost use lib.ListN.{length, drop, getD};
+ghost use Rattle.order.specs.Order.{orderOf};
+ghost use Rattle.order.specs.Types.{cmp};
 ghost use Rattle.types.specs.At.{typeAt, fieldsAt, sigAt, Ok};
-ghost use Rattle.types.specs.Conform.{addSizes, Met};
+ghost use Rattle.types.specs.Conform.{typesBy, addSizes, Met};
 ghost use Rattle.types.specs.Calls.{isYes};
 ghost use Rattle.values.specs.At.{valueAt, itemsAt, entriesAt, definitionAt};
-ghost use Rattle.values.specs.Held.{heldBy, held, leafConforms, heldItems, heldEntries, heldDefinition};
-ghost use Rattle.values.specs.Calls.{isConformant};
+ghost use Rattle.values.specs.Held.{heldBy, held, leafConforms, heldItems, heldEntries, parameterWay, heldDefinition};
+ghost use Rattle.values.specs.Calls.{isConformantBy};
 use crate::walk;
 use form::commands;
 use form::limits::MOST_BYTES;
 use form::limits::NAME_WIDTH;
 use form::limits::TYPE_LEVELS;
+use types::readings;
 
 // ---- conformance: a value and a type are read and compared at once. The answer is the size of the value, with that of the type left in `other`, where both are
 // read and the value conforms, and 0 where not. `left` counts the levels of the type; a value has one less.
@@ -50,11 +53,11 @@ fn leaf(v: &[u8], at: usize, t: &[u8], bt: usize, left: usize) -> usize
 }
 
 // Whether the value at the front of `v` conforms to the type at the front of `t`. The commands that most records have stand here, so that the call is short.
-pub fn conforms(v: &[u8], t: &[u8], left: usize, other: &mut usize) -> usize
-    ensures { λ r. ⌜ Met (held (valueAt (left - 1) (now (v .entry))) (typeAt left (now (t .entry)))) r (now (other .exit)) ⌝ }
+pub fn conforms(v: &[u8], t: &[u8], left: usize, other: &mut usize, reading: u64) -> usize
+    ensures { λ r. ⌜ Met (held (orderOf reading) (valueAt (left - 1) (now (v .entry))) (typeAt left (now (t .entry)))) r (now (other .exit)) ⌝ }
 {
     if v.len() < 3 {
-        return conform_other(&v[0..], &t[0..], left, other);
+        return conform_other(&v[0..], &t[0..], left, other, reading);
     }
     if left < 2 {
         return 0;
@@ -78,7 +81,7 @@ pub fn conforms(v: &[u8], t: &[u8], left: usize, other: &mut usize) -> usize
             if 3 < v[2] {
                 return 0;
             }
-            conform_items(&v[3..], 2, &t[1..], left - 1, other)
+            conform_items(&v[3..], 2, &t[1..], left - 1, other, reading)
         }
         commands::LIST => {
             if d != commands::LIST_TYPE {
@@ -90,6 +93,7 @@ pub fn conforms(v: &[u8], t: &[u8], left: usize, other: &mut usize) -> usize
                 &t[1..],
                 left - 1,
                 other,
+                reading,
             )
         }
         commands::CONTEXT => {
@@ -106,16 +110,17 @@ pub fn conforms(v: &[u8], t: &[u8], left: usize, other: &mut usize) -> usize
                 form::bytes::word_at(t, 1),
                 left - 1,
                 other,
+                reading,
             )
         }
-        _ => conform_other(&v[0..], &t[0..], left, other),
+        _ => conform_other(&v[0..], &t[0..], left, other, reading),
     }
 }
 
 // Whether the value at the front of `v`, which is no range, list or context or is cut short, conforms to the type at the front of `t`.
-fn conform_other(v: &[u8], t: &[u8], left: usize, other: &mut usize) -> usize
+fn conform_other(v: &[u8], t: &[u8], left: usize, other: &mut usize, reading: u64) -> usize
     requires { ⌜ (3 ≤ length (now v) → 9 ≤ getD (now v) 0 0 → 11 < getD (now v) 0 0) ⌝ }
-    ensures { λ r. ⌜ Met (held (valueAt (left - 1) (now (v .entry))) (typeAt left (now (t .entry)))) r (now (other .exit)) ⌝ }
+    ensures { λ r. ⌜ Met (held (orderOf reading) (valueAt (left - 1) (now (v .entry))) (typeAt left (now (t .entry)))) r (now (other .exit)) ⌝ }
 {
     if left < 2 {
         return 0;
@@ -167,16 +172,30 @@ fn conform_other(v: &[u8], t: &[u8], left: usize, other: &mut usize) -> usize
             if k != t[1] {
                 return 0;
             }
-            conform_definition(&v[4..], &t[2..], form::bytes::wide(k), left - 1, other)
+            conform_definition(
+                &v[4..],
+                &t[2..],
+                form::bytes::wide(k),
+                left - 1,
+                other,
+                reading,
+            )
         }
         _ => 0,
     }
 }
 
 // n values, each held to the one type, of which each of them tells the size; behind three bytes and one.
-fn conform_items(v: &[u8], n: usize, t: &[u8], left: usize, other: &mut usize) -> usize
+fn conform_items(
+    v: &[u8],
+    n: usize,
+    t: &[u8],
+    left: usize,
+    other: &mut usize,
+    reading: u64,
+) -> usize
     requires { ⌜ (length (now v) + 3 < 2 ^ 64) × (length (now t) + 1 < 2 ^ 64) × (0 < left) ⌝ }
-    ensures { λ r. ⌜ Met (addSizes 3 1 (heldItems (itemsAt (left - 1) n (now (v .entry))) (typeAt left (now (t .entry))))) r (now (other .exit)) ⌝ }
+    ensures { λ r. ⌜ Met (addSizes 3 1 (heldItems (orderOf reading) (itemsAt (left - 1) n (now (v .entry))) (typeAt left (now (t .entry))))) r (now (other .exit)) ⌝ }
 {
     if 0 == n {
         let m = types::walk::skip(&t[0..], left);
@@ -197,7 +216,7 @@ fn conform_items(v: &[u8], n: usize, t: &[u8], left: usize, other: &mut usize) -
             bt = 1;
             continue;
         }
-        let x = conforms(&v[at..], &t[0..], left, other);
+        let x = conforms(&v[at..], &t[0..], left, other, reading);
         if x == 0 {
             return 0;
         }
@@ -209,9 +228,17 @@ fn conform_items(v: &[u8], n: usize, t: &[u8], left: usize, other: &mut usize) -
 }
 
 // n entries of a context and m of a type, the names of both ascending: an entry that the type lacks is passed over; behind three bytes each.
-fn conform_entries(v: &[u8], n: usize, t: &[u8], m: usize, left: usize, other: &mut usize) -> usize
+fn conform_entries(
+    v: &[u8],
+    n: usize,
+    t: &[u8],
+    m: usize,
+    left: usize,
+    other: &mut usize,
+    reading: u64,
+) -> usize
     requires { ⌜ (length (now v) + 3 < 2 ^ 64) × (length (now t) + 3 < 2 ^ 64) × (0 < left) ⌝ }
-    ensures { λ r. ⌜ Met (addSizes 3 3 (heldEntries (entriesAt (left - 1) n 0 (now (v .entry))) (fieldsAt left m 0 (now (t .entry))))) r (now (other .exit)) ⌝ }
+    ensures { λ r. ⌜ Met (addSizes 3 3 (heldEntries (orderOf reading) (entriesAt (left - 1) n 0 (now (v .entry))) (fieldsAt left m 0 (now (t .entry))))) r (now (other .exit)) ⌝ }
 {
     if 0 == n {
         if 0 < m {
@@ -264,7 +291,7 @@ fn conform_entries(v: &[u8], n: usize, t: &[u8], m: usize, left: usize, other: &
             bt = q + 1;
             continue;
         }
-        let x = conforms(&v[p..], &t[q..], left, other);
+        let x = conforms(&v[p..], &t[q..], left, other, reading);
         if x == 0 {
             return 0;
         }
@@ -278,18 +305,41 @@ fn conform_entries(v: &[u8], n: usize, t: &[u8], m: usize, left: usize, other: &
     at + 3
 }
 
-// A function definition that was read, from its result type on, against a function type from its parameters on: each own parameter to the target's, result to
-// result; behind four bytes and two.
-fn conform_definition(v: &[u8], t: &[u8], count: usize, left: usize, other: &mut usize) -> usize
+// The type of an own parameter at the front of `v` against that of the target's at the front of `t`: the own one to the target's; strict, the other way round.
+fn conform_parameter(v: &[u8], t: &[u8], left: usize, other: &mut usize, reading: u64) -> usize
+    ensures { λ r. ⌜ Met (typesBy (cmp (orderOf reading) (parameterWay (orderOf reading))) (typeAt left (now (v .entry))) (typeAt left (now (t .entry)))) r (now (other .exit)) ⌝ }
+{
+    if readings::is_strict(reading) {
+        let y = types::compare::conforms(t, v, left, other, reading);
+        if y == 0 {
+            return 0;
+        }
+        let x = *other;
+        *other = y;
+        return x;
+    }
+    types::compare::conforms(v, t, left, other, reading)
+}
+
+// A function definition that was read, from its result type on, against a function type from its parameters on: parameter by parameter, result to result; behind
+// four bytes and two.
+fn conform_definition(
+    v: &[u8],
+    t: &[u8],
+    count: usize,
+    left: usize,
+    other: &mut usize,
+    reading: u64,
+) -> usize
     requires { ⌜ (length (now v) + 4 < 2 ^ 64) × (length (now t) + 2 < 2 ^ 64) × Ok (definitionAt (left - 1) count (now v)) ⌝ }
-    ensures { λ r. ⌜ Met (addSizes 4 2 (heldDefinition (definitionAt (left - 1) count (now (v .entry))) (sigAt left count (now (t .entry))))) r (now (other .exit)) ⌝ }
+    ensures { λ r. ⌜ Met (addSizes 4 2 (heldDefinition (orderOf reading) (definitionAt (left - 1) count (now (v .entry))) (sigAt left count (now (t .entry))))) r (now (other .exit)) ⌝ }
 {
     let mut at = types::walk::skip(v, left);
     let mut bt: usize = 0;
     let mut i: usize = 0;
     while i < count {
         let p = at + NAME_WIDTH;
-        let x = types::compare::conforms(&v[p..], &t[bt..], left, other);
+        let x = conform_parameter(&v[p..], &t[bt..], left, other, reading);
         if x == 0 {
             return 0;
         }
@@ -297,7 +347,7 @@ fn conform_definition(v: &[u8], t: &[u8], count: usize, left: usize, other: &mut
         bt = bt + *other;
         i += 1;
     }
-    let x = types::compare::conforms(&v[0..], &t[bt..], left, other);
+    let x = types::compare::conforms(&v[0..], &t[bt..], left, other, reading);
     if x == 0 {
         return 0;
     }
@@ -306,8 +356,8 @@ fn conform_definition(v: &[u8], t: &[u8], count: usize, left: usize, other: &mut
 }
 
 // Whether both are whole and the value conforms to the type: a call that asks this first needs the readers only where the answer is no.
-pub fn passes(v: &[u8], t: &[u8]) -> bool
-    ensures { λ r. ⌜ r ≡ isYes (isConformant (now (v .entry)) (now (t .entry))) ⌝ }
+pub fn passes(v: &[u8], t: &[u8], reading: u64) -> bool
+    ensures { λ r. ⌜ r ≡ isYes (isConformantBy (orderOf reading) (now (v .entry)) (now (t .entry))) ⌝ }
 {
     if MOST_BYTES < v.len() {
         return false;
@@ -316,7 +366,7 @@ pub fn passes(v: &[u8], t: &[u8]) -> bool
         return false;
     }
     let mut other: usize = 0;
-    let size = conforms(v, t, TYPE_LEVELS, &mut other);
+    let size = conforms(v, t, TYPE_LEVELS, &mut other, reading);
     if size == 0 {
         return false;
     }

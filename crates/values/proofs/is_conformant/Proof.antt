@@ -1,16 +1,14 @@
--- `values::is_conformant` meets its contract: a yes of the one pass is the answer; without it the readers give the refusals, and then the answer is no.
+-- `values::is_conformant` meets its contract: a yes of the walk is the answer; without it the readers give the refusals, and then the answer is no.
 -- Assumes nothing.
 use borrow.Author.Needs.{needs}
+use mathlib.Core.Path.{sym, _∙_}
+use Rattle.form.specs.Read.{readType, readValue}
+use Rattle.order.specs.Order.{fixed}
+use Rattle.order.specs.Values.{conforms}
+use Rattle.types.proofs.TwoArguments.{asked-yes, not-yes}
+use Rattle.values.specs.Calls.{isConformantBy, readThenNo}
 use Rattle.values.proofs.is_conformant.Statement.{statement}
 use Rattle.values.proofs.is_conformant.Tie as tie
-use mathlib.Core.Path.{sym, _∙_}
-use Rattle.form.specs.Read.{readType}
-use Rattle.form.proofs.Whole.{bytes-of}
-use Rattle.order.specs.Inferred.{valueConformsTo}
-use Rattle.types.proofs.TwoArguments.{first-refused, second-refused, asked-yes, asked-no}
-use Rattle.types.proofs.CallContracts.{was-refused, was-accepted}
-use Rattle.values.specs.Calls.{isConformant}
-use Rattle.values.proofs.CallContracts.{value-refused, value-accepted}
 
 passes-requires : tie.Need-passes-requires
 passes-requires c κs = search needs
@@ -18,77 +16,18 @@ passes-requires c κs = search needs
 returns : tie.Need-returns
 returns c =
     let args = c .before .before .before .before .args in
-    asked-yes (isConformant (args .v .now) (args .t .now))
-    (sym (c .if1 .taken) ∙ c .before .passes .ensures)
+    asked-yes (isConformantBy fixed (args .v .now) (args .t .now)) (sym (c .if1 .taken) ∙ c .before .passes .ensures)
 
-check-value-requires : tie.Need-check-value-requires
-check-value-requires c κs = search needs
-
-enum-known-n : tie.Need-enum-known-n
-enum-known-n c = search needs
+refuse-requires : tie.Need-refuse-requires
+refuse-requires c κs = search needs
 
 returns-2 : tie.Need-returns-2
-unfolding isConformant
+unfolding isConformantBy readThenNo
 returns-2 c =
-    let c3 = c .before .before .before in
-    let args = c3 .before .before .before .before .before .args in
-    first-refused valueConformsTo (readType (args .t .now))
-    (value-refused (args .v .now) (c3 .check-value .result) (c .before .n .given .0 .0)
-    (c .before .n .given .1) (c3 .check-value .ensures .0))
-
-enum-told : tie.Need-enum-told
-enum-told c = search needs
-
-check-type-requires : tie.Need-check-type-requires
-check-type-requires c κs = search needs
-
-enum-known-n-2 : tie.Need-enum-known-n-2
-enum-known-n-2 c = search needs
-
-returns-3 : tie.Need-returns-3
-unfolding isConformant
-returns-3 c =
-    let c3 = c .before .before .before in
-    let c6 = c3 .before .before .before in
-    let c10 = c6 .before .before .before .before in
-    let args = c10 .before .args in
-    second-refused valueConformsTo (readType (args .t .now))
-    (value-accepted (args .v .now) (bytes-of (args .v .now) (c10 .shared-slice-known .given))
-    (c6 .check-value .result) (c3 .before .enum-told .given .0 .0) (c3 .before .enum-told .given .1)
-    (c6 .check-value .ensures .0) .whole)
-    (was-refused (args .t .now) (c3 .check-type .result) (c .before .n2 .given .0 .0)
-    (c .before .n2 .given .1) (c3 .check-type .ensures .0))
-
-enum-told-2 : tie.Need-enum-told-2
-enum-told-2 c = search needs
-
-returns-4 : tie.Need-returns-4
-unfolding isConformant
-returns-4 c =
     let c2 = c .before .before in
-    let c5 = c2 .before .before .before in
-    let c9 = c5 .before .before .before .before in
-    let args = c9 .before .args in
-    asked-no valueConformsTo (readType (args .t .now))
-    (value-accepted (args .v .now) (bytes-of (args .v .now) (c9 .shared-slice-known .given))
-    (c5 .check-value .result) (c2 .before .enum-told .given .0 .0) (c2 .before .enum-told .given .1)
-    (c5 .check-value .ensures .0) .whole)
-    ((was-accepted (args .t .now) (c2 .check-type .result) (c .enum-told2 .given .0 .0)
-    (c .enum-told2 .given .1) (c2 .check-type .ensures .0)) .whole)
-    (sym (c5 .before .if1 .left) ∙ c5 .before .before .passes .ensures)
+    let args = c2 .before .before .before .args in
+    c .refuse .ensures
+    ∙ not-yes (conforms fixed) (readValue (args .v .now)) (readType (args .t .now)) (sym (c .before .if1 .left) ∙ c2 .passes .ensures)
 
 pub is-conformant-spec : {M : Type 1} → statement M
-is-conformant-spec =
-    tie.close
-    (tie.spec
-    passes-requires
-    returns
-    check-value-requires
-    enum-known-n
-    returns-2
-    enum-told
-    check-type-requires
-    enum-known-n-2
-    returns-3
-    enum-told-2
-    returns-4)
+is-conformant-spec = tie.close (tie.spec passes-requires returns refuse-requires returns-2)

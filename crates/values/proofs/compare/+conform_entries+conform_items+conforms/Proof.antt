@@ -30,8 +30,10 @@ use lib.ListN.{length}
 use Rattle.form.specs.Limits.{nameWidth}
 use Rattle.form.specs.Trees.{no-entries, entry}
 use Rattle.form.proofs.WalkAnswers.{part-room}
+use Rattle.order.specs.Order.{orderOf}
 use Rattle.order.specs.Size.{sizeVal, sizeEntries}
-use Rattle.order.specs.Inferred.{valueConformsTo}
+use Rattle.order.specs.Values as order
+use Rattle.order.proofs.Simple.{reading-laws}
 use Rattle.types.specs.At.{typeAt, fieldsAt}
 use Rattle.types.proofs.Pairs.{pair, pair-in, sized-in}
 use Rattle.types.proofs.SortedNames.{readable-type, NamesGo, names-start, cut-a, cut-b, falls-a, names-left, names-done, names-missing}
@@ -92,20 +94,21 @@ conforms-below t =
     and 3 conforms-kinds.ps (falls 3 conforms-kinds.ps _<_ μ-conforms t) conforms.Pre
 
 abbrev conform-entries-Inv-loop : conform-entries-lts.InvT-loop
-conform-entries-Inv-loop v n t m left other₀ at₀ least₀ i₀ bt₀ j₀ other at least i bt j =
+conform-entries-Inv-loop v n t m left other₀ reading at₀ least₀ i₀ bt₀ j₀ other at least i bt j =
     NamesGo sizeVal sizeEntries (valueAt (left - 1)) (entriesAt (left - 1)) no-entries entry Above
-    valueConformsTo entriesConform left (heldEntries (entriesAt (left - 1) n 0 v) (fieldsAt left m 0 t))
+    (order.conforms (orderOf reading)) (entriesConform (orderOf reading)) left
+    (heldEntries (orderOf reading) (entriesAt (left - 1) n 0 v) (fieldsAt left m 0 t))
     v n t m at least i bt j
 
 abbrev conform-entries-μ-loop : conform-entries-lts.MeasureT-loop
-conform-entries-μ-loop v n t m left other₀ at₀ least₀ i₀ bt₀ j₀ other at least i bt j = n - i
+conform-entries-μ-loop v n t m left other₀ reading at₀ least₀ i₀ bt₀ j₀ other at least i bt j = n - i
 
 abbrev conform-items-Inv-loop : conform-items-lts.InvT-loop
-conform-items-Inv-loop v n t left other₀ at₀ bt₀ i₀ other at bt i =
-    ItemsGo (left - 1) left (heldItems (itemsAt (left - 1) n v) (typeAt left t)) v n t at bt i
+conform-items-Inv-loop v n t left other₀ reading at₀ bt₀ i₀ other at bt i =
+    ItemsGo (orderOf reading) (left - 1) left (heldItems (orderOf reading) (itemsAt (left - 1) n v) (typeAt left t)) v n t at bt i
 
 abbrev conform-items-μ-loop : conform-items-lts.MeasureT-loop
-conform-items-μ-loop v n t left other₀ at₀ bt₀ i₀ other at bt i = n - i
+conform-items-μ-loop v n t left other₀ reading at₀ bt₀ i₀ other at bt i = n - i
 
 abbrev conform-entries-claims : ℕ → conform-entries-lts.Claims
 conform-entries-claims t = (
@@ -159,7 +162,7 @@ conform-entries-returns : (t : ℕ) →
     conform-entries.Post conform-entries-Inv-loop conform-entries-μ-loop
 conform-entries-returns t c =
     let args = c .before .before .before .before .args in
-    entries-left (args .left - 1) (args .left) (args .v .now) (args .n) (args .t .now) (args .m)
+    entries-left (orderOf (args .reading)) (args .left - 1) (args .left) (args .v .now) (args .n) (args .t .now) (args .m)
     (c .before .if1 .taken) (c .if2 .taken) _
 
 conform-entries-returns-2 : (t : ℕ) →
@@ -167,7 +170,7 @@ conform-entries-returns-2 : (t : ℕ) →
     conform-entries.Post conform-entries-Inv-loop conform-entries-μ-loop
 conform-entries-returns-2 t c =
     let args = c .before .before .before .before .args in
-    entries-none (args .left - 1) (args .left) (args .v .now) (args .n) (args .t .now) (args .m)
+    entries-none (orderOf (args .reading)) (args .left - 1) (args .left) (args .v .now) (args .n) (args .t .now) (args .m)
     (c .before .if1 .taken) (c .if2 .left) _ _ refl refl
 
 conform-entries-returns-3 : (t : ℕ) →
@@ -175,7 +178,7 @@ conform-entries-returns-3 : (t : ℕ) →
     conform-entries.Post conform-entries-Inv-loop conform-entries-μ-loop
 conform-entries-returns-3 t c =
     let args = c .before .before .before .before .args in
-    entries-low (args .left - 1) (args .left) (args .v .now) (args .n) (args .t .now) (args .m)
+    entries-low (orderOf (args .reading)) (args .left - 1) (args .left) (args .v .now) (args .n) (args .t .now) (args .m)
     (c .before .if1 .left) (omega arith) _
 
 conform-entries-loop-holds : (t : ℕ) →
@@ -183,7 +186,7 @@ conform-entries-loop-holds : (t : ℕ) →
     conform-entries.Post conform-entries-Inv-loop conform-entries-μ-loop
 conform-entries-loop-holds t c =
     let args = c .before .before .before .before .args in
-    names-start (entries-run (args .left - 1)) entries-tests (args .left) (args .v .now) (args .n)
+    names-start (entries-run (args .left - 1)) (entries-tests (orderOf (args .reading))) (args .left) (args .v .now) (args .n)
     (args .t .now) (args .m)
 
 conform-entries-sub-if4 : (t : ℕ) →
@@ -385,7 +388,7 @@ conform-entries-add-at-2 t c =
           let c9 = c7 .before .before in
           let args = c9 .before .before .before .before .before .before .args in
           let loop = c9 .before .loop in
-          pair-in (readable-value (args .left - 1)) (readable-type (args .left)) valueConformsTo
+          pair-in (readable-value (args .left - 1)) (readable-type (args .left)) (order.conforms (orderOf (args .reading)))
           (args .v .now) (loop .at + nameWidth) (args .t .now) (loop .bt + nameWidth)
           (c .before .leaf .result) 1 (omega (arith, loop .inv, c7 .before .if4 .left))
           (there t (c4 .before)
@@ -393,7 +396,7 @@ conform-entries-add-at-2 t c =
           (c7 .name-at .result) (c4 .next-name .result) (c7 .name-at .ensures .0) (c4 .before .before .if5 .left)
           (c7 .name-at .ensures .1) (c4 .next-name .ensures .0) (c .before .before .if9 .left)
           (c .before .before .before .if8 .left)))
-          (leaf-pair (args .left - 1) (args .left) (args .v .now) (loop .at + nameWidth) (args .t .now)
+          (leaf-pair (orderOf (args .reading) .strict) (args .left - 1) (args .left) (args .v .now) (loop .at + nameWidth) (args .t .now)
           (loop .bt + nameWidth) (c .before .leaf .result) (c .before .leaf .ensures) (c .if11 .taken)),
     )
 
@@ -408,7 +411,7 @@ conform-entries-add-bt t c =
           let c9 = c7 .before .before in
           let args = c9 .before .before .before .before .before .before .args in
           let loop = c9 .before .loop in
-          pair-in (readable-value (args .left - 1)) (readable-type (args .left)) valueConformsTo
+          pair-in (readable-value (args .left - 1)) (readable-type (args .left)) (order.conforms (orderOf (args .reading)))
           (args .v .now) (loop .at + nameWidth) (args .t .now) (loop .bt + nameWidth)
           (c .before .leaf .result) 1 (omega (arith, loop .inv, c7 .before .if4 .left))
           (there t (c4 .before)
@@ -416,7 +419,7 @@ conform-entries-add-bt t c =
           (c7 .name-at .result) (c4 .next-name .result) (c7 .name-at .ensures .0) (c4 .before .before .if5 .left)
           (c7 .name-at .ensures .1) (c4 .next-name .ensures .0) (c .before .before .if9 .left)
           (c .before .before .before .if8 .left)))
-          (leaf-pair (args .left - 1) (args .left) (args .v .now) (loop .at + nameWidth) (args .t .now)
+          (leaf-pair (orderOf (args .reading) .strict) (args .left - 1) (args .left) (args .v .now) (loop .at + nameWidth) (args .t .now)
           (loop .bt + nameWidth) (c .before .leaf .result) (c .before .leaf .ensures) (c .if11 .taken)),
     )
 
@@ -446,7 +449,7 @@ conform-entries-loop-again-2 t c =
     (c7 .name-at .ensures .0) (c6 .if5 .left) (c7 .name-at .ensures .1) (c4 .next-name .ensures .0)
     (c2 .if9 .left) (c2 .before .if8 .left)))
     (c .before .leaf .result) 1
-    (leaf-pair (args .left - 1) (args .left) (args .v .now) (c10 .loop .at + nameWidth) (args .t .now)
+    (leaf-pair (orderOf (args .reading) .strict) (args .left - 1) (args .left) (args .v .now) (c10 .loop .at + nameWidth) (args .t .now)
     (c10 .loop .bt + nameWidth) (c .before .leaf .result) (c .before .leaf .ensures) (c .if11 .taken))
 
 conform-entries-sub-conforms : (t : ℕ) →
@@ -532,7 +535,7 @@ conform-entries-add-at-3 t c =
           let args = c12 .before .before .before .before .before .before .before .before .args in
           let loop = c12 .before .before .before .loop in
           let conforms = c .before .conforms in
-          pair-in (readable-value (args .left - 1)) (readable-type (args .left)) valueConformsTo
+          pair-in (readable-value (args .left - 1)) (readable-type (args .left)) (order.conforms (orderOf (args .reading)))
           (args .v .now) (loop .at + nameWidth) (args .t .now) (loop .bt + nameWidth) (conforms .result)
           (conforms .last .1 .1 .1 .0) (omega (arith, loop .inv, c12 .before .if4 .left))
           (there t (c9 .before)
@@ -540,7 +543,7 @@ conform-entries-add-at-3 t c =
           (omega (arith, loop .inv, c12 .before .if4 .left)) (c12 .name-at .result) (c9 .next-name .result)
           (c12 .name-at .ensures .0) (c9 .before .before .if5 .left) (c12 .name-at .ensures .1)
           (c9 .next-name .ensures .0) (c7 .if9 .left) (c7 .before .if8 .left)))
-          (pair (readable-value (args .left - 1)) (readable-type (args .left)) valueConformsTo (args .v .now)
+          (pair (readable-value (args .left - 1)) (readable-type (args .left)) (order.conforms (orderOf (args .reading))) (args .v .now)
           (loop .at + nameWidth) (args .t .now) (loop .bt + nameWidth) (conforms .result)
           (conforms .last .1 .1 .1 .0) (conforms .ensures) (c .if12 .left)),
     )
@@ -557,7 +560,7 @@ conform-entries-add-bt-2 t c =
           let c13 = c10 .before .before .before in
           let args = c13 .before .before .before .before .before .before .before .before .args in
           let loop = c13 .before .before .before .loop in
-          pair-in (readable-value (args .left - 1)) (readable-type (args .left)) valueConformsTo
+          pair-in (readable-value (args .left - 1)) (readable-type (args .left)) (order.conforms (orderOf (args .reading)))
           (args .v .now) (loop .at + nameWidth) (args .t .now) (loop .bt + nameWidth) (c2 .conforms .result)
           (c2 .conforms .last .1 .1 .1 .0) (omega (arith, loop .inv, c13 .before .if4 .left))
           (there t (c10 .before)
@@ -565,7 +568,7 @@ conform-entries-add-bt-2 t c =
           (omega (arith, loop .inv, c13 .before .if4 .left)) (c13 .name-at .result) (c10 .next-name .result)
           (c13 .name-at .ensures .0) (c10 .before .before .if5 .left) (c13 .name-at .ensures .1)
           (c10 .next-name .ensures .0) (c8 .if9 .left) (c8 .before .if8 .left)))
-          (pair (readable-value (args .left - 1)) (readable-type (args .left)) valueConformsTo (args .v .now)
+          (pair (readable-value (args .left - 1)) (readable-type (args .left)) (order.conforms (orderOf (args .reading))) (args .v .now)
           (loop .at + nameWidth) (args .t .now) (loop .bt + nameWidth) (c2 .conforms .result)
           (c2 .conforms .last .1 .1 .1 .0) (c2 .conforms .ensures) (c .before .if12 .left)),
     )
@@ -595,7 +598,7 @@ conform-entries-loop-again-3 t c =
     (c13 .name-at .ensures .0) (c10 .before .before .if5 .left) (c13 .name-at .ensures .1)
     (c10 .next-name .ensures .0) (c8 .if9 .left) (c8 .before .if8 .left)))
     (c2 .conforms .result) (c2 .conforms .last .1 .1 .1 .0)
-    (pair (readable-value (args .left - 1)) (readable-type (args .left)) valueConformsTo (args .v .now)
+    (pair (readable-value (args .left - 1)) (readable-type (args .left)) (order.conforms (orderOf (args .reading))) (args .v .now)
     (c16 .loop .at + nameWidth) (args .t .now) (c16 .loop .bt + nameWidth) (c2 .conforms .result)
     (c2 .conforms .last .1 .1 .1 .0) (c2 .conforms .ensures) (c .before .if12 .left))
 
@@ -657,7 +660,7 @@ conform-items-returns : (t : ℕ) →
     conform-items-Inv-loop conform-items-μ-loop
 conform-items-returns t c =
     let args = c .before .before .before .before .before .before .args in
-    items-unread (args .left - 1) (args .left) (args .v .now) (args .n) (args .t .now)
+    items-unread (orderOf (args .reading)) (args .left - 1) (args .left) (args .v .now) (args .n) (args .t .now)
     (c .before .before .before .if1 .taken) (c .before .skip .result) (c .before .skip .ensures)
     (c .if2 .taken) _
 
@@ -680,7 +683,7 @@ conform-items-returns-2 : (t : ℕ) →
     conform-items-Inv-loop conform-items-μ-loop
 conform-items-returns-2 t c =
     let args = c .before .before .before .before .before .before .args in
-    items-none (args .left - 1) (args .left) (args .v .now) (args .n) (args .t .now)
+    items-none (orderOf (args .reading)) (args .left - 1) (args .left) (args .v .now) (args .n) (args .t .now)
     (c .before .before .before .if1 .taken) (c .before .skip .result) (c .before .skip .ensures)
     (c .if2 .left) _ _ refl refl
 
@@ -689,7 +692,7 @@ conform-items-loop-holds : (t : ℕ) →
     conform-items-Inv-loop conform-items-μ-loop
 conform-items-loop-holds t c =
     let args = c .before .before .before .args in
-    items-start (args .left - 1) (args .left) (args .v .now) (args .n) (args .t .now)
+    items-start (orderOf (args .reading)) (args .left - 1) (args .left) (args .v .now) (args .n) (args .t .now)
 
 conform-items-add-i : (t : ℕ) →
     conform-items-lts.Need-add-i (conform-items-claims t) (conform-items-at t) conform-items.Post
@@ -714,7 +717,7 @@ conform-items-add-at t c =
       let c3 = c .before .before .before in
           let args = c3 .before .before .before .before .args in
           items-fit (c3 .loop .inv) (c .before .before .loop-test .taken) (c .before .leaf .result) 1
-          (leaf-pair (args .left - 1) (args .left) (args .v .now) (c3 .loop .at) (args .t .now) 0
+          (leaf-pair (orderOf (args .reading) .strict) (args .left - 1) (args .left) (args .v .now) (c3 .loop .at) (args .t .now) 0
           (c .before .leaf .result) (c .before .leaf .ensures) (c .if3 .taken)),
     )
 
@@ -730,7 +733,7 @@ conform-items-loop-again t c =
     let c3 = c .before .before .before in
     let args = c3 .before .before .before .before .args in
     items-turn (c3 .loop .inv) (c .before .before .loop-test .taken) (c .before .leaf .result) 1
-    (leaf-pair (args .left - 1) (args .left) (args .v .now) (c3 .loop .at) (args .t .now) 0
+    (leaf-pair (orderOf (args .reading) .strict) (args .left - 1) (args .left) (args .v .now) (c3 .loop .at) (args .t .now) 0
     (c .before .leaf .result) (c .before .leaf .ensures) (c .if3 .taken))
 
 conform-items-sub-conforms : (t : ℕ) →
@@ -787,7 +790,7 @@ conform-items-add-at-2 t c =
           let conforms = c .before .conforms in
           items-fit (c7 .before .loop .inv) (c7 .loop-test .taken) (conforms .result)
           (conforms .last .1 .1 .1 .0)
-          (pair (readable-value (args .left - 1)) (readable-type (args .left)) valueConformsTo (args .v .now)
+          (pair (readable-value (args .left - 1)) (readable-type (args .left)) (order.conforms (orderOf (args .reading))) (args .v .now)
           (c7 .before .loop .at) (args .t .now) 0 (conforms .result) (conforms .last .1 .1 .1 .0)
           (conforms .ensures) (c .if4 .left)),
     )
@@ -806,7 +809,7 @@ conform-items-loop-again-2 t c =
     let args = c8 .before .before .before .before .before .args in
     items-turn (c8 .before .loop .inv) (c8 .loop-test .taken) (c2 .conforms .result)
     (c2 .conforms .last .1 .1 .1 .0)
-    (pair (readable-value (args .left - 1)) (readable-type (args .left)) valueConformsTo (args .v .now)
+    (pair (readable-value (args .left - 1)) (readable-type (args .left)) (order.conforms (orderOf (args .reading))) (args .v .now)
     (c8 .before .loop .at) (args .t .now) 0 (c2 .conforms .result) (c2 .conforms .last .1 .1 .1 .0)
     (c2 .conforms .ensures) (c .before .if4 .left))
 
@@ -867,18 +870,18 @@ conforms-conform-other-requires t c κs =
 conforms-returns : (t : ℕ) → conforms-lts.Need-returns (conforms-claims t) (conforms-at t) conforms.Post
 conforms-returns t c =
     let args = c .before .before .before .before .before .before .before .args in
-    told-other (args .left - 1) (args .left) (args .v .now) (args .t .now) _ _
+    told-other (orderOf (args .reading)) (args .left - 1) (args .left) (args .v .now) (args .t .now) _ _
     (c .conform-other .ensures)
 
 conforms-returns-2 : (t : ℕ) → conforms-lts.Need-returns-2 (conforms-claims t) (conforms-at t) conforms.Post
 conforms-returns-2 t c =
     let args = c .before .before .before .before .args in
-    no-level valueConformsTo (args .left - 1) (args .left) (args .v .now) (args .t .now) _ (omega arith)
+    no-level (order.conforms (orderOf (args .reading))) (args .left - 1) (args .left) (args .v .now) (args .t .now) _ (omega arith)
 
 conforms-returns-3 : (t : ℕ) → conforms-lts.Need-returns-3 (conforms-claims t) (conforms-at t) conforms.Post
 conforms-returns-3 t c =
     let args = c .before .before .before .before .before .args in
-    no-type valueConformsTo (args .left - 1) (args .left) (args .v .now) (args .t .now) _
+    no-type (order.conforms (orderOf (args .reading))) (args .left - 1) (args .left) (args .v .now) (args .t .now) _
     (c .if3 .taken)
 
 conforms-shared-slice-read-d : (t : ℕ) →
@@ -903,7 +906,7 @@ conforms-skip-requires t c κs = search needs
 conforms-returns-4 : (t : ℕ) → conforms-lts.Need-returns-4 (conforms-claims t) (conforms-at t) conforms.Post
 conforms-returns-4 t c =
     let args = c .before .before .before .before .before .before .before .before .before .args in
-    met-any (args .left - 1) (args .left) (args .v .now) (args .t .now) (omega arith) (omega arith)
+    met-any (reading-laws (args .reading)) (args .left - 1) (args .left) (args .v .now) (args .t .now) (omega arith) (omega arith)
     (c .before .before .if4 .taken) (c .skip .result) (c .skip .ensures)
 
 conforms-shared-slice-read-match : (t : ℕ) →
@@ -914,7 +917,7 @@ conforms-returns-5 : (t : ℕ) → conforms-lts.Need-returns-5 (conforms-claims 
 conforms-returns-5 t c =
     let args =
     c .before .before .before .before .before .before .before .before .before .before .args in
-    range-apart (args .left - 1) (args .left) (args .v .now) (args .t .now) _ (c .before .match .keys1)
+    range-apart (orderOf (args .reading) .strict) (args .left - 1) (args .left) (args .v .now) (args .t .now) _ (c .before .match .keys1)
     (c .before .before .before .if4 .left) (c .if5 .taken)
 
 conforms-shared-slice-read-if6 : (t : ℕ) →
@@ -925,7 +928,7 @@ conforms-returns-6 : (t : ℕ) → conforms-lts.Need-returns-6 (conforms-claims 
 conforms-returns-6 t c =
     let args =
     c .before .before .before .before .before .before .before .before .before .before .before .before .args in
-    no-interval (args .left - 1) (args .left) (args .v .now) (args .t .now) _ (omega arith)
+    no-interval (order.conforms (orderOf (args .reading))) (args .left - 1) (args .left) (args .v .now) (args .t .now) _ (omega arith)
     (omega arith) (c .before .before .before .match .keys1)
     (λ i j. omega arith)
 
@@ -937,7 +940,7 @@ conforms-returns-7 : (t : ℕ) → conforms-lts.Need-returns-7 (conforms-claims 
 conforms-returns-7 t c =
     let c5 = c .before .before .before .before .before in
     let args = c5 .before .before .before .before .before .before .before .before .before .args in
-    no-interval (args .left - 1) (args .left) (args .v .now) (args .t .now) _ (omega arith)
+    no-interval (order.conforms (orderOf (args .reading))) (args .left - 1) (args .left) (args .v .now) (args .t .now) _ (omega arith)
     (omega arith) (c5 .match .keys1)
     (λ i j. omega arith)
 
@@ -986,7 +989,7 @@ conforms-returns-8 : (t : ℕ) → conforms-lts.Need-returns-8 (conforms-claims 
 conforms-returns-8 t c =
     let args =
     c .before .before .before .before .before .before .before .before .before .before .args in
-    list-apart (args .left - 1) (args .left) (args .v .now) (args .t .now) _ (c .before .match .keys2)
+    list-apart (orderOf (args .reading) .strict) (args .left - 1) (args .left) (args .v .now) (args .t .now) _ (c .before .match .keys2)
     (c .before .before .before .if4 .left) (c .if8 .taken)
 
 conforms-sub-conform-items-4 : (t : ℕ) →
@@ -1038,14 +1041,14 @@ conforms-returns-9 : (t : ℕ) → conforms-lts.Need-returns-9 (conforms-claims 
 conforms-returns-9 t c =
     let args =
     c .before .before .before .before .before .before .before .before .before .before .args in
-    context-apart (args .left - 1) (args .left) (args .v .now) (args .t .now) _
+    context-apart (orderOf (args .reading) .strict) (args .left - 1) (args .left) (args .v .now) (args .t .now) _
     (c .before .match .keys3) (c .before .before .before .if4 .left) (c .if9 .taken)
 
 conforms-returns-10 : (t : ℕ) → conforms-lts.Need-returns-10 (conforms-claims t) (conforms-at t) conforms.Post
 conforms-returns-10 t c =
     let args =
     c .before .before .before .before .before .before .before .before .before .before .before .args in
-    no-fields-there (args .left - 1) (args .left) (args .v .now) (args .t .now) _ (c .before .if9 .left)
+    no-fields-there (order.conforms (orderOf (args .reading))) (args .left - 1) (args .left) (args .v .now) (args .t .now) _ (c .before .if9 .left)
     (λ h. omega arith)
 
 conforms-sub-conform-entries : (t : ℕ) →
@@ -1136,7 +1139,7 @@ conforms-returns-11 t c =
     let c8 = c6 .before .before in
     let args =
     c8 .before .before .before .before .before .before .before .before .before .before .args in
-    met-range (args .left - 1) (args .left) (args .v .now) (args .t .now) (omega arith) (omega arith)
+    met-range (orderOf (args .reading)) (args .left - 1) (args .left) (args .v .now) (args .t .now) (omega arith) (omega arith)
     (omega arith) (omega arith) _ _ (c8 .before .match .keys1) (c8 .if5 .left) (c6 .if6 .left)
     (c4 .if7 .left) (c .conform-items .ensures)
 
@@ -1146,7 +1149,7 @@ conforms-returns-12 t c =
     let c5 = c3 .before .before in
     let args =
     c5 .before .before .before .before .before .before .before .before .before .before .args in
-    met-list (args .left - 1) (args .left) (args .v .now) (args .t .now) (omega arith) (omega arith)
+    met-list (orderOf (args .reading)) (args .left - 1) (args .left) (args .v .now) (args .t .now) (omega arith) (omega arith)
     (omega arith) (omega arith) _ _ (c5 .before .match .keys2) (c5 .if8 .left) (c3 .word-at .result)
     (c3 .word-at .ensures .0) (c .conform-items2 .ensures)
 
@@ -1156,7 +1159,7 @@ conforms-returns-13 t c =
     let c7 = c4 .before .before .before in
     let args =
     c7 .before .before .before .before .before .before .before .before .before .before .args in
-    met-context (args .left - 1) (args .left) (args .v .now) (args .t .now) (omega arith) (omega arith)
+    met-context (orderOf (args .reading)) (args .left - 1) (args .left) (args .v .now) (args .t .now) (omega arith) (omega arith)
     (omega arith) (omega arith) _ _ (c7 .before .match .keys3) (c7 .if9 .left) (omega arith)
     (c4 .word-at2 .result) (c .before .before .word-at3 .result) (c4 .word-at2 .ensures .0)
     (c .before .before .word-at3 .ensures .0) (c .conform-entries .ensures)
@@ -1165,7 +1168,7 @@ conforms-returns-14 : (t : ℕ) → conforms-lts.Need-returns-14 (conforms-claim
 conforms-returns-14 t c =
     let args =
     c .before .before .before .before .before .before .before .before .before .before .before .before .before .args in
-    told-other (args .left - 1) (args .left) (args .v .now) (args .t .now) _ _
+    told-other (orderOf (args .reading)) (args .left - 1) (args .left) (args .v .now) (args .t .now) _ _
     (c .conform-other2 .ensures)
 
 pub +conform-entries+conform-items+conforms-spec : {M : Type 1} → statement M

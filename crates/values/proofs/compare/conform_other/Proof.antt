@@ -11,7 +11,9 @@ use Rattle.form.proofs.CommandKinds.{leaf-low, leaf-decimal, leaf-high}
 use Prim.Native.Nat.{_-_}
 use native.Mathlib.Omega.{arith}
 use Rattle.form.proofs.WalkAnswers.{part-room}
-use Rattle.order.specs.Inferred.{valueConformsTo}
+use Rattle.order.specs.Order.{orderOf}
+use Rattle.order.specs.Values.{conforms}
+use Rattle.order.proofs.Simple.{reading-laws}
 use Rattle.types.proofs.TypeConformance.{sized-part, unsized-part}
 use Rattle.values.proofs.ValueConformance.{sized-value, unsized-value, never, no-level, no-value, no-type, met-any, function-apart, rest-apart, no-signature-there, no-null, met-null}
 use Rattle.values.proofs.ValueConformance.{met-plain, plain-apart}
@@ -20,18 +22,18 @@ use Rattle.values.proofs.Definitions.{definition-bytes, definition-ok, 
 -- at `return 0;`
 returns : tie.Need-returns
 returns c = let args = c .before .before .before .args in
-    no-level valueConformsTo (args .left - 1) (args .left) (args .v .now) (args .t .now) _ (omega arith)
+    no-level (conforms (orderOf (args .reading))) (args .left - 1) (args .left) (args .v .now) (args .t .now) _ (omega arith)
 
 -- at `return 0;`
 returns-2 : tie.Need-returns-2
 returns-2 c = let args = c .before .before .before .before .args in
-    no-value valueConformsTo (args .left - 1) (args .left) (args .v .now) (args .t .now) _
+    no-value (conforms (orderOf (args .reading))) (args .left - 1) (args .left) (args .v .now) (args .t .now) _
     (c .if2 .taken)
 
 -- at `return 0;`
 returns-3 : tie.Need-returns-3
 returns-3 c = let args = c .before .before .before .before .before .args in
-    no-type valueConformsTo (args .left - 1) (args .left) (args .v .now) (args .t .now) _
+    no-type (conforms (orderOf (args .reading))) (args .left - 1) (args .left) (args .v .now) (args .t .now) _
     (c .if3 .taken)
 
 -- at `let d = t[0];`
@@ -61,7 +63,7 @@ skip-requires c κs = search needs
 -- at `return walk::skip(&v[0..], left - 1);`
 returns-4 : tie.Need-returns-4
 returns-4 c = let args = c .before .before .before .before .before .before .before .before .before .args in
-    met-any (args .left - 1) (args .left) (args .v .now) (args .t .now) (omega arith) (omega arith)
+    met-any (reading-laws (args .reading)) (args .left - 1) (args .left) (args .v .now) (args .t .now) (omega arith) (omega arith)
     (c .before .before .if4 .taken) (c .skip .result) (c .skip .ensures)
 
 -- at `let c = v[0];`
@@ -80,7 +82,7 @@ leaf-size-at-requires c κs = search needs
 returns-5 : tie.Need-returns-5
 returns-5 c = let args =
     c .before .before .before .before .before .before .before .before .before .before .before .args in
-    no-null (args .left - 1) (args .left) (args .v .now) (args .t .now) _ (c .before .leaf-size-at .result) _
+    no-null (conforms (orderOf (args .reading))) (args .left - 1) (args .left) (args .v .now) (args .t .now) _ (c .before .leaf-size-at .result) _
     (c .before .leaf-size-at .ensures) (c .if5 .taken) (c .before .before .match .keys1)
 
 -- at `let m = types::walk::skip(&t[0..], left);`
@@ -103,7 +105,7 @@ skip-requires-2 c κs = search needs
 returns-6 : tie.Need-returns-6
 returns-6 c = let args =
     c .before .before .before .before .before .before .before .before .before .before .before .before .before .before .args in
-    never valueConformsTo (args .left - 1) (args .left) (args .v .now) (args .t .now) _
+    never (conforms (orderOf (args .reading))) (args .left - 1) (args .left) (args .v .now) (args .t .now) _
     (λ x y e f.
     unsized-part (args .left) (args .t .now) 0 (c .before .skip2 .result) (c .before .skip2 .ensures)
     (c .if6 .taken) y f)
@@ -112,14 +114,14 @@ returns-6 c = let args =
 returns-7 : tie.Need-returns-7
 returns-7 c = let args =
     c .before .before .before .before .before .before .before .before .before .before .args in
-    function-apart (args .left - 1) (args .left) (args .v .now) (args .t .now) _
+    function-apart (orderOf (args .reading) .strict) (args .left - 1) (args .left) (args .v .now) (args .t .now) _
     (c .before .match .keys3) (c .before .before .before .if4 .left) (c .if7 .taken)
 
 -- at `return 0;`
 returns-8 : tie.Need-returns-8
 returns-8 c = let args =
     c .before .before .before .before .before .before .before .before .before .before .before .args in
-    no-signature-there (args .left - 1) (args .left) (args .v .now) (args .t .now) _
+    no-signature-there (conforms (orderOf (args .reading))) (args .left - 1) (args .left) (args .v .now) (args .t .now) _
     (c .before .if7 .left)
     (λ h. omega arith)
 
@@ -147,7 +149,7 @@ skip-requires-3 c κs = search needs
 returns-9 : tie.Need-returns-9
 returns-9 c = let args =
     c .before .before .before .before .before .before .before .before .before .before .before .before .before .before .args in
-    never valueConformsTo (args .left - 1) (args .left) (args .v .now) (args .t .now) _
+    never (conforms (orderOf (args .reading))) (args .left - 1) (args .left) (args .v .now) (args .t .now) _
     (λ x y e f.
     unsized-value (args .left - 1) (args .v .now) 0 (c .before .skip3 .result)
     (c .before .skip3 .ensures) (c .if9 .taken) x e)
@@ -177,10 +179,10 @@ returns-10 c = let c4 = c .before .before .before .before in
     sized-value (args .left - 1) (args .v .now) 0 (c4 .skip3 .result) (c4 .skip3 .ensures)
     (c .before .before .before .if9 .left) in
     definition-counts (args .left - 1) (args .left) (args .v .now) (args .t .now) (omega arith)
-    (c7 .before .match .keys3) (c7 .if7 .left) (omega arith) (sized-value1 .x) (sized-value1 .read)
+    (c7 .before .match .keys3) (c7 .if7 .left) (omega arith) (sized-value1 .x) (sized-value1 .read) (orderOf (args .reading))
     (c .if10 .taken) _
 
--- at `conform_definition(&v[4..], &t[2..], form::bytes::wide(k), left - 1, other)`
+-- at `conform_definition(&v[4..], &t[2..], form::bytes::wide(k), left - 1, other, reading)`
 sub-conform-definition : tie.Need-sub-conform-definition
 sub-conform-definition c = let c4 = c .before .before .before .before in
     let c7 = c4 .before .before .before in
@@ -193,7 +195,7 @@ sub-conform-definition c = let c4 = c .before .before .before .before in
     (c7 .before .match .keys3) (c7 .if7 .left) (omega arith) (sized-value1 .x) (sized-value1 .read) in
     omega arith
 
--- at `conform_definition(&v[4..], &t[2..], form::bytes::wide(k), left - 1, other)`
+-- at `conform_definition(&v[4..], &t[2..], form::bytes::wide(k), left - 1, other, reading)`
 part-conform-definition-start : tie.Need-part-conform-definition-start
 part-conform-definition-start c = let c4 = c .before .before .before .before in
     let c7 = c4 .before .before .before in
@@ -206,31 +208,31 @@ part-conform-definition-start c = let c4 = c .before .before .before .before in
     (c7 .before .match .keys3) (c7 .if7 .left) (omega arith) (sized-value1 .x) (sized-value1 .read) in
     omega arith
 
--- at `conform_definition(&v[4..], &t[2..], form::bytes::wide(k), left - 1, other)`
+-- at `conform_definition(&v[4..], &t[2..], form::bytes::wide(k), left - 1, other, reading)`
 part-conform-definition-end : tie.Need-part-conform-definition-end
 part-conform-definition-end c = search needs
 
--- at `conform_definition(&v[4..], &t[2..], form::bytes::wide(k), left - 1, other)`
+-- at `conform_definition(&v[4..], &t[2..], form::bytes::wide(k), left - 1, other, reading)`
 sub-conform-definition-2 : tie.Need-sub-conform-definition-2
 sub-conform-definition-2 c = search needs
 
--- at `conform_definition(&v[4..], &t[2..], form::bytes::wide(k), left - 1, other)`
+-- at `conform_definition(&v[4..], &t[2..], form::bytes::wide(k), left - 1, other, reading)`
 part-conform-definition-start-2 : tie.Need-part-conform-definition-start-2
 part-conform-definition-start-2 c = search needs
 
--- at `conform_definition(&v[4..], &t[2..], form::bytes::wide(k), left - 1, other)`
+-- at `conform_definition(&v[4..], &t[2..], form::bytes::wide(k), left - 1, other, reading)`
 part-conform-definition-end-2 : tie.Need-part-conform-definition-end-2
 part-conform-definition-end-2 c = search needs
 
--- at `conform_definition(&v[4..], &t[2..], form::bytes::wide(k), left - 1, other)`
+-- at `conform_definition(&v[4..], &t[2..], form::bytes::wide(k), left - 1, other, reading)`
 wide-requires : tie.Need-wide-requires
 wide-requires c κs = search needs
 
--- at `conform_definition(&v[4..], &t[2..], form::bytes::wide(k), left - 1, other)`
+-- at `conform_definition(&v[4..], &t[2..], form::bytes::wide(k), left - 1, other, reading)`
 sub-conform-definition-3 : tie.Need-sub-conform-definition-3
 sub-conform-definition-3 c = search needs
 
--- at `conform_definition(&v[4..], &t[2..], form::bytes::wide(k), left - 1, other)`
+-- at `conform_definition(&v[4..], &t[2..], form::bytes::wide(k), left - 1, other, reading)`
 conform-definition-requires : tie.Need-conform-definition-requires
 conform-definition-requires c κs = let c7 = c .before .before .before .before .before .before .before in
     let c11 = c7 .before .before .before .before in
@@ -257,7 +259,7 @@ returns-11 : tie.Need-returns-11
 returns-11 c =
     let c2 = c .before .before in
     let args = c2 .before .before .before .before .before .before .before .before .before .args in
-    plain-apart (args .left - 1) (args .left) (args .v .now) (args .t .now) _
+    plain-apart (orderOf (args .reading) .strict) (args .left - 1) (args .left) (args .v .now) (args .t .now) _
     (⊎-elim
     (λ x. leaf-decimal (getD (args .v .now) 0 0) (x .keys2))
     (λ x. leaf-low (getD (args .v .now) 0 0) (omega (arith, x .1 .taken)))
@@ -290,7 +292,7 @@ returns-12 : tie.Need-returns-12
 returns-12 c = let c4 = c .before .before .before .before in
     let args =
     c4 .before .before .before .before .before .before .before .before .before .before .args in
-    met-null (args .left - 1) (args .left) (args .v .now) (args .t .now) (c4 .leaf-size-at .result) _
+    met-null (reading-laws (args .reading)) (args .left - 1) (args .left) (args .v .now) (args .t .now) (c4 .leaf-size-at .result) _
     (c4 .leaf-size-at .ensures) (c .before .before .before .if5 .left) (c4 .before .match .keys1)
     (c .before .skip2 .result)
     (sized-part (args .left) (args .t .now) 0 (c .before .skip2 .result) (c .before .skip2 .ensures)
@@ -306,7 +308,7 @@ returns-13 c = let c2 = c .before .before in
     let sized-value1 = sized-value (args .left - 1) (args .v .now) 0 (c8 .before .skip3 .result)
     (c8 .before .skip3 .ensures) (c8 .if9 .left) in
     met-definition (args .left - 1) (args .left) (args .v .now) (args .t .now) (omega arith)
-    (c12 .before .match .keys3) (c12 .if7 .left) (omega arith) (sized-value1 .x) (sized-value1 .read)
+    (c12 .before .match .keys3) (c12 .if7 .left) (omega arith) (sized-value1 .x) (sized-value1 .read) (orderOf (args .reading))
     (c2 .wide .result) (c2 .wide .ensures .0) (c2 .before .before .before .if10 .left) _ _
     (c .conform-definition .ensures)
 
@@ -314,7 +316,7 @@ returns-13 c = let c2 = c .before .before in
 returns-14 : tie.Need-returns-14
 returns-14 c =
     let c10 = c .before .before .before .before .before .before .before .before .before .before in
-    rest-apart (c10 .args .left - 1) (c10 .args .left) (c10 .args .v .now) (c10 .args .t .now) _ (c10 .pre) (c .before .before .before .if4 .left)
+    rest-apart (orderOf (c10 .args .reading) .strict) (c10 .args .left - 1) (c10 .args .left) (c10 .args .v .now) (c10 .args .t .now) _ (c10 .pre) (c .before .before .before .if4 .left)
     (leaf-high (getD (c10 .args .v .now) 0 0) (c .if11 .left) (c .before .match .rest .0 .1)) (c .before .match .rest .1)
 
 -- at the end
@@ -322,7 +324,7 @@ returns-15 : tie.Need-returns-15
 returns-15 c =
     let c4 = c .before .before .before .before in
     let args = c4 .before .before .before .before .before .before .before .before .before .args in
-    met-plain (args .left - 1) (args .left) (args .v .now) (args .t .now) (omega arith) (omega arith)
+    met-plain (reading-laws (args .reading)) (args .left - 1) (args .left) (args .v .now) (args .t .now) (omega arith) (omega arith)
     (⊎-elim
     (λ x. leaf-decimal (getD (args .v .now) 0 0) (x .keys2))
     (λ x. leaf-low (getD (args .v .now) 0 0) (omega (arith, x .1 .taken)))
