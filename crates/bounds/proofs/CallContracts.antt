@@ -21,10 +21,11 @@ use Rattle.form.specs.Answers.{onto, Built}
 use Rattle.form.specs.declared.Written.the-variants as written-is
 use Rattle.form.proofs.ExactTypes.{read-enc}
 use Rattle.form.proofs.Types.{TypeTold, type-told}
-use Rattle.order.specs.Order.{Dir, up, fixed}
+use Rattle.order.specs.Order.{Dir, up, Order, fixed}
 use Rattle.order.specs.Types.{reduce, bound}
 use Rattle.order.specs.Ascending.{Asc}
 use Rattle.order.specs.Size.{size}
+use Rattle.order.proofs.Simple.{fixed-laws}
 use Rattle.order.proofs.Size.{length-enc, size-bound, size-reduce}
 use Rattle.types.specs.At.{typeAt, Ok}
 use Rattle.types.proofs.Reading.{got-seen, is-ok, t-good}
@@ -74,50 +75,50 @@ not-read s n e = go (readType s) refl e
     go (done t) p q = absurd (let z : _≡_ {A = ℕ} 0 1 = cc in omega arith)
     go (refused m) p q = let r : m ≡ n = cc in p ∙ ap refused r
 
-module _ (d : Dir) (a b : List ℕ) (k : ℕ) (old : List ℕ) where
-  pub first-refused : (n : ℕ) → checkType a ≡ refused n → Built (combined (answer d) a b k (length old)) old old (written-is.Refused n)
+module _ (O : Order) (d : Dir) (a b : List ℕ) (k : ℕ) (old : List ℕ) where
+  pub first-refused : (n : ℕ) → checkType a ≡ refused n → Built (combined (answer O d) a b k (length old)) old old (written-is.Refused n)
   unfolding _>>=_
-  first-refused n e = built-refused (combined (answer d) a b k (length old)) n old (rw (not-read a n e))
+  first-refused n e = built-refused (combined (answer O d) a b k (length old)) n old (rw (not-read a n e))
 
-  pub second-refused : Fine a → (n : ℕ) → checkType b ≡ refused n → Built (combined (answer d) a b k (length old)) old old (written-is.Refused n)
+  pub second-refused : Fine a → (n : ℕ) → checkType b ≡ refused n → Built (combined (answer O d) a b k (length old)) old old (written-is.Refused n)
   unfolding _>>=_
-  second-refused A n e = built-refused (combined (answer d) a b k (length old)) n old (rw (A .reads, not-read b n e))
+  second-refused A n e = built-refused (combined (answer O d) a b k (length old)) n old (rw (A .reads, not-read b n e))
 
-  pub scratch-short : Fine a → Fine b → k < length a + length b → Built (combined (answer d) a b k (length old)) old old (written-is.Refused 14)
+  pub scratch-short : Fine a → Fine b → k < length a + length b → Built (combined (answer O d) a b k (length old)) old old (written-is.Refused 14)
   unfolding _>>=_ _>>_
-  scratch-short A B h = built-refused (combined (answer d) a b k (length old)) 14 old (rw (A .reads, B .reads, lt-leb (length a + length b) k h))
+  scratch-short A B h = built-refused (combined (answer O d) a b k (length old)) 14 old (rw (A .reads, B .reads, lt-leb (length a + length b) k h))
 
   module _ (A : Fine a) (B : Fine b) (h : length a + length b ≤ k) where
-    call-is : combined (answer d) a b k (length old) ≡ fits (length old) (enc (answer d (A .t) (B .t)))
+    call-is : combined (answer O d) a b k (length old) ≡ fits (length old) (enc (answer O d (A .t) (B .t)))
     unfolding _>>=_ _>>_
     call-is = rw (A .reads, B .reads, le-leb (length a + length b) k h)
 
-    call-room : (size (answer d (A .t) (B .t)) ≤ k) × (size (answer d (A .t) (B .t)) ≤ mostAnswer)
+    call-room : (size (answer O d (A .t) (B .t)) ≤ k) × (size (answer O d (A .t) (B .t)) ≤ mostAnswer)
     call-room =
-        let r = size-reduce fixed (bound fixed d (A .t) (B .t)) in
-        let g = size-bound fixed d (A .t) (B .t) (A .asc) in
+        let r = size-reduce O (bound O d (A .t) (B .t)) in
+        let g = size-bound O d (A .t) (B .t) (A .asc) in
         (omega (arith, r, g, A .sized, B .sized), omega (arith, r, g, A .sized, B .sized, A .short, B .short))
 
-    pub call-ready : Ready (ofTypes d) (typeAt typeLevels a) (typeAt typeLevels b) k
-    call-ready = ready (ofTypes d) (typeAt typeLevels a) (typeAt typeLevels b) (A .t) (B .t) k (A .there) (B .there) (call-room .0) (call-room .1)
+    pub call-ready : Ready (ofTypes O d) (typeAt typeLevels a) (typeAt typeLevels b) k
+    call-ready = ready (ofTypes O d) (typeAt typeLevels a) (typeAt typeLevels b) (A .t) (B .t) k (A .there) (B .there) (call-room .0) (call-room .1)
 
-    module _ (sc sc2 : List ℕ) (i j w : ℕ) (c : Combined (ofTypes d) (typeAt typeLevels a) (typeAt typeLevels b) sc sc2 i j w) where
-      call-wrote : Wrote (ofTypes d) (A .t) (B .t) sc sc2 i j w
-      call-wrote = combined-is (ofTypes d) (typeAt typeLevels a) (typeAt typeLevels b) (A .t) (B .t) sc sc2 i j w (A .there) (B .there) c
+    module _ (sc sc2 : List ℕ) (i j w : ℕ) (c : Combined (ofTypes O d) (typeAt typeLevels a) (typeAt typeLevels b) sc sc2 i j w) where
+      call-wrote : Wrote (ofTypes O d) (A .t) (B .t) sc sc2 i j w
+      call-wrote = combined-is (ofTypes O d) (typeAt typeLevels a) (typeAt typeLevels b) (A .t) (B .t) sc sc2 i j w (A .there) (B .there) c
 
       pub call-size : w ≤ k
       call-size = omega (arith, call-wrote .long, call-room .0)
 
-      call-length : w ≡ length (enc (answer d (A .t) (B .t)))
-      call-length = call-wrote .long ∙ sym (length-enc (answer d (A .t) (B .t)))
+      call-length : w ≡ length (enc (answer O d (A .t) (B .t)))
+      call-length = call-wrote .long ∙ sym (length-enc (answer O d (A .t) (B .t)))
 
-      pub call-short : length old < w → Built (combined (answer d) a b k (length old)) old old (written-is.Refused 18)
-      call-short l = built-short (combined (answer d) a b k (length old)) (enc (answer d (A .t) (B .t))) old call-is (omega (arith, call-length))
+      pub call-short : length old < w → Built (combined (answer O d) a b k (length old)) old old (written-is.Refused 18)
+      call-short l = built-short (combined (answer O d) a b k (length old)) (enc (answer O d (A .t) (B .t))) old call-is (omega (arith, call-length))
 
-      pub call-done : (new : List ℕ) → w ≤ length old → new ≡ onto (take w sc2) old → Built (combined (answer d) a b k (length old)) old new (written-is.Bytes w)
+      pub call-done : (new : List ℕ) → w ≤ length old → new ≡ onto (take w sc2) old → Built (combined (answer O d) a b k (length old)) old new (written-is.Bytes w)
       call-done new l o =
-          let part : take w sc2 ≡ enc (answer d (A .t) (B .t)) = ap (take w) (call-wrote .out) ∙ onto-front (enc (answer d (A .t) (B .t))) sc w call-length in
-          built-wrote (combined (answer d) a b k (length old)) (enc (answer d (A .t) (B .t))) old new w call-is call-length (omega (arith, call-length)) (o ∙ ap (λ (z : List ℕ). onto z old) part)
+          let part : take w sc2 ≡ enc (answer O d (A .t) (B .t)) = ap (take w) (call-wrote .out) ∙ onto-front (enc (answer O d (A .t) (B .t))) sc w call-length in
+          built-wrote (combined (answer O d) a b k (length old)) (enc (answer O d (A .t) (B .t))) old new w call-is call-length (omega (arith, call-length)) (o ∙ ap (λ (z : List ℕ). onto z old) part)
 
 -- ---- the reduced form
 module _ (s old : List ℕ) where
@@ -147,17 +148,17 @@ module _ (s old : List ℕ) where
         room : size (reduce fixed (A .t)) ≤ length old
         room = leb-true (size (reduce fixed (A .t))) (length old) (sym roomy ∙ e)
 
-        pub reduced-ready : Ready (ofTypes up) (typeAt typeLevels s) (typeAt typeLevels s) (length old)
+        pub reduced-ready : Ready (ofTypes fixed up) (typeAt typeLevels s) (typeAt typeLevels s) (length old)
         reduced-ready =
-            let e = ap size (self up (A .t) (A .asc)) in
+            let e = ap size (self fixed-laws up (A .t) (A .asc)) in
             let k = size-reduce fixed (A .t) in
-            ready (ofTypes up) (typeAt typeLevels s) (typeAt typeLevels s) (A .t) (A .t) (length old) (A .there) (A .there) (omega (arith, room, e)) (omega (arith, e, k, A .sized, A .short))
+            ready (ofTypes fixed up) (typeAt typeLevels s) (typeAt typeLevels s) (A .t) (A .t) (length old) (A .there) (A .there) (omega (arith, room, e)) (omega (arith, e, k, A .sized, A .short))
 
-        pub reduced-done : (new : List ℕ) (i j n : ℕ) → Combined (ofTypes up) (typeAt typeLevels s) (typeAt typeLevels s) old new i j n
+        pub reduced-done : (new : List ℕ) (i j n : ℕ) → Combined (ofTypes fixed up) (typeAt typeLevels s) (typeAt typeLevels s) old new i j n
             → Built (reducedCall s (length old)) old new (written-is.Bytes n)
         reduced-done new i j n c =
-            let g = combined-is (ofTypes up) (typeAt typeLevels s) (typeAt typeLevels s) (A .t) (A .t) old new i j n (A .there) (A .there) c in
-            let e = self up (A .t) (A .asc) in
+            let g = combined-is (ofTypes fixed up) (typeAt typeLevels s) (typeAt typeLevels s) (A .t) (A .t) old new i j n (A .there) (A .there) c in
+            let e = self fixed-laws up (A .t) (A .asc) in
             let le = length-enc (reduce fixed (A .t)) in
             built-wrote (reducedCall s (length old)) (enc (reduce fixed (A .t))) old new n reduced-is (g .long ∙ ap size e ∙ sym le) (omega (arith, le, room))
             (g .out ∙ ap (λ (z : Ty). onto (enc z) old) e)

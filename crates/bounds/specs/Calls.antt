@@ -8,6 +8,8 @@ use Rattle.form.specs.Outcome.{Outcome, _>>=_, _>>_, check, fits}
 use Rattle.form.specs.Trees.{Ty}
 use Rattle.form.specs.Form.{enc}
 use Rattle.form.specs.Read.{readType}
+use Rattle.order.specs.Order.{strictOrder}
+use Rattle.order.specs.Types.{sup, sub}
 use Rattle.order.specs.Document.{reducedForm, supertype, subtype}
 
 -- of two types; 14: the scratch is shorter than both together
@@ -23,6 +25,13 @@ commonSupertype a b scratch room = combined supertype a b scratch room
 
 abbrev pub commonSubtype : List ℕ → List ℕ → ℕ → ℕ → Outcome (List ℕ)
 commonSubtype a b scratch room = combined subtype a b scratch room
+
+-- K8: as DMN has it, with the results of functions without parameters
+abbrev pub strictCommonSupertype : List ℕ → List ℕ → ℕ → ℕ → Outcome (List ℕ)
+strictCommonSupertype a b scratch room = combined (sup strictOrder) a b scratch room
+
+abbrev pub strictCommonSubtype : List ℕ → List ℕ → ℕ → ℕ → Outcome (List ℕ)
+strictCommonSubtype a b scratch room = combined (sub strictOrder) a b scratch room
 
 abbrev pub reducedCall : List ℕ → ℕ → Outcome (List ℕ)
 reducedCall t room = do

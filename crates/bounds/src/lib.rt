@@ -2,9 +2,9 @@
 ghost use Prim.Native.Nat.{_+_, _<_, _/_};
 ghost use lib.ListN.{length};
 ghost use Rattle.form.specs.Answers.{Built};
-ghost use Rattle.order.specs.Order.{up};
+ghost use Rattle.order.specs.Order.{up, orderOf};
 ghost use Rattle.lattice.specs.Writing.{answer, toward};
-ghost use Rattle.bounds.specs.Calls.{combined, commonSupertype, commonSubtype, reducedCall};
+ghost use Rattle.bounds.specs.Calls.{combined, commonSupertype, commonSubtype, strictCommonSupertype, strictCommonSubtype, reducedCall};
 
 mod sizes;
 
@@ -12,10 +12,18 @@ use form::Checked;
 use form::Written;
 use form::limits::TYPE_LEVELS;
 use form::refusals;
+use types::readings;
 
-// Both calls: the answer is built in the scratch, and copied where it fits. Refusals: 6 to 10 of a, then of b, 14, 18.
-fn combine(up: bool, a: &[u8], b: &[u8], scratch: &mut [u8], out: &mut [u8]) -> Written
-    ensures { λ r. ⌜ Built (combined (answer (toward up)) (now (a .entry)) (now (b .entry)) (length (now (scratch .entry))) (length (now (out .entry)))) (now (out .entry)) (now (out .exit)) r ⌝ }
+// All four calls: the answer is built in the scratch, and copied where it fits. Refusals: 6 to 10 of a, then of b, 14, 18.
+fn combine(
+    up: bool,
+    a: &[u8],
+    b: &[u8],
+    scratch: &mut [u8],
+    out: &mut [u8],
+    reading: u64,
+) -> Written
+    ensures { λ r. ⌜ Built (combined (answer (orderOf reading) (toward up)) (now (a .entry)) (now (b .entry)) (length (now (scratch .entry))) (length (now (out .entry)))) (now (out .entry)) (now (out .exit)) r ⌝ }
 {
     match form::check_type(a) {
         Checked::Refused(n) => Written::Refused(n),
@@ -25,7 +33,7 @@ fn combine(up: bool, a: &[u8], b: &[u8], scratch: &mut [u8], out: &mut [u8]) -> 
                 if scratch.len() < a.len() + b.len() {
                     return Written::Refused(refusals::SCRATCH);
                 }
-                let e = lattice::write_bound(up, a, b, scratch, TYPE_LEVELS);
+                let e = lattice::write_bound(up, a, b, scratch, TYPE_LEVELS, reading);
                 let n = e.wrote;
                 if out.len() < n {
                     return Written::Refused(refusals::OUTPUT);
@@ -41,14 +49,28 @@ fn combine(up: bool, a: &[u8], b: &[u8], scratch: &mut [u8], out: &mut [u8]) -> 
 pub fn common_supertype(a: &[u8], b: &[u8], scratch: &mut [u8], out: &mut [u8]) -> Written
     ensures { λ r. ⌜ Built (commonSupertype (now (a .entry)) (now (b .entry)) (length (now (scratch .entry))) (length (now (out .entry)))) (now (out .entry)) (now (out .exit)) r ⌝ }
 {
-    combine(true, a, b, scratch, out)
+    combine(true, a, b, scratch, out, readings::DOCUMENT)
 }
 
 // The common subtype, reduced.
 pub fn common_subtype(a: &[u8], b: &[u8], scratch: &mut [u8], out: &mut [u8]) -> Written
     ensures { λ r. ⌜ Built (commonSubtype (now (a .entry)) (now (b .entry)) (length (now (scratch .entry))) (length (now (out .entry)))) (now (out .entry)) (now (out .exit)) r ⌝ }
 {
-    combine(false, a, b, scratch, out)
+    combine(false, a, b, scratch, out, readings::DOCUMENT)
+}
+
+// The common supertype as DMN has it: results of functions without parameters are taken together too, and nothing is reduced.
+pub fn strict_common_supertype(a: &[u8], b: &[u8], scratch: &mut [u8], out: &mut [u8]) -> Written
+    ensures { λ r. ⌜ Built (strictCommonSupertype (now (a .entry)) (now (b .entry)) (length (now (scratch .entry))) (length (now (out .entry)))) (now (out .entry)) (now (out .exit)) r ⌝ }
+{
+    combine(true, a, b, scratch, out, readings::STRICT)
+}
+
+// The common subtype likewise.
+pub fn strict_common_subtype(a: &[u8], b: &[u8], scratch: &mut [u8], out: &mut [u8]) -> Written
+    ensures { λ r. ⌜ Built (strictCommonSubtype (now (a .entry)) (now (b .entry)) (length (now (scratch .entry))) (length (now (out .entry)))) (now (out .entry)) (now (out .exit)) r ⌝ }
+{
+    combine(false, a, b, scratch, out, readings::STRICT)
 }
 
 // The reduced form: the result of every function type without parameters becomes Any. Refusals 6 to 10 and 18.
@@ -61,7 +83,7 @@ pub fn reduced(t: &[u8], out: &mut [u8]) -> Written
             if !sizes::has_room(t, out.len(), TYPE_LEVELS) {
                 return Written::Refused(refusals::OUTPUT);
             }
-            let e = lattice::same_super(t, t, out, TYPE_LEVELS);
+            let e = lattice::same_super(t, t, out, TYPE_LEVELS, readings::DOCUMENT);
             Written::Bytes(e.wrote)
         }
     }

@@ -13,7 +13,7 @@ use Rattle.form.specs.Trees.{Ty, no-params}
 use Rattle.form.specs.Form.{enc}
 use Rattle.form.specs.Answers.{onto}
 use Rattle.form.proofs.Runs.{length-rest, behind}
-use Rattle.order.specs.Order.{Dir, flip}
+use Rattle.order.specs.Order.{Dir, flip, Order}
 use Rattle.order.specs.Size.{size}
 use Rattle.order.proofs.Size.{length-enc}
 use Rattle.types.specs.At.{typeAt, Sig, sig, cons, sizeSig, sigAt}
@@ -25,7 +25,7 @@ use Rattle.lattice.proofs.Branches.{both, Both, ready, is-combined, com
 use Rattle.types.proofs.ChildAt.{item-behind}
 use Rattle.types.proofs.Signatures.{Param, param-at, Last, last}
 
-pub record SigInv (d : Dir) (l : ℕ) (a b : List ℕ) (n : ℕ) (old out : List ℕ) (at bt to i : ℕ) : Type 0 where
+pub record SigInv (O : Order) (d : Dir) (l : ℕ) (a b : List ℕ) (n : ℕ) (old out : List ℕ) (at bt to i : ℕ) : Type 0 where
   -- both, and what is left of them
   pub all-a : Sig
   pub all-b : Sig
@@ -36,23 +36,23 @@ pub record SigInv (d : Dir) (l : ℕ) (a b : List ℕ) (n : ℕ) (old out : List
   pub whole-a : sigAt l n a ≡ some all-a
   pub whole-b : sigAt l n b ≡ some all-b
   pub below : i ≤ n
-  pub cap : sizeSig (answerSig d all-a all-b) ≤ mostAnswer
+  pub cap : sizeSig (answerSig O d all-a all-b) ≤ mostAnswer
   pub in-a : at ≤ length a
   pub in-b : bt ≤ length b
   pub read-a : sigAt l (n - i) (drop at a) ≡ some f
   pub read-b : sigAt l (n - i) (drop bt b) ≡ some g
   pub size-a : at + sizeSig f ≡ sizeSig all-a
   pub size-b : bt + sizeSig g ≡ sizeSig all-b
-  pub text : done ++ encSig (answerSig d f g) ≡ encSig (answerSig d all-a all-b)
+  pub text : done ++ encSig (answerSig O d f g) ≡ encSig (answerSig O d all-a all-b)
   pub long : length done ≡ to
-  pub room : to + sizeSig (answerSig d f g) ≤ length old
+  pub room : to + sizeSig (answerSig O d f g) ≤ length old
   pub out-len : length out ≡ length old
   pub state : out ≡ onto done old
 
-pub sig-start : (d : Dir) (l : ℕ) (a b : List ℕ) (n : ℕ) (old : List ℕ) → Ready (ofSigs d) (sigAt l n a) (sigAt l n b) (length old) → SigInv d l a b n old old 0 0 0 0
-sig-start d l a b n old p = go (both (ofSigs d) (sigAt l n a) (sigAt l n b) (length old) p)
+pub sig-start : (O : Order) (d : Dir) (l : ℕ) (a b : List ℕ) (n : ℕ) (old : List ℕ) → Ready (ofSigs O d) (sigAt l n a) (sigAt l n b) (length old) → SigInv O d l a b n old old 0 0 0 0
+sig-start O d l a b n old p = go (both (ofSigs O d) (sigAt l n a) (sigAt l n b) (length old) p)
   where
-    go : Both (ofSigs d) (sigAt l n a) (sigAt l n b) (length old) → SigInv d l a b n old old 0 0 0 0
+    go : Both (ofSigs O d) (sigAt l n a) (sigAt l n b) (length old) → SigInv O d l a b n old old 0 0 0 0
     go K =
         let en : n - 0 ≡ n = omega arith in
         record {
@@ -78,16 +78,16 @@ sig-start d l a b n old p = go (both (ofSigs d) (sigAt l n a) (sigAt l n b) (len
           state = sym (onto-nil old);
         }
 
-module _ {d : Dir} {l : ℕ} {a b : List ℕ} {n : ℕ} {old out : List ℕ} {at bt to i : ℕ} (v : SigInv d l a b n old out at bt to i) where
-  left : sizeSig (answerSig d (v .f) (v .g)) ≤ mostAnswer
+module _ {O : Order} {d : Dir} {l : ℕ} {a b : List ℕ} {n : ℕ} {old out : List ℕ} {at bt to i : ℕ} (v : SigInv O d l a b n old out at bt to i) where
+  left : sizeSig (answerSig O d (v .f) (v .g)) ≤ mostAnswer
   left = omega (
     arith,
     v .cap,
     ap length (v .text),
-    length-append (v .done) (encSig (answerSig d (v .f) (v .g))),
-    length-sig (answerSig d (v .f) (v .g)),
+    length-append (v .done) (encSig (answerSig O d (v .f) (v .g))),
+    length-sig (answerSig O d (v .f) (v .g)),
     length-sig
-        (answerSig d (v .all-a) (v .all-b)),
+        (answerSig O d (v .all-a) (v .all-b)),
   )
 
   -- U was written at `to`
@@ -105,27 +105,27 @@ module _ {d : Dir} {l : ℕ} {a b : List ℕ} {n : ℕ} {old out : List ℕ} {at
     abbrev B : Param l (n - (i + 1)) bt b (v .g)
     B = param-at l i n bt b (v .g) h (v .in-b) (v .read-b)
 
-    now : answerSig d (v .f) (v .g) ≡ cons (answer (flip d) (A .x) (B .x)) (answerSig d (A .more) (B .more))
-    now = ap₂ (answerSig d) (A .is) (B .is) ∙ answer-cons d (A .x) (B .x) (A .more) (B .more)
+    now : answerSig O d (v .f) (v .g) ≡ cons (answer O (flip d) (A .x) (B .x)) (answerSig O d (A .more) (B .more))
+    now = ap₂ (answerSig O d) (A .is) (B .is) ∙ answer-cons O d (A .x) (B .x) (A .more) (B .more)
 
-    now-size : sizeSig (answerSig d (v .f) (v .g)) ≡ size (answer (flip d) (A .x) (B .x)) + sizeSig (answerSig d (A .more) (B .more))
-    now-size = ap sizeSig now ∙ size-cons (answer (flip d) (A .x) (B .x)) (answerSig d (A .more) (B .more))
+    now-size : sizeSig (answerSig O d (v .f) (v .g)) ≡ size (answer O (flip d) (A .x) (B .x)) + sizeSig (answerSig O d (A .more) (B .more))
+    now-size = ap sizeSig now ∙ size-cons (answer O (flip d) (A .x) (B .x)) (answerSig O d (A .more) (B .more))
 
-    pub param-ready : Ready (ofTypes (flip d)) (typeAt l (behind at a)) (typeAt l (behind bt b)) (length (behind to out))
-    param-ready = ready (ofTypes (flip d)) _ _ (A .x) (B .x) _ (item-behind A) (item-behind B) (omega (arith, v .room, v .out-len, now-size, length-rest out to)) (omega (arith, left, now-size))
+    pub param-ready : Ready (ofTypes O (flip d)) (typeAt l (behind at a)) (typeAt l (behind bt b)) (length (behind to out))
+    param-ready = ready (ofTypes O (flip d)) _ _ (A .x) (B .x) _ (item-behind A) (item-behind B) (omega (arith, v .room, v .out-len, now-size, length-rest out to)) (omega (arith, left, now-size))
 
-    module _ (ns : List ℕ) (e f w : ℕ) (c : Combined (ofTypes (flip d)) (typeAt l (behind at a)) (typeAt l (behind bt b)) (behind to out) ns e f w) where
-      param-wrote : Wrote (ofTypes (flip d)) (A .x) (B .x) (behind to out) ns e f w
-      param-wrote = combined-is (ofTypes (flip d)) _ _ (A .x) (B .x) (behind to out) ns e f w (item-behind A) (item-behind B) c
+    module _ (ns : List ℕ) (e f w : ℕ) (c : Combined (ofTypes O (flip d)) (typeAt l (behind at a)) (typeAt l (behind bt b)) (behind to out) ns e f w) where
+      param-wrote : Wrote (ofTypes O (flip d)) (A .x) (B .x) (behind to out) ns e f w
+      param-wrote = combined-is (ofTypes O (flip d)) _ _ (A .x) (B .x) (behind to out) ns e f w (item-behind A) (item-behind B) c
 
       pub param-ends : (at + e ≤ length a) × (bt + f ≤ length b) × (to + w ≤ length out)
       param-ends = let g = param-wrote in (omega (arith, g .one, A .fits), omega (arith, g .two, B .fits), omega (arith, g .long, v .room, v .out-len, now-size))
 
-      pub param-next : length ns ≡ length (behind to out) → SigInv d l a b n old (putMid to (length out - to) out ns) (at + e) (bt + f) (to + w) (i + 1)
+      pub param-next : length ns ≡ length (behind to out) → SigInv O d l a b n old (putMid to (length out - to) out ns) (at + e) (bt + f) (to + w) (i + 1)
       param-next el =
           let g = param-wrote in
-          let U = answer (flip d) (A .x) (B .x) in
-          let R = answerSig d (A .more) (B .more) in
+          let U = answer O (flip d) (A .x) (B .x) in
+          let R = answerSig O d (A .more) (B .more) in
           let s = now-size in
           record {
             all-a = v .all-a;
@@ -158,32 +158,32 @@ module _ {d : Dir} {l : ℕ} {a b : List ℕ} {n : ℕ} {old out : List ℕ} {at
     abbrev Q : Last l bt b (v .g)
     Q = last l i n bt b (v .g) h (v .in-b) (v .read-b)
 
-    ends : answerSig d (v .f) (v .g) ≡ sig no-params (answer d (P .t) (Q .t))
-    ends = ap₂ (answerSig d) (P .is) (Q .is) ∙ answer-result d (P .t) (Q .t)
+    ends : answerSig O d (v .f) (v .g) ≡ sig no-params (answer O d (P .t) (Q .t))
+    ends = ap₂ (answerSig O d) (P .is) (Q .is) ∙ answer-result O d (P .t) (Q .t)
 
-    ends-size : sizeSig (answerSig d (v .f) (v .g)) ≡ size (answer d (P .t) (Q .t))
-    ends-size = ap sizeSig ends ∙ size-result (answer d (P .t) (Q .t))
+    ends-size : sizeSig (answerSig O d (v .f) (v .g)) ≡ size (answer O d (P .t) (Q .t))
+    ends-size = ap sizeSig ends ∙ size-result (answer O d (P .t) (Q .t))
 
-    pub result-ready : Ready (ofTypes d) (typeAt l (behind at a)) (typeAt l (behind bt b)) (length (behind to out))
-    result-ready = ready (ofTypes d) _ _ (P .t) (Q .t) _ (P .first) (Q .first) (omega (arith, v .room, v .out-len, ends-size, length-rest out to)) (omega (arith, left, ends-size))
+    pub result-ready : Ready (ofTypes O d) (typeAt l (behind at a)) (typeAt l (behind bt b)) (length (behind to out))
+    result-ready = ready (ofTypes O d) _ _ (P .t) (Q .t) _ (P .first) (Q .first) (omega (arith, v .room, v .out-len, ends-size, length-rest out to)) (omega (arith, left, ends-size))
 
-    module _ (ns : List ℕ) (e f w : ℕ) (c : Combined (ofTypes d) (typeAt l (behind at a)) (typeAt l (behind bt b)) (behind to out) ns e f w) where
-      result-wrote : Wrote (ofTypes d) (P .t) (Q .t) (behind to out) ns e f w
-      result-wrote = combined-is (ofTypes d) _ _ (P .t) (Q .t) (behind to out) ns e f w (P .first) (Q .first) c
+    module _ (ns : List ℕ) (e f w : ℕ) (c : Combined (ofTypes O d) (typeAt l (behind at a)) (typeAt l (behind bt b)) (behind to out) ns e f w) where
+      result-wrote : Wrote (ofTypes O d) (P .t) (Q .t) (behind to out) ns e f w
+      result-wrote = combined-is (ofTypes O d) _ _ (P .t) (Q .t) (behind to out) ns e f w (P .first) (Q .first) c
 
       pub result-ends : (at + e ≤ length a) × (bt + f ≤ length b) × (to + w ≤ length out)
       result-ends = let g = result-wrote in (omega (arith, g .one, P .fits), omega (arith, g .two, Q .fits), omega (arith, g .long, v .room, v .out-len, ends-size))
 
-      pub sig-done : Combined (ofSigs d) (sigAt l n a) (sigAt l n b) old (putMid to (length out - to) out ns) (at + e) (bt + f) (to + w)
+      pub sig-done : Combined (ofSigs O d) (sigAt l n a) (sigAt l n b) old (putMid to (length out - to) out ns) (at + e) (bt + f) (to + w)
       sig-done =
           let g = result-wrote in
-          let U = answer d (P .t) (Q .t) in
+          let U = answer O d (P .t) (Q .t) in
           let s = ends-size in
-          let te : v .done ++ enc U ≡ encSig (answerSig d (v .all-a) (v .all-b)) = ap (λ (z : List ℕ). v .done ++ z) (sym (enc-result U) ∙ ap encSig (sym ends)) ∙ v .text in
-          is-combined (ofSigs d) _ _ (v .all-a) (v .all-b) old _ (at + e) (bt + f) (to + w) (v .whole-a) (v .whole-b)
+          let te : v .done ++ enc U ≡ encSig (answerSig O d (v .all-a) (v .all-b)) = ap (λ (z : List ℕ). v .done ++ z) (sym (enc-result U) ∙ ap encSig (sym ends)) ∙ v .text in
+          is-combined (ofSigs O d) _ _ (v .all-a) (v .all-b) old _ (at + e) (bt + f) (to + w) (v .whole-a) (v .whole-b)
           (record {
             one = omega (arith, v .size-a, P .sized, g .one);
             two = omega (arith, v .size-b, Q .sized, g .two);
-            long = omega (arith, v .long, g .long, length-append (v .done) (enc U), length-enc U, ap length te, length-sig (answerSig d (v .all-a) (v .all-b)));
+            long = omega (arith, v .long, g .long, length-append (v .done) (enc U), length-enc U, ap length te, length-sig (answerSig O d (v .all-a) (v .all-b)));
             out = wrote-at U ns (omega (arith, v .room, s)) (g .out) ∙ ap (λ (z : List ℕ). onto z old) te;
           })

@@ -18,7 +18,7 @@ use Rattle.form.specs.Form.{bytes, numAt, enc, encFields, countFields}
 use Rattle.form.specs.Answers.{onto}
 use Rattle.form.proofs.Numbers.{length-bytes}
 use Rattle.form.proofs.Runs.{rest, length-rest, behind}
-use Rattle.order.specs.Order.{Dir, up, down, fixed}
+use Rattle.order.specs.Order.{Dir, up, down, Order, Laws}
 use Rattle.order.specs.Ascending.{AscFields}
 use Rattle.order.specs.Size.{size, sizeFields}
 use Rattle.order.proofs.Size.{length-enc, length-fields}
@@ -34,7 +34,9 @@ use Rattle.lattice.proofs.BoundTrees.{count-none, fields-none, fields-b
 use Rattle.lattice.proofs.Branches.{both, Both, ready, is-combined, combined-is, is-counted}
 use Rattle.output.specs.Output.{over}
 
-pub record FieldsInv (d : Dir) (l : ℕ) (a : List ℕ) (n : ℕ) (b : List ℕ) (m : ℕ) (old out : List ℕ) (at i bt j to k : ℕ) : Type 0 where
+pub record FieldsInv (O : Order) (d : Dir) (l : ℕ) (a : List ℕ) (n : ℕ) (b : List ℕ) (m : ℕ) (old out : List ℕ) (at i bt j to k : ℕ) : Type 0 where
+  -- those of the order
+  pub laws : Laws O
   -- the entries of both, and those that are left
   pub all-a : Fields
   pub all-b : Fields
@@ -48,17 +50,17 @@ pub record FieldsInv (d : Dir) (l : ℕ) (a : List ℕ) (n : ℕ) (b : List ℕ)
   pub whole-b : fieldsAt l m 0 b ≡ some all-b
   pub below-a : i ≤ n
   pub below-b : j ≤ m
-  pub cap : sizeFields (answerFields d all-a all-b) ≤ mostAnswer
+  pub cap : sizeFields (answerFields O d all-a all-b) ≤ mostAnswer
   pub in-a : at ≤ length a
   pub in-b : bt ≤ length b
   pub read-a : fieldsAt l (n - i) least-a (drop at a) ≡ some fs
   pub read-b : fieldsAt l (m - j) least-b (drop bt b) ≡ some gs
   pub size-a : at + sizeFields fs ≡ sizeFields all-a
   pub size-b : bt + sizeFields gs ≡ sizeFields all-b
-  pub text : done ++ encFields (answerFields d fs gs) ≡ encFields (answerFields d all-a all-b)
-  pub many : k + countFields (answerFields d fs gs) ≡ countFields (answerFields d all-a all-b)
+  pub text : done ++ encFields (answerFields O d fs gs) ≡ encFields (answerFields O d all-a all-b)
+  pub many : k + countFields (answerFields O d fs gs) ≡ countFields (answerFields O d all-a all-b)
   pub long : length done ≡ to
-  pub room : to + sizeFields (answerFields d fs gs) ≤ length old
+  pub room : to + sizeFields (answerFields O d fs gs) ≤ length old
   pub out-len : length out ≡ length old
   pub state : out ≡ onto done old
 
@@ -69,15 +71,16 @@ pub record Peeked (a : List ℕ) (n : ℕ) (b : List ℕ) (m at i bt j x y : ℕ
   pub low : x ≤ nameEnd
   pub low2 : y ≤ nameEnd
 
-pub fields-start : (d : Dir) (l : ℕ) (a : List ℕ) (n : ℕ) (b : List ℕ) (m : ℕ) (old : List ℕ) → Ready (ofFields d) (fieldsAt l n 0 a) (fieldsAt l m 0 b) (length old)
-    → FieldsInv d l a n b m old old 0 0 0 0 0 0
-fields-start d l a n b m old p = go (both (ofFields d) (fieldsAt l n 0 a) (fieldsAt l m 0 b) (length old) p)
+pub fields-start : {O : Order} → Laws O → (d : Dir) (l : ℕ) (a : List ℕ) (n : ℕ) (b : List ℕ) (m : ℕ) (old : List ℕ) → Ready (ofFields O d) (fieldsAt l n 0 a) (fieldsAt l m 0 b) (length old)
+    → FieldsInv O d l a n b m old old 0 0 0 0 0 0
+fields-start {O} L d l a n b m old p = go (both (ofFields O d) (fieldsAt l n 0 a) (fieldsAt l m 0 b) (length old) p)
   where
-    go : Both (ofFields d) (fieldsAt l n 0 a) (fieldsAt l m 0 b) (length old) → FieldsInv d l a n b m old old 0 0 0 0 0 0
+    go : Both (ofFields O d) (fieldsAt l n 0 a) (fieldsAt l m 0 b) (length old) → FieldsInv O d l a n b m old old 0 0 0 0 0 0
     go K =
         let en : n - 0 ≡ n = omega arith in
         let em : m - 0 ≡ m = omega arith in
         record {
+          laws = L;
           all-a = K .t;
           all-b = K .u;
           fs = K .t;
@@ -107,7 +110,7 @@ fields-start d l a n b m old p = go (both (ofFields d) (fieldsAt l n 0 a) (field
 skipped : (l : ℕ) (a : List ℕ) (p z : ℕ) (t : Ty) → z ≡ sizeAt (typeAt l (behind p a)) → typeAt l (drop p a) ≡ some t → z ≡ size t
 skipped l a p z t e f = e ∙ ap (λ (r : List ℕ). sizeAt (typeAt l r)) (rest a p) ∙ size-got (typeAt l (drop p a)) t f
 
-module _ {d : Dir} {l : ℕ} {a : List ℕ} {n : ℕ} {b : List ℕ} {m : ℕ} {old out : List ℕ} {at i bt j to k : ℕ} (v : FieldsInv d l a n b m old out at i bt j to k) where
+module _ {O : Order} {d : Dir} {l : ℕ} {a : List ℕ} {n : ℕ} {b : List ℕ} {m : ℕ} {old out : List ℕ} {at i bt j to k : ℕ} (v : FieldsInv O d l a n b m old out at i bt j to k) where
   pub entry-a : i < n → Here l (n - (i + 1)) at (v .least-a) a (v .fs)
   entry-a h = here l i n at (v .least-a) a (v .fs) h (v .read-a)
 
@@ -179,9 +182,10 @@ module _ {d : Dir} {l : ℕ} {a : List ℕ} {n : ℕ} {b : List ℕ} {m : ℕ} {
       }
 
   -- an entry was passed over
-  pass : {at′ i′ bt′ j′ : ℕ} {fs′ gs′ : Fields} → Rest at′ i′ bt′ j′ fs′ gs′ → answerFields d (v .fs) (v .gs) ≡ answerFields d fs′ gs′ → FieldsInv d l a n b m old out at′ i′ bt′ j′ to k
+  pass : {at′ i′ bt′ j′ : ℕ} {fs′ gs′ : Fields} → Rest at′ i′ bt′ j′ fs′ gs′ → answerFields O d (v .fs) (v .gs) ≡ answerFields O d fs′ gs′ → FieldsInv O d l a n b m old out at′ i′ bt′ j′ to k
   pass {at′} {i′} {bt′} {j′} {fs′} {gs′} R s =
       record {
+        laws = v .laws;
         all-a = v .all-a;
         all-b = v .all-b;
         fs = fs′;
@@ -209,22 +213,22 @@ module _ {d : Dir} {l : ℕ} {a : List ℕ} {n : ℕ} {b : List ℕ} {m : ℕ} {
       }
 
   -- ---- the entry that is written now: its name, its type U, and what is left
-  module _ (name : ℕ) (U : Ty) (fs′ gs′ : Fields) (now : answerFields d (v .fs) (v .gs) ≡ field name U (answerFields d fs′ gs′)) where
-    sized : sizeFields (answerFields d (v .fs) (v .gs)) ≡ nameWidth + size U + sizeFields (answerFields d fs′ gs′)
-    sized = ap sizeFields now ∙ size-field name U (answerFields d fs′ gs′)
+  module _ (name : ℕ) (U : Ty) (fs′ gs′ : Fields) (now : answerFields O d (v .fs) (v .gs) ≡ field name U (answerFields O d fs′ gs′)) where
+    sized : sizeFields (answerFields O d (v .fs) (v .gs)) ≡ nameWidth + size U + sizeFields (answerFields O d fs′ gs′)
+    sized = ap sizeFields now ∙ size-field name U (answerFields O d fs′ gs′)
 
     pub entry-room : to + nameWidth + size U ≤ length out
     entry-room = omega (arith, v .room, v .out-len, sized)
 
-    left : sizeFields (answerFields d (v .fs) (v .gs)) ≤ mostAnswer
+    left : sizeFields (answerFields O d (v .fs) (v .gs)) ≤ mostAnswer
     left = omega (
       arith,
       v .cap,
       ap length (v .text),
-      length-append (v .done) (encFields (answerFields d (v .fs) (v .gs))),
-      length-fields (answerFields d (v .fs) (v .gs)),
+      length-append (v .done) (encFields (answerFields O d (v .fs) (v .gs))),
+      length-fields (answerFields O d (v .fs) (v .gs)),
       length-fields
-          (answerFields d (v .all-a) (v .all-b)),
+          (answerFields O d (v .all-a) (v .all-b)),
     )
 
     pub entry-cap : size U ≤ mostAnswer
@@ -234,15 +238,15 @@ module _ {d : Dir} {l : ℕ} {a : List ℕ} {n : ℕ} {b : List ℕ} {m : ℕ} {
       pub entry-length : length T ≡ length out
       entry-length = ap length et ∙ length-over to (bytes nameWidth name) out (omega (arith, entry-room, length-bytes nameWidth name))
 
-      pub entry-ready : (x y : Option Ty) (t u : Ty) → x ≡ some t → y ≡ some u → answer d t u ≡ U → Ready (ofTypes d) x y (length (behind (to + nameWidth) T))
-      entry-ready x y t u ex ey s = ready (ofTypes d) x y t u _ ex ey (omega (arith, entry-room, length-rest T (to + nameWidth), entry-length, ap size s)) (omega (arith, entry-cap, ap size s))
+      pub entry-ready : (x y : Option Ty) (t u : Ty) → x ≡ some t → y ≡ some u → answer O d t u ≡ U → Ready (ofTypes O d) x y (length (behind (to + nameWidth) T))
+      entry-ready x y t u ex ey s = ready (ofTypes O d) x y t u _ ex ey (omega (arith, entry-room, length-rest T (to + nameWidth), entry-length, ap size s)) (omega (arith, entry-cap, ap size s))
 
       advance : {at′ i′ bt′ j′ : ℕ} → Rest at′ i′ bt′ j′ fs′ gs′ → (ns : List ℕ) (w : ℕ) → w ≡ size U → ns ≡ onto (enc U) (behind (to + nameWidth) T) → length ns ≡ length (behind (to + nameWidth) T)
-          → FieldsInv d l a n b m old (putMid (to + nameWidth) (length T - (to + nameWidth)) T ns) at′ i′ bt′ j′ (to + nameWidth + w) (k + 1)
+          → FieldsInv O d l a n b m old (putMid (to + nameWidth) (length T - (to + nameWidth)) T ns) at′ i′ bt′ j′ (to + nameWidth + w) (k + 1)
       advance R ns w ew en el =
           let N = bytes nameWidth name in
           let W = enc U in
-          let X = answerFields d fs′ gs′ in
+          let X = answerFields O d fs′ gs′ in
           let r = entry-room in
           let ol = v .out-len in
           let lg = v .long in
@@ -253,6 +257,7 @@ module _ {d : Dir} {l : ℕ} {a : List ℕ} {n : ℕ} {b : List ℕ} {m : ℕ} {
           let o2 : putMid (to + nameWidth) (length T - (to + nameWidth)) T ns ≡ onto (p ++ W) old = back p W old T ns (to + nameWidth) o1 lp (omega arith) en in
           let assoc : (p ++ W) ++ encFields X ≡ v .done ++ (N ++ (W ++ encFields X)) = simp append-assoc in
           record {
+            laws = v .laws;
             all-a = v .all-a;
             all-b = v .all-b;
             fs = fs′;
@@ -280,14 +285,14 @@ module _ {d : Dir} {l : ℕ} {a : List ℕ} {n : ℕ} {b : List ℕ} {m : ℕ} {
           }
 
       -- a callee wrote it
-      pub written : (x y : Option Ty) (t u : Ty) → x ≡ some t → y ≡ some u → answer d t u ≡ U → (ns : List ℕ) (e f w : ℕ) → Combined (ofTypes d) x y (behind (to + nameWidth) T) ns e f w
+      pub written : (x y : Option Ty) (t u : Ty) → x ≡ some t → y ≡ some u → answer O d t u ≡ U → (ns : List ℕ) (e f w : ℕ) → Combined (ofTypes O d) x y (behind (to + nameWidth) T) ns e f w
           → (e ≡ size t) × (f ≡ size u) × (w ≡ size U) × (ns ≡ onto (enc U) (behind (to + nameWidth) T))
       written x y t u ex ey s ns e f w h =
-          let g = combined-is (ofTypes d) x y t u (behind (to + nameWidth) T) ns e f w ex ey h in
+          let g = combined-is (ofTypes O d) x y t u (behind (to + nameWidth) T) ns e f w ex ey h in
           (g .one, g .two, g .long ∙ ap size s, g .out ∙ ap (λ (z : Ty). onto (enc z) (behind (to + nameWidth) T)) s)
 
   pub few : k ≤ mostAnswer
-  few = omega (arith, v .many, v .cap, count-size (answerFields d (v .all-a) (v .all-b)))
+  few = omega (arith, v .many, v .cap, count-size (answerFields O d (v .all-a) (v .all-b)))
 
   module _ {x y : ℕ} (pk : Peeked a n b m at i bt j x y) where
     name-a : x < nameEnd → (i < n) × (x ≡ numAt nameWidth at a)
@@ -303,20 +308,20 @@ module _ {d : Dir} {l : ℕ} {a : List ℕ} {n : ℕ} {b : List ℕ} {m : ℕ} {
     more-b h = name-b h .0
 
     -- both are at their ends
-    pub fields-done : n ≤ i → m ≤ j → Combined (ofFields d) (fieldsAt l n 0 a) (fieldsAt l m 0 b) old out at bt to × Counted d (fieldsAt l n 0 a) (fieldsAt l m 0 b) k
+    pub fields-done : n ≤ i → m ≤ j → Combined (ofFields O d) (fieldsAt l n 0 a) (fieldsAt l m 0 b) old out at bt to × Counted O d (fieldsAt l n 0 a) (fieldsAt l m 0 b) k
     fields-done h g =
         let ef = gone l i n at (v .least-a) a (v .fs) h (v .read-a) in
         let eg = gone l j m bt (v .least-b) b (v .gs) g (v .read-b) in
-        let s : answerFields d (v .fs) (v .gs) ≡ no-fields = ap₂ (answerFields d) ef eg ∙ fields-none d in
-        let te : v .done ≡ encFields (answerFields d (v .all-a) (v .all-b)) = sym (append-nil (v .done)) ∙ ap (λ (z : List ℕ). v .done ++ z) (sym (ap encFields s ∙ enc-none)) ∙ v .text in (
-          is-combined (ofFields d) _ _ (v .all-a) (v .all-b) old out at bt to (v .whole-a) (v .whole-b)
+        let s : answerFields O d (v .fs) (v .gs) ≡ no-fields = ap₂ (answerFields O d) ef eg ∙ fields-none O d in
+        let te : v .done ≡ encFields (answerFields O d (v .all-a) (v .all-b)) = sym (append-nil (v .done)) ∙ ap (λ (z : List ℕ). v .done ++ z) (sym (ap encFields s ∙ enc-none)) ∙ v .text in (
+          is-combined (ofFields O d) _ _ (v .all-a) (v .all-b) old out at bt to (v .whole-a) (v .whole-b)
               (record {
                 one = omega (arith, v .size-a, ap sizeFields ef, size-none);
                 two = omega (arith, v .size-b, ap sizeFields eg, size-none);
-                long = omega (arith, v .long, ap length te, length-fields (answerFields d (v .all-a) (v .all-b)));
+                long = omega (arith, v .long, ap length te, length-fields (answerFields O d (v .all-a) (v .all-b)));
                 out = v .state ∙ ap (λ (z : List ℕ). onto z old) te;
               }),
-          is-counted d _ _ (v .all-a) (v .all-b) k (v .whole-a) (v .whole-b) (omega (arith, v .many, ap countFields s, count-none)),
+          is-counted O d _ _ (v .all-a) (v .all-b) k (v .whole-a) (v .whole-b) (omega (arith, v .many, ap countFields s, count-none)),
         )
 
     -- ---- a common name
@@ -328,44 +333,44 @@ module _ {d : Dir} {l : ℕ} {a : List ℕ} {n : ℕ} {b : List ℕ} {m : ℕ} {
       B = entry-b (more-b (omega arith))
 
       in-step : (A : Here l (n - (i + 1)) at (v .least-a) a (v .fs)) (B : Here l (m - (j + 1)) bt (v .least-b) b (v .gs)) → A .name ≡ B .name
-          → answerFields d (v .fs) (v .gs) ≡ field (A .name) (answer d (A .x) (B .x)) (answerFields d (A .more) (B .more))
-      in-step A B e = ap₂ (answerFields d) (A .is) (B .is ∙ ap (λ (z : ℕ). field z (B .x) (B .more)) (sym e)) ∙ fields-both d (A .name) (A .x) (B .x) (A .more) (B .more) (A .asc)
+          → answerFields O d (v .fs) (v .gs) ≡ field (A .name) (answer O d (A .x) (B .x)) (answerFields O d (A .more) (B .more))
+      in-step A B e = ap₂ (answerFields O d) (A .is) (B .is ∙ ap (λ (z : ℕ). field z (B .x) (B .more)) (sym e)) ∙ fields-both O d (A .name) (A .x) (B .x) (A .more) (B .more) (A .asc)
 
-      now : answerFields d (v .fs) (v .gs) ≡ field (A .name) (answer d (A .x) (B .x)) (answerFields d (A .more) (B .more))
+      now : answerFields O d (v .fs) (v .gs) ≡ field (A .name) (answer O d (A .x) (B .x)) (answerFields O d (A .more) (B .more))
       now = in-step A B (omega (arith, A .named, B .named, name-a less .1, name-b (omega arith) .1))
 
       pub both-room : to + nameWidth ≤ length out
-      both-room = omega (arith, entry-room (A .name) (answer d (A .x) (B .x)) (A .more) (B .more) now)
+      both-room = omega (arith, entry-room (A .name) (answer O d (A .x) (B .x)) (A .more) (B .more) now)
 
       module _ (T : List ℕ) (et : T ≡ over to (bytes nameWidth (numAt nameWidth at a)) out) where
         copied : T ≡ over to (bytes nameWidth (A .name)) out
         copied = et ∙ ap (λ (z : ℕ). over to (bytes nameWidth z) out) (sym (A .named))
 
         pub both-length : length T ≡ length out
-        both-length = entry-length (A .name) (answer d (A .x) (B .x)) (A .more) (B .more) now T copied
+        both-length = entry-length (A .name) (answer O d (A .x) (B .x)) (A .more) (B .more) now T copied
 
-        pub both-ready : Ready (ofTypes d) (typeAt l (behind (at + nameWidth) a)) (typeAt l (behind (bt + nameWidth) b)) (length (behind (to + nameWidth) T))
-        both-ready = entry-ready (A .name) (answer d (A .x) (B .x)) (A .more) (B .more) now T copied _ _ (A .x) (B .x) (entry-behind A) (entry-behind B) refl
+        pub both-ready : Ready (ofTypes O d) (typeAt l (behind (at + nameWidth) a)) (typeAt l (behind (bt + nameWidth) b)) (length (behind (to + nameWidth) T))
+        both-ready = entry-ready (A .name) (answer O d (A .x) (B .x)) (A .more) (B .more) now T copied _ _ (A .x) (B .x) (entry-behind A) (entry-behind B) refl
 
-        module _ (ns : List ℕ) (e f w : ℕ) (h : Combined (ofTypes d) (typeAt l (behind (at + nameWidth) a)) (typeAt l (behind (bt + nameWidth) b)) (behind (to + nameWidth) T) ns e f w) where
-          both-wrote : (e ≡ size (A .x)) × (f ≡ size (B .x)) × (w ≡ size (answer d (A .x) (B .x))) × (ns ≡ onto (enc (answer d (A .x) (B .x))) (behind (to + nameWidth) T))
-          both-wrote = written (A .name) (answer d (A .x) (B .x)) (A .more) (B .more) now T copied _ _ (A .x) (B .x) (entry-behind A) (entry-behind B) refl ns e f w h
+        module _ (ns : List ℕ) (e f w : ℕ) (h : Combined (ofTypes O d) (typeAt l (behind (at + nameWidth) a)) (typeAt l (behind (bt + nameWidth) b)) (behind (to + nameWidth) T) ns e f w) where
+          both-wrote : (e ≡ size (A .x)) × (f ≡ size (B .x)) × (w ≡ size (answer O d (A .x) (B .x))) × (ns ≡ onto (enc (answer O d (A .x) (B .x))) (behind (to + nameWidth) T))
+          both-wrote = written (A .name) (answer O d (A .x) (B .x)) (A .more) (B .more) now T copied _ _ (A .x) (B .x) (entry-behind A) (entry-behind B) refl ns e f w h
 
           pub both-ends : (at + nameWidth + e ≤ length a) × (bt + nameWidth + f ≤ length b) × (to + nameWidth + w ≤ length out)
           both-ends = (
             omega (arith, both-wrote .0, A .fits),
             omega (arith, both-wrote .1, B .fits),
             omega
-                (arith, both-wrote .2, entry-room (A .name) (answer d (A .x) (B .x)) (A .more) (B .more) now),
+                (arith, both-wrote .2, entry-room (A .name) (answer O d (A .x) (B .x)) (A .more) (B .more) now),
           )
 
-          pub both-next : length ns ≡ length (behind (to + nameWidth) T) → FieldsInv d l a n b m old (putMid (to + nameWidth) (length T - (to + nameWidth)) T ns) (at + nameWidth + e) (i + 1)
+          pub both-next : length ns ≡ length (behind (to + nameWidth) T) → FieldsInv O d l a n b m old (putMid (to + nameWidth) (length T - (to + nameWidth)) T ns) (at + nameWidth + e) (i + 1)
               (bt + nameWidth + f) (j + 1) (to + nameWidth + w) (k + 1)
-          both-next el = advance (A .name) (answer d (A .x) (B .x)) (A .more) (B .more) now T copied
+          both-next el = advance (A .name) (answer O d (A .x) (B .x)) (A .more) (B .more) now T copied
               (rest-both (rest-a (more-a less) A e (both-wrote .0)) (rest-b (more-b (omega arith)) B f (both-wrote .1))) ns w (both-wrote .2) (both-wrote .3) el
 
 -- ---- supertype: a name of one side only is passed over
-module _ {l : ℕ} {a : List ℕ} {n : ℕ} {b : List ℕ} {m : ℕ} {old out : List ℕ} {at i bt j to k : ℕ} (v : FieldsInv up l a n b m old out at i bt j to k) {x y : ℕ}
+module _ {O : Order} {l : ℕ} {a : List ℕ} {n : ℕ} {b : List ℕ} {m : ℕ} {old out : List ℕ} {at i bt j to k : ℕ} (v : FieldsInv O up l a n b m old out at i bt j to k) {x y : ℕ}
     (pk : Peeked a n b m at i bt j x y) where
   module _ (q : x < y) (z : ℕ) (e : z ≡ sizeAt (typeAt l (behind (at + nameWidth) a))) where
     abbrev SA : Here l (n - (i + 1)) at (v .least-a) a (v .fs)
@@ -374,15 +379,15 @@ module _ {l : ℕ} {a : List ℕ} {n : ℕ} {b : List ℕ} {m : ℕ} {old out : 
     pub skip-a-fits : at + nameWidth + z ≤ length a
     skip-a-fits = omega (arith, SA .fits, skipped l a (at + nameWidth) z (SA .x) e (SA .first))
 
-    pub skip-a : FieldsInv up l a n b m old out (at + nameWidth + z) (i + 1) bt j to k
+    pub skip-a : FieldsInv O up l a n b m old out (at + nameWidth + z) (i + 1) bt j to k
     skip-a = go SA
       where
-        go : Here l (n - (i + 1)) at (v .least-a) a (v .fs) → FieldsInv up l a n b m old out (at + nameWidth + z) (i + 1) bt j to k
+        go : Here l (n - (i + 1)) at (v .least-a) a (v .fs) → FieldsInv O up l a n b m old out (at + nameWidth + z) (i + 1) bt j to k
         go A =
             let g = name-a v pk (omega arith) in
             let w : AscFields (v .gs) (suc (A .name)) = ahead l j m bt (v .least-b) b (v .gs) (v .read-b) (A .name) y (pk .second) (omega (arith, A .named, g .1)) in
             pass v (rest-a v (g .0) A z (skipped l a (at + nameWidth) z (A .x) e (A .first)))
-            (ap (λ (f : Fields). answerFields up f (v .gs)) (A .is) ∙ sup-fields-first fixed (A .name) (A .x) (A .more) (v .gs) w)
+            (ap (λ (f : Fields). answerFields O up f (v .gs)) (A .is) ∙ sup-fields-first O (A .name) (A .x) (A .more) (v .gs) w)
 
   module _ (q : y < x) (z : ℕ) (e : z ≡ sizeAt (typeAt l (behind (bt + nameWidth) b))) where
     abbrev SB : Here l (m - (j + 1)) bt (v .least-b) b (v .gs)
@@ -391,85 +396,85 @@ module _ {l : ℕ} {a : List ℕ} {n : ℕ} {b : List ℕ} {m : ℕ} {old out : 
     pub skip-b-fits : bt + nameWidth + z ≤ length b
     skip-b-fits = omega (arith, SB .fits, skipped l b (bt + nameWidth) z (SB .x) e (SB .first))
 
-    pub skip-b : FieldsInv up l a n b m old out at i (bt + nameWidth + z) (j + 1) to k
+    pub skip-b : FieldsInv O up l a n b m old out at i (bt + nameWidth + z) (j + 1) to k
     skip-b = go SB
       where
-        go : Here l (m - (j + 1)) bt (v .least-b) b (v .gs) → FieldsInv up l a n b m old out at i (bt + nameWidth + z) (j + 1) to k
+        go : Here l (m - (j + 1)) bt (v .least-b) b (v .gs) → FieldsInv O up l a n b m old out at i (bt + nameWidth + z) (j + 1) to k
         go B =
             let g = name-b v pk (omega arith) in
             let w : AscFields (v .fs) (suc (B .name)) = ahead l i n at (v .least-a) a (v .fs) (v .read-a) (B .name) x (pk .first) (omega (arith, B .named, g .1)) in
             pass v (rest-b v (g .0) B z (skipped l b (bt + nameWidth) z (B .x) e (B .first)))
-            (ap (λ (f : Fields). answerFields up (v .fs) f) (B .is) ∙ sup-fields-second fixed (v .fs) (B .name) (suc (B .name)) (B .x) (B .more) w (omega arith))
+            (ap (λ (f : Fields). answerFields O up (v .fs) f) (B .is) ∙ sup-fields-second O (v .fs) (B .name) (suc (B .name)) (B .x) (B .more) w (omega arith))
 
 -- ---- subtype: a name of one side only is written with its reduced type
-module _ {l : ℕ} {a : List ℕ} {n : ℕ} {b : List ℕ} {m : ℕ} {old out : List ℕ} {at i bt j to k : ℕ} (v : FieldsInv down l a n b m old out at i bt j to k) {x y : ℕ}
+module _ {O : Order} {l : ℕ} {a : List ℕ} {n : ℕ} {b : List ℕ} {m : ℕ} {old out : List ℕ} {at i bt j to k : ℕ} (v : FieldsInv O down l a n b m old out at i bt j to k) {x y : ℕ}
     (pk : Peeked a n b m at i bt j x y) where
   module _ (q : x < y) where
     abbrev OA : Here l (n - (i + 1)) at (v .least-a) a (v .fs)
     OA = entry-a v (more-a v pk (omega arith))
 
-    only-a : (A : Here l (n - (i + 1)) at (v .least-a) a (v .fs)) → answerFields down (v .fs) (v .gs) ≡ field (A .name) (answer down (A .x) (A .x)) (answerFields down (A .more) (v .gs))
+    only-a : (A : Here l (n - (i + 1)) at (v .least-a) a (v .fs)) → answerFields O down (v .fs) (v .gs) ≡ field (A .name) (answer O down (A .x) (A .x)) (answerFields O down (A .more) (v .gs))
     only-a A =
         let w : AscFields (v .gs) (suc (A .name)) = ahead l j m bt (v .least-b) b (v .gs) (v .read-b) (A .name) y (pk .second) (omega (arith, A .named, name-a v pk (omega arith) .1)) in
-        ap (λ (f : Fields). answerFields down f (v .gs)) (A .is) ∙ sub-fields-first fixed (A .name) (A .x) (A .more) (v .gs) (A .asc) w
-        ∙ ap (λ (z : Ty). field (A .name) z (answerFields down (A .more) (v .gs))) (sym (self down (A .x) (t-good l (drop (at + nameWidth) a) (A .x) (A .first) .0)))
+        ap (λ (f : Fields). answerFields O down f (v .gs)) (A .is) ∙ sub-fields-first O (A .name) (A .x) (A .more) (v .gs) (A .asc) w
+        ∙ ap (λ (z : Ty). field (A .name) z (answerFields O down (A .more) (v .gs))) (sym (self (v .laws) down (A .x) (t-good l (drop (at + nameWidth) a) (A .x) (A .first) .0)))
 
     pub a-room : to + nameWidth ≤ length out
-    a-room = omega (arith, entry-room v (OA .name) (answer down (OA .x) (OA .x)) (OA .more) (v .gs) (only-a OA))
+    a-room = omega (arith, entry-room v (OA .name) (answer O down (OA .x) (OA .x)) (OA .more) (v .gs) (only-a OA))
 
     module _ (T : List ℕ) (et : T ≡ over to (bytes nameWidth (numAt nameWidth at a)) out) where
       copied-a : T ≡ over to (bytes nameWidth (OA .name)) out
       copied-a = et ∙ ap (λ (z : ℕ). over to (bytes nameWidth z) out) (sym (OA .named))
 
       pub a-length : length T ≡ length out
-      a-length = entry-length v (OA .name) (answer down (OA .x) (OA .x)) (OA .more) (v .gs) (only-a OA) T copied-a
+      a-length = entry-length v (OA .name) (answer O down (OA .x) (OA .x)) (OA .more) (v .gs) (only-a OA) T copied-a
 
-      pub a-ready : Ready (ofTypes down) (typeAt l (behind (at + nameWidth) a)) (typeAt l (behind (at + nameWidth) a)) (length (behind (to + nameWidth) T))
-      a-ready = entry-ready v (OA .name) (answer down (OA .x) (OA .x)) (OA .more) (v .gs) (only-a OA) T copied-a _ _ (OA .x) (OA .x) (entry-behind OA) (entry-behind OA) refl
+      pub a-ready : Ready (ofTypes O down) (typeAt l (behind (at + nameWidth) a)) (typeAt l (behind (at + nameWidth) a)) (length (behind (to + nameWidth) T))
+      a-ready = entry-ready v (OA .name) (answer O down (OA .x) (OA .x)) (OA .more) (v .gs) (only-a OA) T copied-a _ _ (OA .x) (OA .x) (entry-behind OA) (entry-behind OA) refl
 
-      module _ (ns : List ℕ) (e f w : ℕ) (h : Combined (ofTypes down) (typeAt l (behind (at + nameWidth) a)) (typeAt l (behind (at + nameWidth) a)) (behind (to + nameWidth) T) ns e f w) where
-        a-wrote : (e ≡ size (OA .x)) × (f ≡ size (OA .x)) × (w ≡ size (answer down (OA .x) (OA .x))) × (ns ≡ onto (enc (answer down (OA .x) (OA .x))) (behind (to + nameWidth) T))
-        a-wrote = written v (OA .name) (answer down (OA .x) (OA .x)) (OA .more) (v .gs) (only-a OA) T copied-a _ _ (OA .x) (OA .x) (entry-behind OA) (entry-behind OA) refl ns e f w h
+      module _ (ns : List ℕ) (e f w : ℕ) (h : Combined (ofTypes O down) (typeAt l (behind (at + nameWidth) a)) (typeAt l (behind (at + nameWidth) a)) (behind (to + nameWidth) T) ns e f w) where
+        a-wrote : (e ≡ size (OA .x)) × (f ≡ size (OA .x)) × (w ≡ size (answer O down (OA .x) (OA .x))) × (ns ≡ onto (enc (answer O down (OA .x) (OA .x))) (behind (to + nameWidth) T))
+        a-wrote = written v (OA .name) (answer O down (OA .x) (OA .x)) (OA .more) (v .gs) (only-a OA) T copied-a _ _ (OA .x) (OA .x) (entry-behind OA) (entry-behind OA) refl ns e f w h
 
         pub a-ends : (at + nameWidth + e ≤ length a) × (to + nameWidth + w ≤ length out)
-        a-ends = (omega (arith, a-wrote .0, OA .fits), omega (arith, a-wrote .2, entry-room v (OA .name) (answer down (OA .x) (OA .x)) (OA .more) (v .gs) (only-a OA)))
+        a-ends = (omega (arith, a-wrote .0, OA .fits), omega (arith, a-wrote .2, entry-room v (OA .name) (answer O down (OA .x) (OA .x)) (OA .more) (v .gs) (only-a OA)))
 
-        pub a-next : length ns ≡ length (behind (to + nameWidth) T) → FieldsInv down l a n b m old (putMid (to + nameWidth) (length T - (to + nameWidth)) T ns) (at + nameWidth + e) (i + 1) bt j
+        pub a-next : length ns ≡ length (behind (to + nameWidth) T) → FieldsInv O down l a n b m old (putMid (to + nameWidth) (length T - (to + nameWidth)) T ns) (at + nameWidth + e) (i + 1) bt j
             (to + nameWidth + w) (k + 1)
-        a-next el = advance v (OA .name) (answer down (OA .x) (OA .x)) (OA .more) (v .gs) (only-a OA) T copied-a (rest-a v (more-a v pk (omega arith)) OA e (a-wrote .0)) ns w (a-wrote .2)
+        a-next el = advance v (OA .name) (answer O down (OA .x) (OA .x)) (OA .more) (v .gs) (only-a OA) T copied-a (rest-a v (more-a v pk (omega arith)) OA e (a-wrote .0)) ns w (a-wrote .2)
             (a-wrote .3) el
 
   module _ (q : y < x) where
     abbrev OB : Here l (m - (j + 1)) bt (v .least-b) b (v .gs)
     OB = entry-b v (more-b v pk (omega arith))
 
-    only-b : (B : Here l (m - (j + 1)) bt (v .least-b) b (v .gs)) → answerFields down (v .fs) (v .gs) ≡ field (B .name) (answer down (B .x) (B .x)) (answerFields down (v .fs) (B .more))
+    only-b : (B : Here l (m - (j + 1)) bt (v .least-b) b (v .gs)) → answerFields O down (v .fs) (v .gs) ≡ field (B .name) (answer O down (B .x) (B .x)) (answerFields O down (v .fs) (B .more))
     only-b B =
         let w : AscFields (v .fs) (suc (B .name)) = ahead l i n at (v .least-a) a (v .fs) (v .read-a) (B .name) x (pk .first) (omega (arith, B .named, name-b v pk (omega arith) .1)) in
-        ap (λ (f : Fields). answerFields down (v .fs) f) (B .is) ∙ sub-fields-second fixed (v .fs) (B .name) (suc (B .name)) (B .x) (B .more) w (omega arith)
-        ∙ ap (λ (z : Ty). field (B .name) z (answerFields down (v .fs) (B .more))) (sym (self down (B .x) (t-good l (drop (bt + nameWidth) b) (B .x) (B .first) .0)))
+        ap (λ (f : Fields). answerFields O down (v .fs) f) (B .is) ∙ sub-fields-second O (v .fs) (B .name) (suc (B .name)) (B .x) (B .more) w (omega arith)
+        ∙ ap (λ (z : Ty). field (B .name) z (answerFields O down (v .fs) (B .more))) (sym (self (v .laws) down (B .x) (t-good l (drop (bt + nameWidth) b) (B .x) (B .first) .0)))
 
     pub b-room : to + nameWidth ≤ length out
-    b-room = omega (arith, entry-room v (OB .name) (answer down (OB .x) (OB .x)) (v .fs) (OB .more) (only-b OB))
+    b-room = omega (arith, entry-room v (OB .name) (answer O down (OB .x) (OB .x)) (v .fs) (OB .more) (only-b OB))
 
     module _ (T : List ℕ) (et : T ≡ over to (bytes nameWidth (numAt nameWidth bt b)) out) where
       copied-b : T ≡ over to (bytes nameWidth (OB .name)) out
       copied-b = et ∙ ap (λ (z : ℕ). over to (bytes nameWidth z) out) (sym (OB .named))
 
       pub b-length : length T ≡ length out
-      b-length = entry-length v (OB .name) (answer down (OB .x) (OB .x)) (v .fs) (OB .more) (only-b OB) T copied-b
+      b-length = entry-length v (OB .name) (answer O down (OB .x) (OB .x)) (v .fs) (OB .more) (only-b OB) T copied-b
 
-      pub b-ready : Ready (ofTypes down) (typeAt l (behind (bt + nameWidth) b)) (typeAt l (behind (bt + nameWidth) b)) (length (behind (to + nameWidth) T))
-      b-ready = entry-ready v (OB .name) (answer down (OB .x) (OB .x)) (v .fs) (OB .more) (only-b OB) T copied-b _ _ (OB .x) (OB .x) (entry-behind OB) (entry-behind OB) refl
+      pub b-ready : Ready (ofTypes O down) (typeAt l (behind (bt + nameWidth) b)) (typeAt l (behind (bt + nameWidth) b)) (length (behind (to + nameWidth) T))
+      b-ready = entry-ready v (OB .name) (answer O down (OB .x) (OB .x)) (v .fs) (OB .more) (only-b OB) T copied-b _ _ (OB .x) (OB .x) (entry-behind OB) (entry-behind OB) refl
 
-      module _ (ns : List ℕ) (e f w : ℕ) (h : Combined (ofTypes down) (typeAt l (behind (bt + nameWidth) b)) (typeAt l (behind (bt + nameWidth) b)) (behind (to + nameWidth) T) ns e f w) where
-        b-wrote : (e ≡ size (OB .x)) × (f ≡ size (OB .x)) × (w ≡ size (answer down (OB .x) (OB .x))) × (ns ≡ onto (enc (answer down (OB .x) (OB .x))) (behind (to + nameWidth) T))
-        b-wrote = written v (OB .name) (answer down (OB .x) (OB .x)) (v .fs) (OB .more) (only-b OB) T copied-b _ _ (OB .x) (OB .x) (entry-behind OB) (entry-behind OB) refl ns e f w h
+      module _ (ns : List ℕ) (e f w : ℕ) (h : Combined (ofTypes O down) (typeAt l (behind (bt + nameWidth) b)) (typeAt l (behind (bt + nameWidth) b)) (behind (to + nameWidth) T) ns e f w) where
+        b-wrote : (e ≡ size (OB .x)) × (f ≡ size (OB .x)) × (w ≡ size (answer O down (OB .x) (OB .x))) × (ns ≡ onto (enc (answer O down (OB .x) (OB .x))) (behind (to + nameWidth) T))
+        b-wrote = written v (OB .name) (answer O down (OB .x) (OB .x)) (v .fs) (OB .more) (only-b OB) T copied-b _ _ (OB .x) (OB .x) (entry-behind OB) (entry-behind OB) refl ns e f w h
 
         pub b-ends : (bt + nameWidth + e ≤ length b) × (to + nameWidth + w ≤ length out)
-        b-ends = (omega (arith, b-wrote .0, OB .fits), omega (arith, b-wrote .2, entry-room v (OB .name) (answer down (OB .x) (OB .x)) (v .fs) (OB .more) (only-b OB)))
+        b-ends = (omega (arith, b-wrote .0, OB .fits), omega (arith, b-wrote .2, entry-room v (OB .name) (answer O down (OB .x) (OB .x)) (v .fs) (OB .more) (only-b OB)))
 
-        pub b-next : length ns ≡ length (behind (to + nameWidth) T) → FieldsInv down l a n b m old (putMid (to + nameWidth) (length T - (to + nameWidth)) T ns) at i (bt + nameWidth + e) (j + 1)
+        pub b-next : length ns ≡ length (behind (to + nameWidth) T) → FieldsInv O down l a n b m old (putMid (to + nameWidth) (length T - (to + nameWidth)) T ns) at i (bt + nameWidth + e) (j + 1)
             (to + nameWidth + w) (k + 1)
-        b-next el = advance v (OB .name) (answer down (OB .x) (OB .x)) (v .fs) (OB .more) (only-b OB) T copied-b (rest-b v (more-b v pk (omega arith)) OB e (b-wrote .0)) ns w (b-wrote .2)
+        b-next el = advance v (OB .name) (answer O down (OB .x) (OB .x)) (v .fs) (OB .more) (only-b OB) T copied-b (rest-b v (more-b v pk (omega arith)) OB e (b-wrote .0)) ns w (b-wrote .2)
             (b-wrote .3) el

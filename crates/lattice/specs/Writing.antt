@@ -10,7 +10,7 @@ use Rattle.form.specs.Trees.{Ty, Fields}
 use Rattle.form.specs.Form.{enc, encFields, encTys, countFields}
 use Rattle.form.specs.Answers.{onto}
 use Rattle.form.specs.Options.{WhereBoth}
-use Rattle.order.specs.Order.{Dir, up, down, flip, pick, fixed}
+use Rattle.order.specs.Order.{Dir, up, down, flip, pick, Order}
 use Rattle.order.specs.Types.{reduce, reduceFields, reduceTys, bound, bounds, intersectWith, merge}
 use Rattle.order.specs.Size.{size, sizeFields}
 use Rattle.types.specs.At.{Sig, sig, sizeSig}
@@ -20,15 +20,15 @@ abbrev pub toward : Bool → Dir
 toward true = up
 toward false = down
 
--- ---- the answers
-abbrev pub answer : Dir → Ty → Ty → Ty
-answer d t u = reduce fixed (bound fixed d t u)
+-- ---- the answers under an order
+abbrev pub answer : Order → Dir → Ty → Ty → Ty
+answer O d t u = reduce O (bound O d t u)
 
-abbrev pub answerFields : Dir → Fields → Fields → Fields
-answerFields d fs gs = reduceFields fixed (pick d (intersectWith fixed fs gs) (merge fixed fs gs))
+abbrev pub answerFields : Order → Dir → Fields → Fields → Fields
+answerFields O d fs gs = reduceFields O (pick d (intersectWith O fs gs) (merge O fs gs))
 
-unfoldable pub answerSig : Dir → Sig → Sig → Sig
-answerSig d (sig ps r) (sig qs s) = sig (reduceTys fixed (bounds fixed (flip d) ps qs)) (answer d r s)
+unfoldable pub answerSig : Order → Dir → Sig → Sig → Sig
+answerSig O d (sig ps r) (sig qs s) = sig (reduceTys O (bounds O (flip d) ps qs)) (answer O d r s)
 
 unfoldable pub encSig : Sig → List ℕ
 encSig (sig ps r) = encTys ps ++ enc r
@@ -39,14 +39,14 @@ pub record Joining (X : Type 0) : Type 0 where
   pub sized : X → ℕ
   pub text : X → List ℕ
 
-abbrev pub ofTypes : Dir → Joining Ty
-ofTypes d = record { join = answer d; sized = size; text = enc }
+abbrev pub ofTypes : Order → Dir → Joining Ty
+ofTypes O d = record { join = answer O d; sized = size; text = enc }
 
-abbrev pub ofFields : Dir → Joining Fields
-ofFields d = record { join = answerFields d; sized = sizeFields; text = encFields }
+abbrev pub ofFields : Order → Dir → Joining Fields
+ofFields O d = record { join = answerFields O d; sized = sizeFields; text = encFields }
 
-abbrev pub ofSigs : Dir → Joining Sig
-ofSigs d = record { join = answerSig d; sized = sizeSig; text = encSig }
+abbrev pub ofSigs : Order → Dir → Joining Sig
+ofSigs O d = record { join = answerSig O d; sized = sizeSig; text = encSig }
 
 -- what the builders ask of an answer: fewer bytes than 16 bits count, so that its names do too (of two accepted types it has at most 32,768)
 abbrev pub mostAnswer : ℕ
@@ -67,5 +67,5 @@ unfoldable pub Combined : {X : Type 0} → Joining X → Option X → Option X �
 Combined J x y old new first second wrote = WhereBoth (Unit {0}) (λ t u. Wrote J t u old new first second wrote) x y
 
 -- so many entries
-unfoldable pub Counted : Dir → Option Fields → Option Fields → ℕ → Type 0
-Counted d x y n = WhereBoth (Unit {0}) (λ fs gs. n ≡ countFields (answerFields d fs gs)) x y
+unfoldable pub Counted : Order → Dir → Option Fields → Option Fields → ℕ → Type 0
+Counted O d x y n = WhereBoth (Unit {0}) (λ fs gs. n ≡ countFields (answerFields O d fs gs)) x y

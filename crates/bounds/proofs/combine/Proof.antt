@@ -8,6 +8,7 @@ use mathlib.Core.Path.{sym, ap, _∙_}
 use lib.ListN.{length, length-take}
 use lib.Seq.{length-take-le}
 use Rattle.form.specs.Answers.{checked}
+use Rattle.order.specs.Order.{orderOf}
 use Rattle.lattice.specs.Writing.{toward}
 use Rattle.bounds.proofs.CallContracts.{fine, first-refused, second-refused, scratch-short, call-ready, call-size, call-short, call-done}
 
@@ -45,20 +46,20 @@ returns c =
     let c3 = c .before .before .before in
     let c6 = c3 .before .before .before in
     let args = c6 .before .before .before .before .before .args in
-    scratch-short (toward (args .up)) (args .a .now) (args .b .now) (length (args .scratch .now)) (args .out .now)
+    scratch-short (orderOf (args .reading)) (toward (args .up)) (args .a .now) (args .b .now) (length (args .scratch .now)) (args .out .now)
     (fine (args .a .now) (c3 .before .enum-told .given .0 .0) (c6 .check-type .ensures .1)
     (sym (c6 .check-type .ensures .0) ∙ ap checked (c3 .before .enum-told .given .1)))
     (fine (args .b .now) (c .before .enum-told2 .given .0 .0) (c3 .check-type2 .ensures .1)
     (sym (c3 .check-type2 .ensures .0) ∙ ap checked (c .before .enum-told2 .given .1)))
     (c .if1 .taken)
 
--- at `let e = lattice::write_bound(up, a, b, scratch, TYPE_LEVELS);`
+-- at `let e = lattice::write_bound(up, a, b, scratch, TYPE_LEVELS, reading);`
 write-bound-requires : tie.Need-write-bound-requires
 write-bound-requires c κs =
     let c4 = c .before .before .before .before in
     let c7 = c4 .before .before .before in
     let args = c7 .before .before .before .before .before .args in
-    call-ready (toward (args .up)) (args .a .now) (args .b .now) (length (args .scratch .now)) (args .out .now)
+    call-ready (orderOf (args .reading)) (toward (args .up)) (args .a .now) (args .b .now) (length (args .scratch .now)) (args .out .now)
     (fine (args .a .now) (c4 .before .enum-told .given .0 .0) (c7 .check-type .ensures .1)
     (sym (c7 .check-type .ensures .0) ∙ ap checked (c4 .before .enum-told .given .1)))
     (fine (args .b .now) (c .before .before .enum-told2 .given .0 .0) (c4 .check-type2 .ensures .1)
@@ -76,7 +77,7 @@ returns-2 c =
     let c8 = c5 .before .before .before in
     let c11 = c8 .before .before .before in
     let args = c11 .before .before .before .before .before .args in
-    call-short (toward (args .up)) (args .a .now) (args .b .now) (length (args .scratch .now)) (args .out .now)
+    call-short (orderOf (args .reading)) (toward (args .up)) (args .a .now) (args .b .now) (length (args .scratch .now)) (args .out .now)
     (fine (args .a .now) (c8 .before .enum-told .given .0 .0) (c11 .check-type .ensures .1)
     (sym (c11 .check-type .ensures .0) ∙ ap checked (c8 .before .enum-told .given .1)))
     (fine (args .b .now) (c5 .before .enum-told2 .given .0 .0) (c8 .check-type2 .ensures .1)
@@ -94,7 +95,7 @@ slice-reshare-prefix-copy c =
           let c8 = c5 .before .before .before in
           let c11 = c8 .before .before .before in
           let args = c11 .before .before .before .before .before .args in
-          call-size (toward (args .up)) (args .a .now) (args .b .now) (length (args .scratch .now)) (args .out .now)
+          call-size (orderOf (args .reading)) (toward (args .up)) (args .a .now) (args .b .now) (length (args .scratch .now)) (args .out .now)
           (fine (args .a .now) (c8 .before .enum-told .given .0 .0) (c11 .check-type .ensures .1)
           (sym (c11 .check-type .ensures .0) ∙ ap checked (c8 .before .enum-told .given .1)))
           (fine (args .b .now) (c5 .before .enum-told2 .given .0 .0) (c8 .check-type2 .ensures .1)
@@ -115,7 +116,7 @@ slice-aggregate-copy c =
           let c9 = c7 .before .before in
           let c12 = c9 .before .before .before in
           let args = c12 .before .before .before .before .before .args in
-          call-size (toward (args .up)) (args .a .now) (args .b .now) (length (args .scratch .now)) (args .out .now)
+          call-size (orderOf (args .reading)) (toward (args .up)) (args .a .now) (args .b .now) (length (args .scratch .now)) (args .out .now)
           (fine (args .a .now) (c9 .before .enum-told .given .0 .0) (c12 .check-type .ensures .1)
           (sym (c12 .check-type .ensures .0) ∙ ap checked (c9 .before .enum-told .given .1)))
           (fine (args .b .now) (c7 .enum-told2 .given .0 .0) (c9 .check-type2 .ensures .1)
@@ -131,7 +132,7 @@ copy-requires c κs = simp length-take (omega (arith, c .before .before .if2 .le
 returns-3 : tie.Need-returns-3
 returns-3 c =
     let args = c .before .before .before .before .before .before .before .before .args in
-    first-refused (toward (args .up)) (args .a .now) (args .b .now) (length (args .scratch .now)) (args .out .now) _
+    first-refused (orderOf (args .reading)) (toward (args .up)) (args .a .now) (args .b .now) (length (args .scratch .now)) (args .out .now) _
     (sym (c .before .before .before .check-type .ensures .0) ∙ ap checked (c .before .n .given .1))
 
 -- at the end
@@ -140,7 +141,7 @@ returns-4 c =
     let c4 = c .before .before .before .before in
     let c6 = c4 .before .before in
     let args = c6 .before .before .before .before .before .args in
-    second-refused (toward (args .up)) (args .a .now) (args .b .now) (length (args .scratch .now)) (args .out .now)
+    second-refused (orderOf (args .reading)) (toward (args .up)) (args .a .now) (args .b .now) (length (args .scratch .now)) (args .out .now)
     (fine (args .a .now) (c4 .enum-told .given .0 .0) (c6 .check-type .ensures .1)
     (sym (c6 .check-type .ensures .0) ∙ ap checked (c4 .enum-told .given .1)))
     _ (sym (c .before .before .before .check-type2 .ensures .0) ∙ ap checked (c .before .n2 .given .1))
@@ -162,7 +163,7 @@ returns-5 c =
     let c13 = c11 .before .before in
     let c16 = c13 .before .before .before in
     let args = c16 .before .before .before .before .before .args in
-    call-done (toward (args .up)) (args .a .now) (args .b .now) (length (args .scratch .now)) (args .out .now)
+    call-done (orderOf (args .reading)) (toward (args .up)) (args .a .now) (args .b .now) (length (args .scratch .now)) (args .out .now)
     (fine (args .a .now) (c13 .before .enum-told .given .0 .0) (c16 .check-type .ensures .1)
     (sym (c16 .check-type .ensures .0) ∙ ap checked (c13 .before .enum-told .given .1)))
     (fine (args .b .now) (c11 .enum-told2 .given .0 .0) (c13 .check-type2 .ensures .1)

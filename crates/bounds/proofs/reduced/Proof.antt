@@ -38,7 +38,7 @@ returns c =
     (sym (c4 .check-type .ensures .0) ∙ ap checked (c .before .before .enum-told .given .1)))
     _ (c .before .has-room .ensures) (not-true _ (c .if1 .taken))
 
--- at `let e = lattice::same_super(t, t, out, TYPE_LEVELS);`
+-- at `let e = lattice::same_super(t, t, out, TYPE_LEVELS, readings::DOCUMENT);`
 same-super-requires : tie.Need-same-super-requires
 same-super-requires c κs =
     let c3 = c .before .before .before in

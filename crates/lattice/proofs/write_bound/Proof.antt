@@ -11,15 +11,15 @@ write-bound-spec =
     (tie.spec
     (λ c κs.
     let c5 = c .before .before .before .before .before in
-    ready-up (c5 .args .up) _ _ _ (c .before .if1 .taken) (c5 .pre))
+    ready-up _ (c5 .args .up) _ _ _ (c .before .if1 .taken) (c5 .pre))
     (λ c. search needs)
     (λ c.
     let c4 = c .before .before .before .before in
-    from-up (c4 .before .before .before .before .args .up) _ _ _ _ _ _ _ (c4 .if1 .taken) (c .before .before .write-super .ensures))
+    from-up _ (c4 .before .before .before .before .args .up) _ _ _ _ _ _ _ (c4 .if1 .taken) (c .before .before .write-super .ensures))
     (λ c κs.
     let c5 = c .before .before .before .before .before in
-    ready-down (c5 .args .up) _ _ _ (c .before .if1 .left) (c5 .pre))
+    ready-down _ (c5 .args .up) _ _ _ (c .before .if1 .left) (c5 .pre))
     (λ c. search needs)
     (λ c.
     let c4 = c .before .before .before .before in
-    from-down (c4 .before .before .before .before .args .up) _ _ _ _ _ _ _ (c4 .if1 .left) (c .before .before .write-sub .ensures)))
+    from-down _ (c4 .before .before .before .before .args .up) _ _ _ _ _ _ _ (c4 .if1 .left) (c .before .before .write-sub .ensures)))
