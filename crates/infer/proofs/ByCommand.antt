@@ -20,10 +20,9 @@ use Rattle.form.specs.Layout.{kindOf, operandsV, operands, widthOf, isLeafComma
 use Rattle.form.specs.Answers.{onto}
 use Rattle.form.proofs.Exact.{bytes-drop}
 use Rattle.form.proofs.Runs.{rest, length-rest}
-use Rattle.order.specs.Order.{fixed}
+use Rattle.order.specs.Order.{Order, Laws}
 use Rattle.order.specs.Size.{size, sizeVal, sizeVals, sizeEntries}
 use Rattle.order.specs.Values.{leafType, isDataBy, areData, holdData}
-use Rattle.order.specs.Inferred.{isData}
 use Rattle.order.proofs.Bools.{and-true}
 use Rattle.order.proofs.Size.{length-enc, size-positive}
 use Rattle.order.proofs.LeastSize.{count-types-of}
@@ -39,21 +38,21 @@ use Rattle.infer.proofs.Trees.{fine, list-is, range-is, context-is, lea
 use Rattle.infer.proofs.OutputFront.{starts-onto, starts-inside, lent-starts, Opened, open-fit, fit, typed, typed-is, behind}
 
 -- ---- a value of which a part is written from k on, behind the bytes `front`; j bytes of the value stand before the part
-pub record Under (m : Bool) (l : ℕ) (s old : List ℕ) {X : Type 0} (sz : X → ℕ) (text : X → List ℕ) (r : Option X) (j k : ℕ) (xs : List ℕ) : Type 0 where
+pub record Under (O : Order) (m : Bool) (l : ℕ) (s old : List ℕ) {X : Type 0} (sz : X → ℕ) (text : X → List ℕ) (r : Option X) (j k : ℕ) (xs : List ℕ) : Type 0 where
   pub v : Val
   pub read : valueAt l s ≡ some v
   pub x : X
   pub part : r ≡ some x
   pub sized : sizeVal v ≡ sz x + j
   pub front : List ℕ
-  pub is : typeText m v ≡ front ++ text x
-  pub short : size (typeBy m v) ≤ sizeVal v
+  pub is : typeText O m v ≡ front ++ text x
+  pub short : size (typeBy O m v) ≤ sizeVal v
   pub roomy : sizeVal v ≤ length old
   pub there : Starts front xs
   pub long : length front ≡ k
   pub same : length xs ≡ length old
 
-module _ {m : Bool} {l : ℕ} {s old : List ℕ} {X : Type 0} {sz : X → ℕ} {text : X → List ℕ} {r : Option X} {j k : ℕ} {xs : List ℕ} (U : Under m l s old sz text r j k xs) where
+module _ {O : Order} {m : Bool} {l : ℕ} {s old : List ℕ} {X : Type 0} {sz : X → ℕ} {text : X → List ℕ} {r : Option X} {j k : ℕ} {xs : List ℕ} (U : Under O m l s old sz text r j k xs) where
   pub under-head : j ≤ length s
   under-head = omega (arith, U .sized, v-inside l s (U .v) (U .read))
 
@@ -70,16 +69,16 @@ module _ {m : Bool} {l : ℕ} {s old : List ℕ} {X : Type 0} {sz : X → ℕ} {
     pub under-read : e + j ≤ length s
     under-read = omega (arith, W .all, U .sized, v-inside l s (U .v) (U .read))
 
-    all-long : w + k ≡ length (typeText m (U .v))
+    all-long : w + k ≡ length (typeText O m (U .v))
     all-long = omega (arith, W .long, U .long, ap length (U .is), length-append (U .front) (text (U .x)))
 
     pub under-wrote : w + k ≤ length s
-    under-wrote = omega (arith, all-long, length-enc (typeBy m (U .v)), U .short, v-inside l s (U .v) (U .read))
+    under-wrote = omega (arith, all-long, length-enc (typeBy O m (U .v)), U .short, v-inside l s (U .v) (U .read))
 
     pub under-kept : length (putMid k (length xs - k) xs ys) ≡ length old
     under-kept = same-len-mid k (length xs - k) xs ys (W .kept) ∙ U .same
 
-    pub under-done : Typed sizeVal (typeText m) (valueAt l s) old (putMid k (length xs - k) xs ys) (e + j) (w + k)
+    pub under-done : Typed sizeVal (typeText O m) (valueAt l s) old (putMid k (length xs - k) xs ys) (e + j) (w + k)
     under-done =
         typed (valueAt l s) (U .v) old (putMid k (length xs - k) xs ys) (e + j) (w + k) (U .read)
         (record {
@@ -90,13 +89,14 @@ module _ {m : Bool} {l : ℕ} {s old : List ℕ} {X : Type 0} {sz : X → ℕ} {
         })
 
 -- with what a call on the part asks
-pub record Part (m : Bool) (l : ℕ) (s old : List ℕ) (spare : ℕ) {X : Type 0} (wf : X → Type 0) (test : X → Bool) (want sz : X → ℕ) (text : X → List ℕ) (r : Option X) (j k : ℕ)
+pub record Part (O : Order) (m : Bool) (l : ℕ) (s old : List ℕ) (spare : ℕ) {X : Type 0} (wf : X → Type 0) (test : X → Bool) (want sz : X → ℕ) (text : X → List ℕ) (r : Option X) (j k : ℕ)
     (xs : List ℕ) : Type 0 where
-  pub under : Under m l s old sz text r j k xs
+  pub under : Under O m l s old sz text r j k xs
   pub fits : Fits wf test want m (under .x) (length old - k) spare
 
-pub part-fits : {m : Bool} {l : ℕ} {s old : List ℕ} {spare : ℕ} {X : Type 0} {wf : X → Type 0} {test : X → Bool} {want sz : X → ℕ} {text : X → List ℕ} {r : Option X} {j k : ℕ} {xs : List ℕ}
-    → Part m l s old spare wf test want sz text r j k xs → Fitting wf test want m r (length (behind k xs)) spare
+pub part-fits : {O : Order} {m : Bool} {l : ℕ} {s old : List ℕ} {spare : ℕ} {X : Type 0} {wf : X → Type 0} {test : X → Bool} {want sz : X → ℕ} {text : X → List ℕ}
+    {r : Option X} {j k : ℕ} {xs : List ℕ}
+    → Part O m l s old spare wf test want sz text r j k xs → Fitting wf test want m r (length (behind k xs)) spare
 part-fits {m = m} {old = old} {spare = spare} {wf = wf} {test = test} {want = want} {r = r} {k = k} {xs = xs} P =
     let e : length old - k ≡ length (behind k xs) = omega (arith, length-rest xs k, P .under .same) in
     fit r (P .under .x) (length (behind k xs)) spare (P .under .part) (subst (λ (z : ℕ). Fits wf test want m (P .under .x) z spare) e (P .fits))
@@ -106,9 +106,9 @@ pub still : (n : ℕ) (xs : List ℕ) (k b : ℕ) → n ≤ length xs → n ≤ 
 still n xs k b h = omega (arith, length-set xs k b)
 
 -- ---- one byte for the whole type
-simple-wrote : (m : Bool) (l : ℕ) (s : List ℕ) (v : Val) → valueAt l s ≡ some v → (b : ℕ) → typeText m v ≡ b ∷ [] → (n : ℕ) → n ≡ sizeVal v → (old : List ℕ) → 1 ≤ length old
-    → Typed sizeVal (typeText m) (valueAt l s) old (set old 0 b) n 1
-simple-wrote m l s v read b t n e old h =
+simple-wrote : (O : Order) (m : Bool) (l : ℕ) (s : List ℕ) (v : Val) → valueAt l s ≡ some v → (b : ℕ) → typeText O m v ≡ b ∷ [] → (n : ℕ) → n ≡ sizeVal v → (old : List ℕ) → 1 ≤ length old
+    → Typed sizeVal (typeText O m) (valueAt l s) old (set old 0 b) n 1
+simple-wrote O m l s v read b t n e old h =
     typed (valueAt l s) v old (set old 0 b) n 1 read
     (record {
       all = e;
@@ -118,24 +118,24 @@ simple-wrote m l s v read b t n e old h =
     })
 
 -- the whole type is the byte b, and the value has n + 1 bytes
-abbrev Simply : Bool → Val → ℕ → ℕ → Type 0
-Simply m v b n = (typeText m v ≡ b ∷ []) × (n + 1 ≡ sizeVal v)
+abbrev Simply : Order → Bool → Val → ℕ → ℕ → Type 0
+Simply O m v b n = (typeText O m v ≡ b ∷ []) × (n + 1 ≡ sizeVal v)
 
-leaf-text : (m : Bool) (x : Leaf) → typeText m (v-leaf x) ≡ (32 + code (leafType x)) ∷ []
+leaf-text : (O : Order) (m : Bool) (x : Leaf) → typeText O m (v-leaf x) ≡ (32 + code (leafType x)) ∷ []
 unfolding enc
-leaf-text m x = ap enc (leaf-is m x)
+leaf-text O m x = ap enc (leaf-is O m x)
 
-module _ (m : Bool) (l : ℕ) (s : List ℕ) where
-  leaf-of : (v : Val) → valueAt l s ≡ some v → isLeafCommand (getD s 0 0) ≡ true → Simply m v (leafTypeCommand (getD s 0 0)) (widthOf (getD s 0 0))
+module _ (O : Order) (m : Bool) (l : ℕ) (s : List ℕ) where
+  leaf-of : (v : Val) → valueAt l s ≡ some v → isLeafCommand (getD s 0 0) ≡ true → Simply O m v (leafTypeCommand (getD s 0 0)) (widthOf (getD s 0 0))
   leaf-of v e h =
       let L = as-leaf l s v e h in
-      subst (λ x. Simply m x (leafTypeCommand (getD s 0 0)) (widthOf (getD s 0 0))) (sym (L .is)) (leaf-text m (L .x) ∙ ap (λ (z : ℕ). z ∷ []) (L .type), L .size)
+      subst (λ x. Simply O m x (leafTypeCommand (getD s 0 0)) (widthOf (getD s 0 0))) (sym (L .is)) (leaf-text O m (L .x) ∙ ap (λ (z : ℕ). z ∷ []) (L .type), L .size)
 
   -- none of the commands that have an arm of their own
   abbrev Other : Type 0
   Other = (((((Unit {0} × (getD s 0 0 ≡ 16 → ⊥)) × (getD s 0 0 ≡ 9 → ⊥)) × (getD s 0 0 ≡ 10 → ⊥)) × (getD s 0 0 ≡ 11 → ⊥)) × (getD s 0 0 ≡ 12 → ⊥)) × (getD s 0 0 ≡ 14 → ⊥)
 
-  other-of : {j : ValueKind} (v : Val) → IsVal l s j v → Other → 9 ≤ getD s 0 0 → Simply m v 32 (widthOf (getD s 0 0))
+  other-of : {j : ValueKind} (v : Val) → IsVal l s j v → Other → 9 ≤ getD s 0 0 → Simply O m v 32 (widthOf (getD s 0 0))
   unfolding enc sizeVal kindOf operands operandsV widthOf
   other-of v (is-null x c) g h = absurd (omega arith)
   other-of v (is-boolean x c) g h = absurd (omega arith)
@@ -146,24 +146,24 @@ module _ (m : Bool) (l : ℕ) (s : List ℕ) where
   other-of v (is-list vs c k e) g h = absurd (g .0 .0 .0 .1 c)
   other-of v (is-context es c k e) g h = absurd (g .0 .0 .1 c)
   other-of v (is-definition r ps b c k e) g h = absurd (g .0 .1 c)
-  other-of v (is-built-in c k) g h = (ap enc (built-in-is m (getD s 1 0)), ap (λ (z : ℕ). widthOf z + 1) c)
+  other-of v (is-built-in c k) g h = (ap enc (built-in-is O m (getD s 1 0)), ap (λ (z : ℕ). widthOf z + 1) c)
   other-of v (is-type t c e) g h = absurd (g .1 c)
-  other-of v (is-irrelevant c) g h = (ap enc (irrelevant-is m), ap (λ (z : ℕ). widthOf z + 1) c)
+  other-of v (is-irrelevant c) g h = (ap enc (irrelevant-is O m), ap (λ (z : ℕ). widthOf z + 1) c)
   other-of v (is-decimal x p c) g h = absurd (g .0 .0 .0 .0 .0 .1 c)
 
 -- ---- the built values
-module _ (m : Bool) (l : ℕ) (s old : List ℕ) (spare : ℕ) (bs : Bytes s) where
+module _ (O : Order) (m : Bool) (l : ℕ) (s old : List ℕ) (spare : ℕ) (bs : Bytes s) where
   abbrev Given : Val → Type 0
-  Given v = (valueAt l s ≡ some v) × (Fits WfV isData sizeVal m v (length old) spare)
+  Given v = (valueAt l s ≡ some v) × (Fits WfV (isDataBy O) sizeVal m v (length old) spare)
 
-  low : (v : Val) → Given v → size (typeBy m v) ≤ sizeVal v
-  low v G = fine m v (G .1 .well) (omega (arith, G .1 .small)) .short
+  low : (v : Val) → Given v → size (typeBy O m v) ≤ sizeVal v
+  low v G = fine O m v (G .1 .well) (omega (arith, G .1 .small)) .short
 
   one : (v : Val) → Given v → 1 ≤ length old
-  one v G = omega (arith, low v G, size-positive (typeBy m v), G .1 .roomy)
+  one v G = omega (arith, low v G, size-positive (typeBy O m v), G .1 .roomy)
 
   abbrev Ranges : Type 0
-  Ranges = Part m l s old spare WfVals (areData fixed) (λ vs. sizeVals vs + 1) sizeVals (innerText m true) (itemsAt (l - 1) 2 (behind 3 s)) 3 1 (set old 0 43)
+  Ranges = Part O m l s old spare WfVals (areData O) (λ vs. sizeVals vs + 1) sizeVals (innerText O m true) (itemsAt (l - 1) 2 (behind 3 s)) 3 1 (set old 0 43)
 
   range-of : (v : Val) → Given v → IsVal l s kRange v → Ranges
   unfolding enc sizeVal WfV isDataBy
@@ -176,7 +176,7 @@ module _ (m : Bool) (l : ℕ) (s old : List ℕ) (spare : ℕ) (bs : Bytes s) wh
           part = ap (itemsAt (l - 1) 2) (rest s 3) ∙ e;
           sized = omega arith;
           front = 43 ∷ [];
-          is = ap enc (range-is m i j a b);
+          is = ap enc (range-is O m i j a b);
           short = low (v-range i j a b) G;
           roomy = G .1 .roomy;
           there = starts-onto (43 ∷ []) old (set old 0 43) (onto-first old 43 (one (v-range i j a b) G));
@@ -185,7 +185,7 @@ module _ (m : Bool) (l : ℕ) (s old : List ℕ) (spare : ℕ) (bs : Bytes s) wh
         };
         fits = record {
           well = (G .1 .well .1 .1 .0, (G .1 .well .1 .1 .1, tt));
-          apt = λ q. ap (λ (z : Bool). isData a && z) (and-true (isData b)) ∙ G .1 .apt q;
+          apt = λ q. ap (λ (z : Bool). isDataBy O a && z) (and-true (isDataBy O b)) ∙ G .1 .apt q;
           roomy = omega (arith, G .1 .roomy);
           spared = omega (arith, G .1 .spared);
           small = omega (arith, G .1 .small);
@@ -193,11 +193,11 @@ module _ (m : Bool) (l : ℕ) (s old : List ℕ) (spare : ℕ) (bs : Bytes s) wh
       }
 
   abbrev Lists : ℕ → Type 0
-  Lists n = Part m l s old spare WfVals (areData fixed) (λ vs. sizeVals vs + 1) sizeVals (innerText m false) (itemsAt (l - 1) n (behind 3 s)) 3 1 (set old 0 42)
+  Lists n = Part O m l s old spare WfVals (areData O) (λ vs. sizeVals vs + 1) sizeVals (innerText O m false) (itemsAt (l - 1) n (behind 3 s)) 3 1 (set old 0 42)
 
-  list-of : (n : ℕ) → n ≡ numAt 2 1 s → (v : Val) → Given v → IsVal l s kList v → Lists n
+  list-of : Laws O → (n : ℕ) → n ≡ numAt 2 1 s → (v : Val) → Given v → IsVal l s kList v → Lists n
   unfolding enc sizeVal WfV isDataBy
-  list-of n w v G (is-list vs c k e) =
+  list-of L n w v G (is-list vs c k e) =
       record {
         under = record {
           v = v-list vs;
@@ -206,7 +206,7 @@ module _ (m : Bool) (l : ℕ) (s old : List ℕ) (spare : ℕ) (bs : Bytes s) wh
           part = ap₂ (λ (z : ℕ) (y : List ℕ). itemsAt (l - 1) z y) w (rest s 3) ∙ e;
           sized = omega arith;
           front = 42 ∷ [];
-          is = ap enc (list-is m vs (G .1 .well .1));
+          is = ap enc (list-is L m vs (G .1 .well .1));
           short = low (v-list vs) G;
           roomy = G .1 .roomy;
           there = starts-onto (42 ∷ []) old (set old 0 42) (onto-first old 42 (one (v-list vs) G));
@@ -226,16 +226,16 @@ module _ (m : Bool) (l : ℕ) (s old : List ℕ) (spare : ℕ) (bs : Bytes s) wh
   three = set (set (set old 0 44) 1 (getD s 1 0)) 2 (getD s 2 0)
 
   abbrev Contexts : ℕ → Type 0
-  Contexts n = Part m l s old spare (λ es. WfEntries es 0) (holdData fixed) sizeEntries sizeEntries (fieldsText m) (entriesAt (l - 1) n 0 (behind 3 s)) 3 3 three
+  Contexts n = Part O m l s old spare (λ es. WfEntries es 0) (holdData O) sizeEntries sizeEntries (fieldsText O m) (entriesAt (l - 1) n 0 (behind 3 s)) 3 3 three
 
   -- the count is the value's
-  context-text : (es : Entries) → valueAt l s ≡ some (v-context es) → typeText m (v-context es) ≡ 44 ∷ getD s 1 0 ∷ getD s 2 0 ∷ fieldsText m es
+  context-text : (es : Entries) → valueAt l s ≡ some (v-context es) → typeText O m (v-context es) ≡ 44 ∷ getD s 1 0 ∷ getD s 2 0 ∷ fieldsText O m es
   unfolding enc encV bytes
   context-text es read =
       let F = encoded l s (v-context es) bs read in
-      ap enc (context-is m es)
-      ∙ ap (λ (z : ℕ). 44 ∷ z % 256 ∷ z / 256 % 256 ∷ fieldsText m es) (count-is m es)
-      ∙ ap₂ (λ (y z : ℕ). 44 ∷ y ∷ z ∷ fieldsText m es) (sym (ap (λ (z : List ℕ). getD z 1 0) (F .bytes))) (sym (ap (λ (z : List ℕ). getD z 2 0) (F .bytes)))
+      ap enc (context-is O m es)
+      ∙ ap (λ (z : ℕ). 44 ∷ z % 256 ∷ z / 256 % 256 ∷ fieldsText O m es) (count-is O m es)
+      ∙ ap₂ (λ (y z : ℕ). 44 ∷ y ∷ z ∷ fieldsText O m es) (sym (ap (λ (z : List ℕ). getD z 1 0) (F .bytes))) (sym (ap (λ (z : List ℕ). getD z 2 0) (F .bytes)))
 
   context-of : (n : ℕ) → n ≡ numAt 2 1 s → (v : Val) → Given v → IsVal l s kContext v → Contexts n
   unfolding sizeVal WfV isDataBy
@@ -268,14 +268,14 @@ module _ (m : Bool) (l : ℕ) (s old : List ℕ) (spare : ℕ) (bs : Bytes s) wh
   two = set (set old 0 45) 1 (getD s 1 0)
 
   abbrev Defines : ℕ → Type 0
-  Defines n = Under m l s old sizeDefinition signatureText (definitionAt (l - 1) n (behind 4 s)) 4 2 two
+  Defines n = Under O m l s old sizeDefinition signatureText (definitionAt (l - 1) n (behind 4 s)) 4 2 two
 
-  function-text : (ps : Params) (b : ℕ) (r : Ty) → valueAt l s ≡ some (v-function ps b r) → (m ≡ true → isData (v-function ps b r) ≡ true)
-      → typeText m (v-function ps b r) ≡ 45 ∷ getD s 1 0 ∷ signatureText (definition r ps)
+  function-text : (ps : Params) (b : ℕ) (r : Ty) → valueAt l s ≡ some (v-function ps b r) → (m ≡ true → isDataBy O (v-function ps b r) ≡ true)
+      → typeText O m (v-function ps b r) ≡ 45 ∷ getD s 1 0 ∷ signatureText (definition r ps)
   unfolding enc encV bytes
   function-text ps b r read d =
       let F = encoded l s (v-function ps b r) bs read in
-      ap enc (function-is m ps b r d)
+      ap enc (function-is O m ps b r d)
       ∙ ap (λ (z : ℕ). 45 ∷ z ∷ signatureText (definition r ps)) (count-types-of ps ∙ sym (ap (λ (z : List ℕ). getD z 1 0) (F .bytes)))
 
   definition-of : (n : ℕ) → n ≡ getD s 1 0 → (v : Val) → Given v → IsVal l s kDefinition v → Defines n
@@ -301,12 +301,12 @@ module _ (m : Bool) (l : ℕ) (s old : List ℕ) (spare : ℕ) (bs : Bytes s) wh
     pub t : Ty
     pub read : valueAt l s ≡ some (v-type t)
     pub at : typeAt (l - 1) (drop 1 s) ≡ some t
-    pub is : typeBy m (v-type t) ≡ t
+    pub is : typeBy O m (v-type t) ≡ t
     pub roomy : 1 + size t ≤ length old
 
   type-of : (v : Val) → Given v → IsVal l s kType v → AType
   unfolding sizeVal
-  type-of v G (is-type t c e) = record { t = t; read = G .0; at = e; is = type-is m t (G .1 .apt); roomy = G .1 .roomy }
+  type-of v G (is-type t c e) = record { t = t; read = G .0; at = e; is = type-is O m t (G .1 .apt); roomy = G .1 .roomy }
 
   size-type : (t : Ty) → sizeVal (v-type t) ≡ 1 + size t
   unfolding sizeVal
@@ -325,89 +325,90 @@ module _ (m : Bool) (l : ℕ) (s old : List ℕ) (spare : ℕ) (bs : Bytes s) wh
     pub type-room : length (take (n + 1 - 1) (drop 1 s)) ≤ length old
     type-room = omega (arith, ap length type-text, length-enc (Y .t), Y .roomy)
 
-    pub type-done : (new : List ℕ) → new ≡ onto (take (n + 1 - 1) (drop 1 s)) old → Typed sizeVal (typeText m) (valueAt l s) old new (n + 1) n
+    pub type-done : (new : List ℕ) → new ≡ onto (take (n + 1 - 1) (drop 1 s)) old → Typed sizeVal (typeText O m) (valueAt l s) old new (n + 1) n
     type-done new e =
-        let q : typeText m (v-type (Y .t)) ≡ enc (Y .t) = ap enc (Y .is) in
+        let q : typeText O m (v-type (Y .t)) ≡ enc (Y .t) = ap enc (Y .is) in
         let f : new ≡ onto (enc (Y .t)) old = e ∙ ap (λ (z : List ℕ). onto z old) type-text in
         typed (valueAt l s) (v-type (Y .t)) old new (n + 1) n (Y .read)
         (record {
           all = omega (arith, size-n, size-type (Y .t));
           long = size-n ∙ sym (ap length q ∙ length-enc (Y .t));
-          out = starts-onto (typeText m (v-type (Y .t))) old new (f ∙ ap (λ (z : List ℕ). onto z old) (sym q));
+          out = starts-onto (typeText O m (v-type (Y .t))) old new (f ∙ ap (λ (z : List ℕ). onto z old) (sym q));
           kept = ap length f ∙ length-onto (enc (Y .t)) old (omega (arith, length-enc (Y .t), Y .roomy));
         })
 
 -- ---- by the command, from what was asked
-module _ (m : Bool) (l : ℕ) (s old spare : List ℕ) (p : FitVal m (valueAt l s) (length old) (length spare)) (bs : Bytes s) where
-  abbrev O : Opened WfV isData sizeVal m (valueAt l s) (length old) (length spare)
-  O = open-fit (valueAt l s) (length old) (length spare) p
+module _ (O : Order) (m : Bool) (l : ℕ) (s old spare : List ℕ) (p : FitVal O m (valueAt l s) (length old) (length spare)) (bs : Bytes s) where
+  abbrev G : Opened WfV (isDataBy O) sizeVal m (valueAt l s) (length old) (length spare)
+  G = open-fit (valueAt l s) (length old) (length spare) p
 
-  abbrev given : Given m l s old (length spare) bs (O .x)
-  given = (O .read, O .fits)
+  abbrev given : Given O m l s old (length spare) bs (G .x)
+  given = (G .read, G .fits)
 
-  abbrev kind : (j : ValueKind) × IsVal l s j (O .x)
-  kind = is-val l s (O .x) (O .read)
+  abbrev kind : (j : ValueKind) × IsVal l s j (G .x)
+  kind = is-val l s (G .x) (G .read)
 
   pub first-byte : 0 < length s
-  first-byte = some-byte l s (O .x) (O .read)
+  first-byte = some-byte l s (G .x) (G .read)
 
   pub level-left : 0 < l
-  level-left = some-level l s (O .x) (O .read)
+  level-left = some-level l s (G .x) (G .read)
 
   pub one-free : 1 ≤ length old
-  one-free = one m l s old (length spare) bs (O .x) given
+  one-free = one O m l s old (length spare) bs (G .x) given
 
-  simply-ends : (b n : ℕ) → Simply m (O .x) b n → n + 1 ≤ length s
-  simply-ends b n N = omega (arith, N .1, v-inside l s (O .x) (O .read))
+  simply-ends : (b n : ℕ) → Simply O m (G .x) b n → n + 1 ≤ length s
+  simply-ends b n N = omega (arith, N .1, v-inside l s (G .x) (G .read))
 
-  simply-done : (b n : ℕ) → Simply m (O .x) b n → (k : ℕ) → k ≡ n → Typed sizeVal (typeText m) (valueAt l s) old (set old 0 b) (k + 1) 1
-  simply-done b n N k e = simple-wrote m l s (O .x) (O .read) b (N .0) (k + 1) (ap (λ (z : ℕ). z + 1) e ∙ N .1) old one-free
+  simply-done : (b n : ℕ) → Simply O m (G .x) b n → (k : ℕ) → k ≡ n → Typed sizeVal (typeText O m) (valueAt l s) old (set old 0 b) (k + 1) 1
+  simply-done b n N k e = simple-wrote O m l s (G .x) (G .read) b (N .0) (k + 1) (ap (λ (z : ℕ). z + 1) e ∙ N .1) old one-free
 
   -- a leaf; b is the command of its type
   module _ (h : isLeafCommand (getD s 0 0) ≡ true) where
     pub leaf-ends : widthOf (getD s 0 0) + 1 ≤ length s
-    leaf-ends = simply-ends _ _ (leaf-of m l s (O .x) (O .read) h)
+    leaf-ends = simply-ends _ _ (leaf-of O m l s (G .x) (G .read) h)
 
-    pub leaf-done : (b : ℕ) → b ≡ leafTypeCommand (getD s 0 0) → (k : ℕ) → k ≡ widthOf (getD s 0 0) → Typed sizeVal (typeText m) (valueAt l s) old (set old 0 b) (k + 1) 1
-    leaf-done b t = simply-done b _ (subst (λ (z : ℕ). Simply m (O .x) z (widthOf (getD s 0 0))) (sym t) (leaf-of m l s (O .x) (O .read) h))
+    pub leaf-done : (b : ℕ) → b ≡ leafTypeCommand (getD s 0 0) → (k : ℕ) → k ≡ widthOf (getD s 0 0) → Typed sizeVal (typeText O m) (valueAt l s) old (set old 0 b) (k + 1) 1
+    leaf-done b t = simply-done b _ (subst (λ (z : ℕ). Simply O m (G .x) z (widthOf (getD s 0 0))) (sym t) (leaf-of O m l s (G .x) (G .read) h))
 
-  plain-done : (b : ℕ) → b ≡ leafTypeCommand (getD s 0 0) → (n : ℕ) → Plain (getD s 0 0) n → Typed sizeVal (typeText m) (valueAt l s) old (set old 0 b) n 1
+  plain-done : (b : ℕ) → b ≡ leafTypeCommand (getD s 0 0) → (n : ℕ) → Plain (getD s 0 0) n → Typed sizeVal (typeText O m) (valueAt l s) old (set old 0 b) n 1
   plain-done b t n P =
-      subst (λ (z : ℕ). Typed sizeVal (typeText m) (valueAt l s) old (set old 0 b) z 1) (sym (P .size)) (leaf-done (leaf-low (getD s 0 0) (P .low)) b t (widthOf (getD s 0 0)) refl)
+      subst (λ (z : ℕ). Typed sizeVal (typeText O m) (valueAt l s) old (set old 0 b) z 1) (sym (P .size)) (leaf-done (leaf-low (getD s 0 0) (P .low)) b t (widthOf (getD s 0 0)) refl)
 
-  module _ (other : Other m l s) where
+  module _ (other : Other O m l s) where
     pub other-ends : 9 ≤ getD s 0 0 → widthOf (getD s 0 0) + 1 ≤ length s
-    other-ends h = simply-ends _ _ (other-of m l s (O .x) (kind .1) other h)
+    other-ends h = simply-ends _ _ (other-of O m l s (G .x) (kind .1) other h)
 
-    pub other-done : 9 ≤ getD s 0 0 → (k : ℕ) → k ≡ widthOf (getD s 0 0) → Typed sizeVal (typeText m) (valueAt l s) old (set old 0 32) (k + 1) 1
-    other-done h = simply-done _ _ (other-of m l s (O .x) (kind .1) other h)
+    pub other-done : 9 ≤ getD s 0 0 → (k : ℕ) → k ≡ widthOf (getD s 0 0) → Typed sizeVal (typeText O m) (valueAt l s) old (set old 0 32) (k + 1) 1
+    other-done h = simply-done _ _ (other-of O m l s (G .x) (kind .1) other h)
 
-  pub in-range : getD s 0 0 ≡ 9 → Ranges m l s old (length spare) bs
-  in-range c = range-of m l s old (length spare) bs (O .x) given (as-range l s (O .x) (O .read) c)
+  pub in-range : getD s 0 0 ≡ 9 → Ranges O m l s old (length spare) bs
+  in-range c = range-of O m l s old (length spare) bs (G .x) given (as-range l s (G .x) (G .read) c)
 
-  pub in-list : (n : ℕ) → n ≡ numAt 2 1 s → getD s 0 0 ≡ 10 → Lists m l s old (length spare) bs n
-  in-list n e c = list-of m l s old (length spare) bs n e (O .x) given (as-list l s (O .x) (O .read) c)
+  pub in-list : Laws O → (n : ℕ) → n ≡ numAt 2 1 s → getD s 0 0 ≡ 10 → Lists O m l s old (length spare) bs n
+  in-list L n e c = list-of O m l s old (length spare) bs L n e (G .x) given (as-list l s (G .x) (G .read) c)
 
-  pub in-context : (n : ℕ) → n ≡ numAt 2 1 s → getD s 0 0 ≡ 11 → Contexts m l s old (length spare) bs n
-  in-context n e c = context-of m l s old (length spare) bs n e (O .x) given (as-context l s (O .x) (O .read) c)
+  pub in-context : (n : ℕ) → n ≡ numAt 2 1 s → getD s 0 0 ≡ 11 → Contexts O m l s old (length spare) bs n
+  in-context n e c = context-of O m l s old (length spare) bs n e (G .x) given (as-context l s (G .x) (G .read) c)
 
-  pub in-definition : (n : ℕ) → n ≡ getD s 1 0 → getD s 0 0 ≡ 12 → Under m l s old sizeDefinition signatureText (definitionAt (l - 1) n (behind 4 s)) 4 2 (set (set old 0 45) 1 (getD s 1 0))
-  in-definition n e c = definition-of m l s old (length spare) bs n e (O .x) given (as-definition l s (O .x) (O .read) c)
+  pub in-definition : (n : ℕ) → n ≡ getD s 1 0 → getD s 0 0 ≡ 12 → Under O m l s old sizeDefinition signatureText (definitionAt (l - 1) n (behind 4 s)) 4 2 (set (set old 0 45) 1 (getD s 1 0))
+  in-definition n e c = definition-of O m l s old (length spare) bs n e (G .x) given (as-definition l s (G .x) (G .read) c)
 
-  pub in-type : getD s 0 0 ≡ 14 → AType m l s old (length spare) bs
-  in-type c = type-of m l s old (length spare) bs (O .x) given (as-type l s (O .x) (O .read) c)
+  pub in-type : getD s 0 0 ≡ 14 → AType O m l s old (length spare) bs
+  in-type c = type-of O m l s old (length spare) bs (G .x) given (as-type l s (G .x) (G .read) c)
 
-pub definition-fits : {m : Bool} {l : ℕ} {s old : List ℕ} {r : Option Definition} {xs : List ℕ} → Under m l s old sizeDefinition signatureText r 4 2 xs → FitDefinition r (length (behind 2 xs))
+pub definition-fits : {O : Order} {m : Bool} {l : ℕ} {s old : List ℕ} {r : Option Definition} {xs : List ℕ} → Under O m l s old sizeDefinition signatureText r 4 2 xs
+    → FitDefinition r (length (behind 2 xs))
 unfolding FitDefinition
 definition-fits {r = r} {xs = xs} U = rw (U .part) (omega (arith, U .sized, U .roomy, U .same, length-rest xs 2))
 
 -- ---- the short way: the type of a leaf at i of s is one byte at j of xs
-module _ (m : Bool) (l : ℕ) (s : List ℕ) (i : ℕ) (xs : List ℕ) (j : ℕ) (spare : List ℕ) (p : FitVal m (valueAt l (behind i s)) (length (behind j xs)) (length spare)) (bs : Bytes s) where
+module _ (O : Order) (m : Bool) (l : ℕ) (s : List ℕ) (i : ℕ) (xs : List ℕ) (j : ℕ) (spare : List ℕ) (p : FitVal O m (valueAt l (behind i s)) (length (behind j xs)) (length spare)) (bs : Bytes s) where
   there : Bytes (behind i s)
   there = subst Bytes (sym (rest s i)) (bytes-drop i s bs)
 
   one-there : 1 ≤ length (behind j xs)
-  one-there = one-free m l (behind i s) (behind j xs) spare p there
+  one-there = one-free O m l (behind i s) (behind j xs) spare p there
 
   pub plain-free : j < length xs
   plain-free = omega (arith, one-there, length-rest xs j)
@@ -419,5 +420,5 @@ module _ (m : Bool) (l : ℕ) (s : List ℕ) (i : ℕ) (xs : List ℕ) (j : ℕ)
   byte-is = let z : i + 0 ≡ i = omega arith in ap (λ (r : List ℕ). getD r 0 0) (rest s i) ∙ getD-drop i s 0 0 ∙ ap (λ (k : ℕ). getD s k 0) z
 
   pub plain-told : (b : ℕ) → b ≡ leafTypeCommand (getD s i 0) → (k : ℕ) → Plain (getD (behind i s) 0 0) k
-      → Typed sizeVal (typeText m) (valueAt l (behind i s)) (behind j xs) (set (behind j xs) 0 b) k 1
-  plain-told b t k P = plain-done m l (behind i s) (behind j xs) spare p there b (t ∙ ap leafTypeCommand (sym byte-is)) k P
+      → Typed sizeVal (typeText O m) (valueAt l (behind i s)) (behind j xs) (set (behind j xs) 0 b) k 1
+  plain-told b t k P = plain-done O m l (behind i s) (behind j xs) spare p there b (t ∙ ap leafTypeCommand (sym byte-is)) k P

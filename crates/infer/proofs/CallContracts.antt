@@ -23,7 +23,8 @@ use Rattle.form.specs.ByteForm.{Accepted}
 use Rattle.form.proofs.ExactValues.{read-encV}
 use Rattle.form.proofs.Values.{value-told, value-accepted}
 use Rattle.order.specs.Size.{sizeVal}
-use Rattle.order.specs.Inferred.{isData}
+use Rattle.order.specs.Order.{Order, fixed}
+use Rattle.order.specs.Values.{isDataBy}
 use Rattle.order.proofs.LeastSize.{length-encV}
 use Rattle.types.specs.At.{Ok}
 use Rattle.types.proofs.Reading.{got-seen, is-ok}
@@ -31,7 +32,7 @@ use Rattle.values.specs.At.{valueAt}
 use Rattle.output.proofs.Outcomes.{built-refused, built-short, built-wrote}
 use Rattle.output.proofs.OntoLaws.{onto-front}
 use Rattle.infer.specs.Typing.{dataBy, typeBy, Fits, Fitting, FitVal, Starts, Wrote, Typed, typeText}
-use Rattle.infer.specs.Calls.{wanted, leastTypeCall, typeOfCall, ReadyFor, Ready, typeCall}
+use Rattle.infer.specs.Calls.{wanted, leastTypeBy, typeOfCall, ReadyFor, Ready, typeCall}
 use Rattle.infer.specs.declared.data.Data.{Data}
 use Rattle.infer.specs.declared.data.Data.the-variants.{Yes, No}
 use Rattle.infer.proofs.OnlyData.{told-yes, told-no, by-got}
@@ -60,69 +61,6 @@ fine s n bs e = let T = value-told s bs n e in fine-of s bs (T .tree) (T .reads)
 pub fine-ok : {s : List ℕ} (F : Fine s) → Ok (valueAt valueLevels s)
 fine-ok {s} F = is-ok (valueAt valueLevels s) (F .v) (F .there)
 
--- ---- what `build` asks
-pub ask : (least : Bool) (s : List ℕ) (F : Fine s) → Bytes s → (least ≡ true → isData (F .v) ≡ true) → Ready least s
-unfolding ReadyFor
-ask least s F bs h = (bs, rw (F .reads) h)
-
-abbrev ready-fine : (least : Bool) (s : List ℕ) → Ready least s → (F : Fine s) × (least ≡ true → isData (F .v) ≡ true)
-unfolding ReadyFor
-ready-fine least s h = go (readValue s) refl (h .1)
-  where
-    go : (o : Outcome Val) → readValue s ≡ o → ReadyFor least o → (F : Fine s) × (least ≡ true → isData (F .v) ≡ true)
-    go (done v) e k = (fine-of s (h .0) v e, k)
-    go (refused n) e k = absurd k
-
-fit-of : (least : Bool) (x : Option Val) (v : Val) (room spare : ℕ) → x ≡ some v → Fits WfV isData sizeVal least v room spare → FitVal least x room spare
-unfolding Fitting
-fit-of least x v room spare e h = rw e h
-
-typed-is : (least : Bool) (x : Option Val) (v : Val) (old new : List ℕ) (n w : ℕ) → x ≡ some v → Typed sizeVal (typeText least) x old new n w → Wrote sizeVal (typeText least) v old new n w
-unfolding Typed
-typed-is least x v old new n w e h = rw e at h
-
-module _ (least : Bool) (s : List ℕ) (k : ℕ) (old : List ℕ) (h : Ready least s) where
-  abbrev F : Fine s
-  F = ready-fine least s h .0
-
-  pub build-long : length s ≤ mostBytes
-  build-long = F .short
-
-  pub build-scratch : k < 4 * length s → Built (typeCall least s k (length old)) old old (written-is.Refused 14)
-  unfolding typeCall _>>=_ _>>_
-  build-scratch l = built-refused (typeCall least s k (length old)) 14 old is
-    where
-      is : typeCall least s k (length old) ≡ refused 14
-      is = rw (F .reads, lt-leb (wanted s) k l)
-
-  module _ (l : 4 * length s ≤ k) where
-    call-is : typeCall least s k (length old) ≡ fits (length old) (enc (typeBy least (F .v)))
-    unfolding typeCall _>>=_ _>>_
-    call-is = rw (F .reads, le-leb (wanted s) k l)
-
-    pub build-ask : (spare : ℕ) → length s ≤ spare → FitVal least (valueAt valueLevels s) k spare
-    build-ask spare g =
-        fit-of least (valueAt valueLevels s) (F .v) k spare (F .there)
-        (record { well = F .well; apt = ready-fine least s h .1; roomy = omega (arith, F .sized); spared = omega (arith, F .sized); small = omega (arith, F .sized, F .short) })
-
-    module _ (sc sc2 : List ℕ) (n w : ℕ) (c : Typed sizeVal (typeText least) (valueAt valueLevels s) sc sc2 n w) where
-      W : Wrote sizeVal (typeText least) (F .v) sc sc2 n w
-      W = typed-is least (valueAt valueLevels s) (F .v) sc sc2 n w (F .there) c
-
-      part : take w sc2 ≡ enc (typeBy least (F .v))
-      unfolding Starts
-      part = ap (take w) (W .out) ∙ onto-front (enc (typeBy least (F .v))) sc2 w (W .long)
-
-      pub build-inside : w ≤ length sc2
-      unfolding Starts onto
-      build-inside = omega (arith, W .long, ap length (W .out), length-append (enc (typeBy least (F .v))) (drop (length (enc (typeBy least (F .v)))) sc2))
-
-      pub build-short : length old < w → Built (typeCall least s k (length old)) old old (written-is.Refused 18)
-      build-short b = built-short (typeCall least s k (length old)) (enc (typeBy least (F .v))) old call-is (omega (arith, W .long))
-
-      pub build-done : (new : List ℕ) → w ≤ length old → new ≡ onto (take w sc2) old → Built (typeCall least s k (length old)) old new (written-is.Bytes w)
-      build-done new b o = built-wrote (typeCall least s k (length old)) (enc (typeBy least (F .v))) old new w call-is (W .long) (omega (arith, W .long)) (o ∙ ap (λ (z : List ℕ). onto z old) part)
-
 -- ---- the calls
 pub type-refused : (s : List ℕ) (n k : ℕ) (old : List ℕ) → readValue s ≡ refused n → Built (typeOfCall s k (length old)) old old (written-is.Refused n)
 unfolding typeOfCall _>>=_
@@ -131,35 +69,100 @@ type-refused s n k old e = built-refused (typeOfCall s k (length old)) n old is
     is : typeOfCall s k (length old) ≡ refused n
     is = rw e
 
-pub type-done : (s : List ℕ) (k : ℕ) (old new : List ℕ) (r : Written) → Built (typeCall false s k (length old)) old new r → Built (typeOfCall s k (length old)) old new r
+pub type-done : (s : List ℕ) (k : ℕ) (old new : List ℕ) (r : Written) → Built (typeCall fixed false s k (length old)) old new r → Built (typeOfCall s k (length old)) old new r
 unfolding typeCall typeOfCall
 type-done s k old new r b = b
 
-pub least-refused : (s : List ℕ) (n k : ℕ) (old : List ℕ) → readValue s ≡ refused n → Built (leastTypeCall s k (length old)) old old (written-is.Refused n)
-unfolding leastTypeCall _>>=_
-least-refused s n k old e = built-refused (leastTypeCall s k (length old)) n old is
-  where
-    is : leastTypeCall s k (length old) ≡ refused n
-    is = rw e
+module _ (O : Order) where
+  -- ---- what `build` asks
+  pub ask : (least : Bool) (s : List ℕ) (F : Fine s) → Bytes s → (least ≡ true → isDataBy O (F .v) ≡ true) → Ready O least s
+  unfolding ReadyFor
+  ask least s F bs h = (bs, rw (F .reads) h)
 
-module _ (s : List ℕ) (F : Fine s) (d : Data) (e : d ≡ dataBy isData sizeVal (valueAt valueLevels s)) where
-  is-told : d ≡ cond (isData (F .v)) (Yes (sizeVal (F .v))) No
-  is-told = e ∙ by-got isData sizeVal (valueAt valueLevels s) (F .v) (F .there)
-
-  pub is-data : (n : ℕ) → d ≡ Yes n → isData (F .v) ≡ true
-  is-data n p = told-yes (isData (F .v)) (sizeVal (F .v)) n (sym is-told ∙ p) .0
-
-  pub least-other : d ≡ No → (k : ℕ) (old : List ℕ) → Built (leastTypeCall s k (length old)) old old (written-is.Refused 13)
-  unfolding leastTypeCall _>>=_ _>>_
-  least-other p k old = built-refused (leastTypeCall s k (length old)) 13 old is
+  abbrev ready-fine : (least : Bool) (s : List ℕ) → Ready O least s → (F : Fine s) × (least ≡ true → isDataBy O (F .v) ≡ true)
+  unfolding ReadyFor
+  ready-fine least s h = go (readValue s) refl (h .1)
     where
-      is : leastTypeCall s k (length old) ≡ refused 13
-      is = rw (F .reads, told-no (isData (F .v)) (sizeVal (F .v)) (sym is-told ∙ p))
+      go : (o : Outcome Val) → readValue s ≡ o → ReadyFor O least o → (F : Fine s) × (least ≡ true → isDataBy O (F .v) ≡ true)
+      go (done v) e k = (fine-of s (h .0) v e, k)
+      go (refused n) e k = absurd k
 
-pub least-done : (s : List ℕ) (F : Fine s) → isData (F .v) ≡ true → (k : ℕ) (old new : List ℕ) (r : Written) → Built (typeCall true s k (length old)) old new r
-    → Built (leastTypeCall s k (length old)) old new r
-unfolding typeCall leastTypeCall _>>=_ _>>_
-least-done s F h k old new r b = subst (λ o. Built o old new r) is b
-  where
-    is : typeCall true s k (length old) ≡ leastTypeCall s k (length old)
-    is = rw (F .reads, h)
+  fit-of : (least : Bool) (x : Option Val) (v : Val) (room spare : ℕ) → x ≡ some v → Fits WfV (isDataBy O) sizeVal least v room spare → FitVal O least x room spare
+  unfolding Fitting
+  fit-of least x v room spare e h = rw e h
+
+  typed-is : (least : Bool) (x : Option Val) (v : Val) (old new : List ℕ) (n w : ℕ) → x ≡ some v → Typed sizeVal (typeText O least) x old new n w → Wrote sizeVal (typeText O least) v old new n w
+  unfolding Typed
+  typed-is least x v old new n w e h = rw e at h
+
+  module _ (least : Bool) (s : List ℕ) (k : ℕ) (old : List ℕ) (h : Ready O least s) where
+    abbrev F : Fine s
+    F = ready-fine least s h .0
+
+    pub build-long : length s ≤ mostBytes
+    build-long = F .short
+
+    pub build-scratch : k < 4 * length s → Built (typeCall O least s k (length old)) old old (written-is.Refused 14)
+    unfolding typeCall _>>=_ _>>_
+    build-scratch l = built-refused (typeCall O least s k (length old)) 14 old is
+      where
+        is : typeCall O least s k (length old) ≡ refused 14
+        is = rw (F .reads, lt-leb (wanted s) k l)
+
+    module _ (l : 4 * length s ≤ k) where
+      call-is : typeCall O least s k (length old) ≡ fits (length old) (enc (typeBy O least (F .v)))
+      unfolding typeCall _>>=_ _>>_
+      call-is = rw (F .reads, le-leb (wanted s) k l)
+
+      pub build-ask : (spare : ℕ) → length s ≤ spare → FitVal O least (valueAt valueLevels s) k spare
+      build-ask spare g =
+          fit-of least (valueAt valueLevels s) (F .v) k spare (F .there)
+          (record { well = F .well; apt = ready-fine least s h .1; roomy = omega (arith, F .sized); spared = omega (arith, F .sized); small = omega (arith, F .sized, F .short) })
+
+      module _ (sc sc2 : List ℕ) (n w : ℕ) (c : Typed sizeVal (typeText O least) (valueAt valueLevels s) sc sc2 n w) where
+        W : Wrote sizeVal (typeText O least) (F .v) sc sc2 n w
+        W = typed-is least (valueAt valueLevels s) (F .v) sc sc2 n w (F .there) c
+
+        part : take w sc2 ≡ enc (typeBy O least (F .v))
+        unfolding Starts
+        part = ap (take w) (W .out) ∙ onto-front (enc (typeBy O least (F .v))) sc2 w (W .long)
+
+        pub build-inside : w ≤ length sc2
+        unfolding Starts onto
+        build-inside = omega (arith, W .long, ap length (W .out), length-append (enc (typeBy O least (F .v))) (drop (length (enc (typeBy O least (F .v)))) sc2))
+
+        pub build-short : length old < w → Built (typeCall O least s k (length old)) old old (written-is.Refused 18)
+        build-short b = built-short (typeCall O least s k (length old)) (enc (typeBy O least (F .v))) old call-is (omega (arith, W .long))
+
+        pub build-done : (new : List ℕ) → w ≤ length old → new ≡ onto (take w sc2) old → Built (typeCall O least s k (length old)) old new (written-is.Bytes w)
+        build-done new b o = built-wrote (typeCall O least s k (length old)) (enc (typeBy O least (F .v))) old new w call-is (W .long) (omega (arith, W .long))
+            (o ∙ ap (λ (z : List ℕ). onto z old) part)
+
+  pub least-refused : (s : List ℕ) (n k : ℕ) (old : List ℕ) → readValue s ≡ refused n → Built (leastTypeBy O s k (length old)) old old (written-is.Refused n)
+  unfolding leastTypeBy _>>=_
+  least-refused s n k old e = built-refused (leastTypeBy O s k (length old)) n old is
+    where
+      is : leastTypeBy O s k (length old) ≡ refused n
+      is = rw e
+
+  module _ (s : List ℕ) (F : Fine s) (d : Data) (e : d ≡ dataBy (isDataBy O) sizeVal (valueAt valueLevels s)) where
+    is-told : d ≡ cond (isDataBy O (F .v)) (Yes (sizeVal (F .v))) No
+    is-told = e ∙ by-got (isDataBy O) sizeVal (valueAt valueLevels s) (F .v) (F .there)
+
+    pub is-data : (n : ℕ) → d ≡ Yes n → isDataBy O (F .v) ≡ true
+    is-data n p = told-yes (isDataBy O (F .v)) (sizeVal (F .v)) n (sym is-told ∙ p) .0
+
+    pub least-other : d ≡ No → (k : ℕ) (old : List ℕ) → Built (leastTypeBy O s k (length old)) old old (written-is.Refused 13)
+    unfolding leastTypeBy _>>=_ _>>_
+    least-other p k old = built-refused (leastTypeBy O s k (length old)) 13 old is
+      where
+        is : leastTypeBy O s k (length old) ≡ refused 13
+        is = rw (F .reads, told-no (isDataBy O (F .v)) (sizeVal (F .v)) (sym is-told ∙ p))
+
+  pub least-done : (s : List ℕ) (F : Fine s) → isDataBy O (F .v) ≡ true → (k : ℕ) (old new : List ℕ) (r : Written) → Built (typeCall O true s k (length old)) old new r
+      → Built (leastTypeBy O s k (length old)) old new r
+  unfolding typeCall leastTypeBy _>>=_ _>>_
+  least-done s F h k old new r b = subst (λ o. Built o old new r) is b
+    where
+      is : typeCall O true s k (length old) ≡ leastTypeBy O s k (length old)
+      is = rw (F .reads, h)

@@ -17,11 +17,10 @@ use Rattle.form.specs.Form.{Bytes, enc, encV, level, levelV, Wf, WfV, WfVals}
 use Rattle.form.specs.Layout.{leafTypeCommand}
 use Rattle.form.proofs.Exact.{Found, bytes-drop}
 use Rattle.form.proofs.Runs.{length-rest}
-use Rattle.order.specs.Order.{fixed}
+use Rattle.order.specs.Order.{Order}
 use Rattle.order.specs.Types.{reduce}
 use Rattle.order.specs.Size.{size, sizeVal, sizeVals}
-use Rattle.order.specs.Values.{areData}
-use Rattle.order.specs.Inferred.{isData}
+use Rattle.order.specs.Values.{isDataBy, areData}
 use Rattle.order.proofs.Size.{length-enc}
 use Rattle.types.specs.At.{typeAt}
 use Rattle.types.proofs.ChildAt.{item-behind}
@@ -33,7 +32,7 @@ use Rattle.infer.proofs.Trees.{Fine, fine, Sound, sound, type-reduced, 
 use Rattle.infer.proofs.OutputFront.{starts-onto, starts-read, lent-front, lent-back, Opened, open-fit, fit, typed, typed-is, sides, reduced, joined-is, behind}
 use Rattle.infer.proofs.ByCommand.{plain-free, plain-put, plain-told}
 
-pub record ItemsInv (m equal : Bool) (l : ℕ) (v : List ℕ) (n : ℕ) (old spare₀ out spare : List ℕ) (at to i : ℕ) : Type 0 where
+pub record ItemsInv (O : Order) (m equal : Bool) (l : ℕ) (v : List ℕ) (n : ℕ) (old spare₀ out spare : List ℕ) (at to i : ℕ) : Type 0 where
   -- all, what is left of them, and the type so far
   pub whole : Vals
   pub left : Vals
@@ -43,13 +42,13 @@ pub record ItemsInv (m equal : Bool) (l : ℕ) (v : List ℕ) (n : ℕ) (old spa
   pub in-v : at ≤ length v
   pub read : itemsAt l (n - i) (drop at v) ≡ some left
   pub sized : at + sizeVals left ≡ sizeVals whole
-  pub type : taken m equal t left ≡ inner m equal whole
+  pub type : taken O m equal t left ≡ inner O m equal whole
   pub wf : Wf t
-  pub reduced : m ≡ true → reduce fixed t ≡ t
+  pub reduced : m ≡ true → reduce O t ≡ t
   pub long : size t ≡ to
   pub low : to ≤ at
   pub levels : level t ≤ typeLevels
-  pub apt : m ≡ true → areData fixed left ≡ true
+  pub apt : m ≡ true → areData O left ≡ true
   pub room : sizeVals whole + 1 ≤ length old
   pub spared : sizeVals whole + 1 ≤ length spare₀
   pub small : sizeVals whole + 1 ≤ mostBytes
@@ -61,33 +60,33 @@ leaf-text : enc (leaf null) ≡ 41 ∷ []
 unfolding enc
 leaf-text = refl
 
-inner-none : (m equal : Bool) → inner m equal no-items ≡ leaf null
+inner-none : (O : Order) (m equal : Bool) → inner O m equal no-items ≡ leaf null
 unfolding inner
-inner-none m equal = refl
+inner-none O m equal = refl
 
-inner-item : (m equal : Bool) (v : Val) (vs : Vals) → taken m equal (typeBy m v) vs ≡ inner m equal (item v vs)
+inner-item : (O : Order) (m equal : Bool) (v : Val) (vs : Vals) → taken O m equal (typeBy O m v) vs ≡ inner O m equal (item v vs)
 unfolding inner
-inner-item m equal v vs = refl
+inner-item O m equal v vs = refl
 
-taken-none : (m equal : Bool) (t : Ty) → taken m equal t no-items ≡ t
+taken-none : (O : Order) (m equal : Bool) (t : Ty) → taken O m equal t no-items ≡ t
 unfolding taken
-taken-none m equal t = refl
+taken-none O m equal t = refl
 
-taken-item : (m equal : Bool) (t : Ty) (v : Val) (vs : Vals) → taken m equal (joined m equal t (typeBy m v)) vs ≡ taken m equal t (item v vs)
+taken-item : (O : Order) (m equal : Bool) (t : Ty) (v : Val) (vs : Vals) → taken O m equal (joined O m equal t (typeBy O m v)) vs ≡ taken O m equal t (item v vs)
 unfolding taken
-taken-item m equal t v vs = refl
+taken-item O m equal t v vs = refl
 
-module _ (m equal : Bool) (l : ℕ) (s : List ℕ) (n : ℕ) (old spare₀ : List ℕ) (p : FitItems m (itemsAt l n s) (length old) (length spare₀)) where
-  abbrev K : Opened WfVals (areData fixed) (λ vs. sizeVals vs + 1) m (itemsAt l n s) (length old) (length spare₀)
+module _ (O : Order) (m equal : Bool) (l : ℕ) (s : List ℕ) (n : ℕ) (old spare₀ : List ℕ) (p : FitItems O m (itemsAt l n s) (length old) (length spare₀)) where
+  abbrev K : Opened WfVals (areData O) (λ vs. sizeVals vs + 1) m (itemsAt l n s) (length old) (length spare₀)
   K = open-fit (itemsAt l n s) (length old) (length spare₀) p
 
   pub items-one : 1 ≤ length old
   items-one = omega (arith, K .fits .roomy)
 
-  pub items-none : n ≡ 0 → Typed sizeVals (innerText m equal) (itemsAt l n s) old (set old 0 41) 0 1
+  pub items-none : n ≡ 0 → Typed sizeVals (innerText O m equal) (itemsAt l n s) old (set old 0 41) 0 1
   items-none z =
       let e : K .x ≡ no-items = no-item l s (K .x) (ap (λ (k : ℕ). itemsAt l k s) (sym z) ∙ K .read) in
-      let t : innerText m equal (K .x) ≡ 41 ∷ [] = ap (innerText m equal) e ∙ ap enc (inner-none m equal) ∙ leaf-text in
+      let t : innerText O m equal (K .x) ≡ 41 ∷ [] = ap (innerText O m equal) e ∙ ap enc (inner-none O m equal) ∙ leaf-text in
       typed (itemsAt l n s) (K .x) old (set old 0 41) 0 1 (K .read)
       (record {
         all = sym (ap sizeVals e ∙ items-sizes .size-nil);
@@ -104,10 +103,10 @@ module _ (m equal : Bool) (l : ℕ) (s : List ℕ) (n : ℕ) (old spare₀ : Lis
     first-text : Found encV WfV levelV l s (F .x) (sizeVal (F .x))
     first-text = encoded l s (F .x) bs (F .first)
 
-    first-apt : (m ≡ true → isData (F .x) ≡ true) × (m ≡ true → areData fixed (F .more) ≡ true)
-    first-apt = data-item m (F .x) (F .more) (λ q. ap (areData fixed) (sym (F .is)) ∙ K .fits .apt q)
+    first-apt : (m ≡ true → isDataBy O (F .x) ≡ true) × (m ≡ true → areData O (F .more) ≡ true)
+    first-apt = data-item O m (F .x) (F .more) (λ q. ap (areData O) (sym (F .is)) ∙ K .fits .apt q)
 
-    pub items-first : FitVal m (valueAt l s) (length old) (length spare₀)
+    pub items-first : FitVal O m (valueAt l s) (length old) (length spare₀)
     items-first =
         fit (valueAt l s) (F .x) (length old) (length spare₀) (F .first)
         (record {
@@ -118,28 +117,28 @@ module _ (m equal : Bool) (l : ℕ) (s : List ℕ) (n : ℕ) (old spare₀ : Lis
           small = omega (arith, K .fits .small, F .sized);
         })
 
-    pub items-kept : (out : List ℕ) (e w : ℕ) → Typed sizeVal (typeText m) (valueAt l s) old out e w → length out ≡ length old
+    pub items-kept : (out : List ℕ) (e w : ℕ) → Typed sizeVal (typeText O m) (valueAt l s) old out e w → length out ≡ length old
     items-kept out e w T = typed-is (valueAt l s) (F .x) old out e w (F .first) T .kept
 
-    pub items-start : (out spare : List ℕ) (e w : ℕ) → Typed sizeVal (typeText m) (valueAt l s) old out e w → length spare ≡ length spare₀ → ItemsInv m equal l s n out spare out spare e w 1
+    pub items-start : (out spare : List ℕ) (e w : ℕ) → Typed sizeVal (typeText O m) (valueAt l s) old out e w → length spare ≡ length spare₀ → ItemsInv O m equal l s n out spare out spare e w 1
     items-start out spare e w T k =
         let W = typed-is (valueAt l s) (F .x) old out e w (F .first) T in
-        let G = fine m (F .x) (first-text .well) (omega (arith, K .fits .small, F .sized)) in
+        let G = fine O m (F .x) (first-text .well) (omega (arith, K .fits .small, F .sized)) in
         let z : 0 + sizeVal (F .x) ≡ e = omega (arith, W .all) in
         record {
           whole = K .x;
           left = F .more;
-          t = typeBy m (F .x);
+          t = typeBy O m (F .x);
           read-all = K .read;
           below = omega arith;
           in-v = omega (arith, F .fits, W .all);
           read = ap (λ (z : ℕ). itemsAt l (n - 1) (drop z s)) (sym z) ∙ F .second;
           sized = omega (arith, F .sized, W .all);
-          type = inner-item m equal (F .x) (F .more) ∙ ap (inner m equal) (sym (F .is));
+          type = inner-item O m equal (F .x) (F .more) ∙ ap (inner O m equal) (sym (F .is));
           wf = G .wf;
-          reduced = type-reduced m (F .x);
-          long = omega (arith, W .long, length-enc (typeBy m (F .x)));
-          low = omega (arith, W .all, W .long, length-enc (typeBy m (F .x)), G .short);
+          reduced = type-reduced O m (F .x);
+          long = omega (arith, W .long, length-enc (typeBy O m (F .x)));
+          low = omega (arith, W .all, W .long, length-enc (typeBy O m (F .x)), G .short);
           levels = omega (arith, G .low, first-text .low);
           apt = first-apt .1;
           room = omega (arith, K .fits .roomy, W .kept);
@@ -150,7 +149,7 @@ module _ (m equal : Bool) (l : ℕ) (s : List ℕ) (n : ℕ) (old spare₀ : Lis
           state = W .out;
         }
 
-module _ {m equal : Bool} {l : ℕ} {s : List ℕ} {n : ℕ} {old spare₀ out spare : List ℕ} {at to i : ℕ} (Q : ItemsInv m equal l s n old spare₀ out spare at to i) (bs : Bytes s) where
+module _ {O : Order} {m equal : Bool} {l : ℕ} {s : List ℕ} {n : ℕ} {old spare₀ out spare : List ℕ} {at to i : ℕ} (Q : ItemsInv O m equal l s n old spare₀ out spare at to i) (bs : Bytes s) where
   pub item-room : to ≤ length out
   item-room = omega (arith, Q .room, Q .out-len, Q .low, Q .sized)
 
@@ -162,10 +161,10 @@ module _ {m equal : Bool} {l : ℕ} {s : List ℕ} {n : ℕ} {old spare₀ out s
     text : Found encV WfV levelV l (drop at s) (N .x) (sizeVal (N .x))
     text = encoded l (drop at s) (N .x) (bytes-drop at s bs) (N .first)
 
-    apt : (m ≡ true → isData (N .x) ≡ true) × (m ≡ true → areData fixed (N .more) ≡ true)
-    apt = data-item m (N .x) (N .more) (λ q. ap (areData fixed) (sym (N .is)) ∙ Q .apt q)
+    apt : (m ≡ true → isDataBy O (N .x) ≡ true) × (m ≡ true → areData O (N .more) ≡ true)
+    apt = data-item O m (N .x) (N .more) (λ q. ap (areData O) (sym (N .is)) ∙ Q .apt q)
 
-    pub item-fits : FitVal m (valueAt l (behind at s)) (length (behind to out)) (length spare)
+    pub item-fits : FitVal O m (valueAt l (behind at s)) (length (behind to out)) (length spare)
     item-fits =
         fit (valueAt l (behind at s)) (N .x) (length (behind to out)) (length spare) (item-behind N)
         (record {
@@ -176,21 +175,21 @@ module _ {m equal : Bool} {l : ℕ} {s : List ℕ} {n : ℕ} {old spare₀ out s
           small = omega (arith, Q .small, Q .sized, N .sized);
         })
 
-    module _ (levels : l ≤ valueLevels) (ys sp : List ℕ) (e w : ℕ) (T : Typed sizeVal (typeText m) (valueAt l (behind at s)) (behind to out) ys e w) (k : length sp ≡ length spare) where
-      abbrev W : Wrote sizeVal (typeText m) (N .x) (behind to out) ys e w
+    module _ (levels : l ≤ valueLevels) (ys sp : List ℕ) (e w : ℕ) (T : Typed sizeVal (typeText O m) (valueAt l (behind at s)) (behind to out) ys e w) (k : length sp ≡ length spare) where
+      abbrev W : Wrote sizeVal (typeText O m) (N .x) (behind to out) ys e w
       W = typed-is (valueAt l (behind at s)) (N .x) (behind to out) ys e w (item-behind N) T
 
       abbrev xs : List ℕ
       xs = putMid to (length out - to) out ys
 
       abbrev u : Ty
-      u = typeBy m (N .x)
+      u = typeBy O m (N .x)
 
-      good : Fine m (N .x)
-      good = fine m (N .x) (text .well) (omega (arith, Q .small, Q .sized, N .sized))
+      good : Fine O m (N .x)
+      good = fine O m (N .x) (text .well) (omega (arith, Q .small, Q .sized, N .sized))
 
-      both : Sound (Q .t) u (joined m equal (Q .t) u)
-      both = sound m equal (Q .t) u (Q .wf) (good .wf) (omega (arith, good .short, Q .small, Q .low, Q .long, Q .sized, N .sized))
+      both : Sound (Q .t) u (joined O m equal (Q .t) u)
+      both = sound O m equal (Q .t) u (Q .wf) (good .wf) (omega (arith, good .short, Q .small, Q .low, Q .long, Q .sized, N .sized))
 
       pub item-read : at + e ≤ length s
       item-read = omega (arith, N .fits, W .all)
@@ -223,14 +222,14 @@ module _ {m equal : Bool} {l : ℕ} {s : List ℕ} {n : ℕ} {old spare₀ out s
             wf-second = good .wf;
           })
 
-      pub item-reduced : Reduced m (typeAt typeLevels xs)
-      item-reduced = reduced m (typeAt typeLevels xs) (Q .t) read-t (Q .reduced)
+      pub item-reduced : Reduced O m (typeAt typeLevels xs)
+      item-reduced = reduced O m (typeAt typeLevels xs) (Q .t) read-t (Q .reduced)
 
-      pub item-next : (zs sp₂ : List ℕ) (r : ℕ) → Joined m equal (typeAt typeLevels xs) (typeAt typeLevels (drop to xs)) xs zs r → length sp₂ ≡ length sp
-          → ItemsInv m equal l s n old spare₀ zs sp₂ (at + e) r (i + 1)
+      pub item-next : (zs sp₂ : List ℕ) (r : ℕ) → Joined O m equal (typeAt typeLevels xs) (typeAt typeLevels (drop to xs)) xs zs r → length sp₂ ≡ length sp
+          → ItemsInv O m equal l s n old spare₀ zs sp₂ (at + e) r (i + 1)
       item-next zs sp₂ r J k₂ =
-          let S = joined-is m equal (typeAt typeLevels xs) (typeAt typeLevels (drop to xs)) (Q .t) u xs zs r read-t read-u J in
-          let j = joined m equal (Q .t) u in
+          let S = joined-is O m equal (typeAt typeLevels xs) (typeAt typeLevels (drop to xs)) (Q .t) u xs zs r read-t read-u J in
+          let j = joined O m equal (Q .t) u in
           record {
             whole = Q .whole;
             left = N .more;
@@ -240,9 +239,9 @@ module _ {m equal : Bool} {l : ℕ} {s : List ℕ} {n : ℕ} {old spare₀ out s
             in-v = item-read;
             read = ap (λ (z : ℕ). itemsAt l (n - (i + 1)) (drop (at + z) s)) (W .all) ∙ N .second;
             sized = omega (arith, Q .sized, N .sized, W .all);
-            type = taken-item m equal (Q .t) (N .x) (N .more) ∙ ap (taken m equal (Q .t)) (sym (N .is)) ∙ Q .type;
+            type = taken-item O m equal (Q .t) (N .x) (N .more) ∙ ap (taken O m equal (Q .t)) (sym (N .is)) ∙ Q .type;
             wf = both .wf;
-            reduced = joined-reduced m equal (Q .t) u;
+            reduced = joined-reduced O m equal (Q .t) u;
             long = sym (length-enc j) ∙ sym (S .long);
             low = omega (arith, S .long, length-enc j, both .short, Q .long, Q .low, good .short, W .all);
             levels = omega (arith, both .low, Q .levels, good .low, text .low);
@@ -263,18 +262,18 @@ module _ {m equal : Bool} {l : ℕ} {s : List ℕ} {n : ℕ} {old spare₀ out s
     item-byte = omega (arith, item-some, length-rest s at)
 
     pub item-free : to < length out
-    item-free = plain-free m l s at out to spare item-fits bs
+    item-free = plain-free O m l s at out to spare item-fits bs
 
     -- b is the command of the leaf's type
     module _ (levels : l ≤ valueLevels) (b : ℕ) (t : b ≡ leafTypeCommand (getD s at 0)) (k : ℕ) (P : Plain (getD (behind at s) 0 0) k) where
       abbrev ys : List ℕ
       ys = set (behind to out) 0 b
 
-      told : Typed sizeVal (typeText m) (valueAt l (behind at s)) (behind to out) ys k 1
-      told = plain-told m l s at out to spare item-fits bs b t k P
+      told : Typed sizeVal (typeText O m) (valueAt l (behind at s)) (behind to out) ys k 1
+      told = plain-told O m l s at out to spare item-fits bs b t k P
 
       put : putMid to (length out - to) out ys ≡ set out to b
-      put = plain-put m l s at out to spare item-fits bs b
+      put = plain-put O m l s at out to spare item-fits bs b
 
       pub leaf-read : at + k ≤ length s
       leaf-read = item-read levels ys spare k 1 told refl
@@ -282,18 +281,18 @@ module _ {m equal : Bool} {l : ℕ} {s : List ℕ} {n : ℕ} {old spare₀ out s
       pub leaf-sides : Sides (typeAt typeLevels (set out to b)) (typeAt typeLevels (drop to (set out to b))) (set out to b) to 1 (length spare)
       leaf-sides = subst (λ (z : List ℕ). Sides (typeAt typeLevels z) (typeAt typeLevels (drop to z)) z to 1 (length spare)) put (item-sides levels ys spare k 1 told refl)
 
-      pub leaf-reduced : Reduced m (typeAt typeLevels (set out to b))
-      leaf-reduced = subst (λ (z : List ℕ). Reduced m (typeAt typeLevels z)) put (item-reduced levels ys spare k 1 told refl)
+      pub leaf-reduced : Reduced O m (typeAt typeLevels (set out to b))
+      leaf-reduced = subst (λ (z : List ℕ). Reduced O m (typeAt typeLevels z)) put (item-reduced levels ys spare k 1 told refl)
 
-      pub leaf-next : (zs sp : List ℕ) (r : ℕ) → Joined m equal (typeAt typeLevels (set out to b)) (typeAt typeLevels (drop to (set out to b))) (set out to b) zs r → length sp ≡ length spare
-          → ItemsInv m equal l s n old spare₀ zs sp (at + k) r (i + 1)
+      pub leaf-next : (zs sp : List ℕ) (r : ℕ) → Joined O m equal (typeAt typeLevels (set out to b)) (typeAt typeLevels (drop to (set out to b))) (set out to b) zs r → length sp ≡ length spare
+          → ItemsInv O m equal l s n old spare₀ zs sp (at + k) r (i + 1)
       leaf-next zs sp r J e =
-          item-next levels ys spare k 1 told refl zs sp r (subst (λ (z : List ℕ). Joined m equal (typeAt typeLevels z) (typeAt typeLevels (drop to z)) z zs r) (sym put) J) e
+          item-next levels ys spare k 1 told refl zs sp r (subst (λ (z : List ℕ). Joined O m equal (typeAt typeLevels z) (typeAt typeLevels (drop to z)) z zs r) (sym put) J) e
 
-  pub items-done : n ≤ i → (first : List ℕ) → length old ≡ length first → Typed sizeVals (innerText m equal) (itemsAt l n s) first out at to
+  pub items-done : n ≤ i → (first : List ℕ) → length old ≡ length first → Typed sizeVals (innerText O m equal) (itemsAt l n s) first out at to
   items-done h first k =
       let e : Q .left ≡ no-items = no-nth l i n at s (Q .left) h (Q .read) in
-      let t : Q .t ≡ inner m equal (Q .whole) = sym (ap (taken m equal (Q .t)) e ∙ taken-none m equal (Q .t)) ∙ Q .type in
+      let t : Q .t ≡ inner O m equal (Q .whole) = sym (ap (taken O m equal (Q .t)) e ∙ taken-none O m equal (Q .t)) ∙ Q .type in
       typed (itemsAt l n s) (Q .whole) first out at to (Q .read-all)
       (record {
         all = omega (arith, Q .sized, ap sizeVals e, items-sizes .size-nil);

@@ -17,10 +17,10 @@ use Rattle.form.specs.Form.{Bytes, enc, Wf}
 use Rattle.form.specs.Answers.{onto}
 use Rattle.form.proofs.Types.{enc-same}
 use Rattle.form.proofs.Runs.{rest}
-use Rattle.order.specs.Order.{up, fixed}
-use Rattle.order.specs.Types.{reduce}
+use Rattle.order.specs.Order.{up, Order, Laws, fixed}
+use Rattle.order.specs.Types.{reduce, sup}
 use Rattle.order.specs.Size.{size}
-use Rattle.order.specs.Document.{conformsTo, eqTy, supertype}
+use Rattle.order.specs.Document.{conformsTo, eqTy}
 use Rattle.order.proofs.Simple.{fixed-laws}
 use Rattle.order.proofs.Laws.{le-refl}
 use Rattle.order.proofs.Equal.{eq-ty-same, eq-ty-self}
@@ -65,11 +65,11 @@ two (some t) (some u) s n m spare h = record { t = t; u = u; read-t = refl; read
 two (some t) none s n m spare h = absurd h
 two none y s n m spare h = absurd h
 
--- a type with itself: its supertype is its reduced form, and it conforms to itself
-joined-twice : (a b : Bool) (t : Ty) → Wf t → (a ≡ true → reduce fixed t ≡ t) → joined a b t t ≡ t
-joined-twice true b t w h = self up t (asc-of t w) ∙ h refl
-joined-twice false true t w h = ap (λ x. cond x t (leaf any)) (eq-ty-self t)
-joined-twice false false t w h = ap (λ x. cond x t (leaf any)) (le-refl fixed fixed-laws t (asc-of t w))
+-- a type with itself: its sup O is its reduced form, and it conforms to itself
+joined-twice : {O : Order} → Laws O → (a b : Bool) (t : Ty) → Wf t → (a ≡ true → reduce O t ≡ t) → joined O a b t t ≡ t
+joined-twice {O} L true b t w h = self L up t (asc-of t w) ∙ h refl
+joined-twice {O} L false true t w h = ap (λ x. cond x t (leaf any)) (eq-ty-self t)
+joined-twice {O} L false false t w h = ap (λ x. cond x t (leaf any)) (le-refl fixed fixed-laws t (asc-of t w))
 
 is-kept : (x y : Option Ty) (t u : Ty) (q r : Bool) → x ≡ some t → y ≡ some u → r ≡ keepsFirst q t u → Kept q x y r
 unfolding Kept
@@ -79,13 +79,13 @@ kept-is : (x y : Option Ty) (t u : Ty) (q r : Bool) → x ≡ some t → y ≡ s
 unfolding Kept
 kept-is x y t u q r p p' h = rw (p, p') at h
 
-reduced-is : (x : Option Ty) (t : Ty) (a : Bool) → x ≡ some t → Reduced a x → a ≡ true → reduce fixed t ≡ t
+reduced-is : (O : Order) (x : Option Ty) (t : Ty) (a : Bool) → x ≡ some t → Reduced O a x → a ≡ true → reduce O t ≡ t
 unfolding Reduced
-reduced-is x t a p h = rw p at h
+reduced-is O x t a p h = rw p at h
 
-is-joined : (x y : Option Ty) (t u : Ty) (a b : Bool) (old new : List ℕ) (r : ℕ) → x ≡ some t → y ≡ some u → Stands (joined a b t u) old new r → Joined a b x y old new r
+is-joined : (O : Order) (x y : Option Ty) (t u : Ty) (a b : Bool) (old new : List ℕ) (r : ℕ) → x ≡ some t → y ≡ some u → Stands (joined O a b t u) old new r → Joined O a b x y old new r
 unfolding Joined
-is-joined x y t u a b old new r p q h = rw (p, q) h
+is-joined O x y t u a b old new r p q h = rw (p, q) h
 
 module _ (s : List ℕ) (n m spare : ℕ) (h : Sides (typeAt typeLevels s) (typeAt typeLevels (drop n s)) s n m spare) where
   T : Two (typeAt typeLevels s) (typeAt typeLevels (drop n s)) s n m spare
@@ -115,8 +115,8 @@ module _ (s : List ℕ) (n m spare : ℕ) (h : Sides (typeAt typeLevels s) (type
       (λ p. g .1 (first-bytes bs ∙ ap enc (eq-ty-same (T .t) (T .u) p) ∙ sym d))
       ∙ ap (λ x. keepsFirst x (T .t) (T .u)) (sym e))
 
-  module _ (q : Bool) (e : q ≡ false) (r t : ℕ) (w : Met (conformOf (typeAt typeLevels (take (length s - n) (drop n s))) (typeAt typeLevels s)) r t) where
-    told : Met (conformOf (typeAt typeLevels (drop n s)) (typeAt typeLevels s)) r t
+  module _ (q : Bool) (e : q ≡ false) (r t : ℕ) (w : Met (conformOf fixed (typeAt typeLevels (take (length s - n) (drop n s))) (typeAt typeLevels s)) r t) where
+    told : Met (conformOf fixed (typeAt typeLevels (drop n s)) (typeAt typeLevels s)) r t
     told = rw (rest s n) at w
 
     pub kept-conforms : (r ≡ 0 → ⊥) → Kept q (typeAt typeLevels s) (typeAt typeLevels (drop n s)) true
@@ -143,69 +143,70 @@ module _ (s : List ℕ) (n m spare : ℕ) (h : Sides (typeAt typeLevels s) (type
         wf-second = T .side .wf-second;
       })
 
-  sup-size : size (supertype (T .t) (T .u)) ≤ n + m
-  sup-size = omega (arith, size-sup fixed (T .t) (T .u) (asc-of (T .t) (T .side .wf-first)), T .side .first, T .side .second)
+  module _ (O : Order) where
+    sup-size : size (sup O (T .t) (T .u)) ≤ n + m
+    sup-size = omega (arith, size-sup O (T .t) (T .u) (asc-of (T .t) (T .side .wf-first)), T .side .first, T .side .second)
 
-  pub join-ask : Ready (ofTypes up) (typeAt typeLevels s) (typeAt typeLevels (take (length s - n) (drop n s))) spare
-  join-ask =
-      ready (ofTypes up) (typeAt typeLevels s) (typeAt typeLevels (take (length s - n) (drop n s))) (T .t) (T .u) spare (T .read-t) (ap (typeAt typeLevels) (rest s n) ∙ T .read-u)
-      (omega (arith, sup-size, T .side .spared)) (omega (arith, sup-size, T .side .small))
+    pub join-ask : Ready (ofTypes O up) (typeAt typeLevels s) (typeAt typeLevels (take (length s - n) (drop n s))) spare
+    join-ask =
+        ready (ofTypes O up) (typeAt typeLevels s) (typeAt typeLevels (take (length s - n) (drop n s))) (T .t) (T .u) spare (T .read-t) (ap (typeAt typeLevels) (rest s n) ∙ T .read-u)
+        (omega (arith, sup-size, T .side .spared)) (omega (arith, sup-size, T .side .small))
 
-  module _ (sc sc2 : List ℕ) (i j w : ℕ) (sp : spare ≡ length sc) (c : Combined (ofTypes up) (typeAt typeLevels s) (typeAt typeLevels (take (length s - n) (drop n s))) sc sc2 i j w) where
-    W : Wrote (ofTypes up) (T .t) (T .u) sc sc2 i j w
-    W = combined-is (ofTypes up) (typeAt typeLevels s) (typeAt typeLevels (take (length s - n) (drop n s))) (T .t) (T .u) sc sc2 i j w (T .read-t) (ap (typeAt typeLevels) (rest s n) ∙ T .read-u) c
+    module _ (sc sc2 : List ℕ) (i j w : ℕ) (sp : spare ≡ length sc) (c : Combined (ofTypes O up) (typeAt typeLevels s) (typeAt typeLevels (take (length s - n) (drop n s))) sc sc2 i j w) where
+      W : Wrote (ofTypes O up) (T .t) (T .u) sc sc2 i j w
+      W = combined-is (ofTypes O up) (typeAt typeLevels s) (typeAt typeLevels (take (length s - n) (drop n s))) (T .t) (T .u) sc sc2 i j w (T .read-t) (ap (typeAt typeLevels) (rest s n) ∙ T .read-u) c
 
-    long : w ≡ length (enc (supertype (T .t) (T .u)))
-    long = W .long ∙ sym (length-enc (supertype (T .t) (T .u)))
+      long : w ≡ length (enc (sup O (T .t) (T .u)))
+      long = W .long ∙ sym (length-enc (sup O (T .t) (T .u)))
 
-    pub sup-spared : w ≤ spare
-    sup-spared = omega (arith, W .long, sup-size, T .side .spared)
+      pub sup-spared : w ≤ spare
+      sup-spared = omega (arith, W .long, sup-size, T .side .spared)
 
-    pub sup-inside : w ≤ length s
-    sup-inside = omega (arith, W .long, sup-size, T .side .inside)
+      pub sup-inside : w ≤ length s
+      sup-inside = omega (arith, W .long, sup-size, T .side .inside)
 
-    pub sup-kept : length sc2 ≡ length sc
-    sup-kept = ap length (W .out) ∙ length-onto (enc (supertype (T .t) (T .u))) sc (omega (arith, sup-spared, long, sp))
+      pub sup-kept : length sc2 ≡ length sc
+      sup-kept = ap length (W .out) ∙ length-onto (enc (sup O (T .t) (T .u))) sc (omega (arith, sup-spared, long, sp))
 
-    pub joined-super : (a b : Bool) → a ≡ true → (new : List ℕ) → new ≡ onto (take w sc2) s → Joined a b (typeAt typeLevels s) (typeAt typeLevels (drop n s)) s new w
-    joined-super a b e new o =
-        let part : take w sc2 ≡ enc (supertype (T .t) (T .u)) = ap (take w) (W .out) ∙ onto-front (enc (supertype (T .t) (T .u))) sc w long in
-        let new-is : new ≡ onto (enc (supertype (T .t) (T .u))) s = o ∙ ap (λ z. onto z s) part in
-        is-joined (typeAt typeLevels s) (typeAt typeLevels (drop n s)) (T .t) (T .u) a b s new w (T .read-t) (T .read-u)
-        (subst (λ x. Stands (joined x b (T .t) (T .u)) s new w) (sym e)
-        (record {
-          long = long;
-          out = subst (Starts (enc (supertype (T .t) (T .u)))) (sym new-is) (onto-again (enc (supertype (T .t) (T .u))) s);
-          kept = ap length new-is
-              ∙ length-onto (enc (supertype (T .t) (T .u))) s (omega (arith, long, sup-inside));
-        }))
+      pub joined-super : (a b : Bool) → a ≡ true → (new : List ℕ) → new ≡ onto (take w sc2) s → Joined O a b (typeAt typeLevels s) (typeAt typeLevels (drop n s)) s new w
+      joined-super a b e new o =
+          let part : take w sc2 ≡ enc (sup O (T .t) (T .u)) = ap (take w) (W .out) ∙ onto-front (enc (sup O (T .t) (T .u))) sc w long in
+          let new-is : new ≡ onto (enc (sup O (T .t) (T .u))) s = o ∙ ap (λ z. onto z s) part in
+          is-joined O (typeAt typeLevels s) (typeAt typeLevels (drop n s)) (T .t) (T .u) a b s new w (T .read-t) (T .read-u)
+          (subst (λ x. Stands (joined O x b (T .t) (T .u)) s new w) (sym e)
+          (record {
+            long = long;
+            out = subst (Starts (enc (sup O (T .t) (T .u)))) (sym new-is) (onto-again (enc (sup O (T .t) (T .u))) s);
+            kept = ap length new-is
+                ∙ length-onto (enc (sup O (T .t) (T .u))) s (omega (arith, long, sup-inside));
+          }))
 
-  joined-by : (a b r : Bool) → a ≡ false → Kept b (typeAt typeLevels s) (typeAt typeLevels (drop n s)) r → joined a b (T .t) (T .u) ≡ cond r (T .t) (leaf any)
-  joined-by a b r e k =
-      ap (λ x. joined x b (T .t) (T .u)) e ∙ ap (λ x. cond x (T .t) (leaf any)) (sym (kept-is (typeAt typeLevels s) (typeAt typeLevels (drop n s)) (T .t) (T .u) b r (T .read-t) (T .read-u) k))
+    joined-by : (a b r : Bool) → a ≡ false → Kept b (typeAt typeLevels s) (typeAt typeLevels (drop n s)) r → joined O a b (T .t) (T .u) ≡ cond r (T .t) (leaf any)
+    joined-by a b r e k =
+        ap (λ x. joined O x b (T .t) (T .u)) e ∙ ap (λ x. cond x (T .t) (leaf any)) (sym (kept-is (typeAt typeLevels s) (typeAt typeLevels (drop n s)) (T .t) (T .u) b r (T .read-t) (T .read-u) k))
 
-  -- nothing was written: the first type stands as it is
-  stays : Bytes s → (a b : Bool) → joined a b (T .t) (T .u) ≡ T .t → Joined a b (typeAt typeLevels s) (typeAt typeLevels (drop n s)) s s n
-  stays bs a b e =
-      let z : n ≡ length (enc (T .t)) = T .side .first ∙ sym (length-enc (T .t)) in
-      is-joined (typeAt typeLevels s) (typeAt typeLevels (drop n s)) (T .t) (T .u) a b s s n (T .read-t) (T .read-u)
-      (subst (λ x. Stands x s s n) (sym e) (record { long = z; out = starts-taken (enc (T .t)) s n z (first-bytes bs); kept = refl }))
+    -- nothing was written: the first type stands as it is
+    stays : Bytes s → (a b : Bool) → joined O a b (T .t) (T .u) ≡ T .t → Joined O a b (typeAt typeLevels s) (typeAt typeLevels (drop n s)) s s n
+    stays bs a b e =
+        let z : n ≡ length (enc (T .t)) = T .side .first ∙ sym (length-enc (T .t)) in
+        is-joined O (typeAt typeLevels s) (typeAt typeLevels (drop n s)) (T .t) (T .u) a b s s n (T .read-t) (T .read-u)
+        (subst (λ x. Stands x s s n) (sym e) (record { long = z; out = starts-taken (enc (T .t)) s n z (first-bytes bs); kept = refl }))
 
-  pub joined-first : Bytes s → (a b r : Bool) → a ≡ false → Kept b (typeAt typeLevels s) (typeAt typeLevels (drop n s)) r → r ≡ true
-      → Joined a b (typeAt typeLevels s) (typeAt typeLevels (drop n s)) s s n
-  joined-first bs a b r e k y = stays bs a b (joined-by a b r e k ∙ ap (λ x. cond x (T .t) (leaf any)) y)
+    pub joined-first : Bytes s → (a b r : Bool) → a ≡ false → Kept b (typeAt typeLevels s) (typeAt typeLevels (drop n s)) r → r ≡ true
+        → Joined O a b (typeAt typeLevels s) (typeAt typeLevels (drop n s)) s s n
+    joined-first bs a b r e k y = stays bs a b (joined-by a b r e k ∙ ap (λ x. cond x (T .t) (leaf any)) y)
 
-  -- equal types stay as they are
-  pub joined-same : Bytes s → (a b r : Bool) → Reduced a (typeAt typeLevels s) → Kept true (typeAt typeLevels s) (typeAt typeLevels (drop n s)) r → r ≡ true
-      → Joined a b (typeAt typeLevels s) (typeAt typeLevels (drop n s)) s s n
-  joined-same bs a b r h k y =
-      let same : T .t ≡ T .u = eq-ty-same (T .t) (T .u) (sym (kept-is (typeAt typeLevels s) (typeAt typeLevels (drop n s)) (T .t) (T .u) true r (T .read-t) (T .read-u) k) ∙ y) in
-      stays bs a b (ap (joined a b (T .t)) (sym same) ∙ joined-twice a b (T .t) (T .side .wf-first) (reduced-is (typeAt typeLevels s) (T .t) a (T .read-t) h))
+    -- equal types stay as they are
+    pub joined-same : Laws O → Bytes s → (a b r : Bool) → Reduced O a (typeAt typeLevels s) → Kept true (typeAt typeLevels s) (typeAt typeLevels (drop n s)) r → r ≡ true
+        → Joined O a b (typeAt typeLevels s) (typeAt typeLevels (drop n s)) s s n
+    joined-same L bs a b r h k y =
+        let same : T .t ≡ T .u = eq-ty-same (T .t) (T .u) (sym (kept-is (typeAt typeLevels s) (typeAt typeLevels (drop n s)) (T .t) (T .u) true r (T .read-t) (T .read-u) k) ∙ y) in
+        stays bs a b (ap (joined O a b (T .t)) (sym same) ∙ joined-twice L a b (T .t) (T .side .wf-first) (reduced-is O (typeAt typeLevels s) (T .t) a (T .read-t) h))
 
-  pub joined-any : (a b r : Bool) → a ≡ false → Kept b (typeAt typeLevels s) (typeAt typeLevels (drop n s)) r → r ≡ false
-      → Joined a b (typeAt typeLevels s) (typeAt typeLevels (drop n s)) s (set s 0 32) 1
-  unfolding enc
-  joined-any a b r e k y =
-      is-joined (typeAt typeLevels s) (typeAt typeLevels (drop n s)) (T .t) (T .u) a b s (set s 0 32) 1 (T .read-t) (T .read-u)
-      (subst (λ x. Stands x s (set s 0 32) 1) (sym (joined-by a b r e k ∙ ap (λ x. cond x (T .t) (leaf any)) y))
-      (record { long = refl; out = subst (Starts (32 ∷ [])) (sym (onto-first s 32 first-byte)) (onto-again (32 ∷ []) s); kept = length-set s 0 32 }))
+    pub joined-any : (a b r : Bool) → a ≡ false → Kept b (typeAt typeLevels s) (typeAt typeLevels (drop n s)) r → r ≡ false
+        → Joined O a b (typeAt typeLevels s) (typeAt typeLevels (drop n s)) s (set s 0 32) 1
+    unfolding enc
+    joined-any a b r e k y =
+        is-joined O (typeAt typeLevels s) (typeAt typeLevels (drop n s)) (T .t) (T .u) a b s (set s 0 32) 1 (T .read-t) (T .read-u)
+        (subst (λ x. Stands x s (set s 0 32) 1) (sym (joined-by a b r e k ∙ ap (λ x. cond x (T .t) (leaf any)) y))
+        (record { long = refl; out = subst (Starts (32 ∷ [])) (sym (onto-first s 32 first-byte)) (onto-again (32 ∷ []) s); kept = length-set s 0 32 }))

@@ -16,7 +16,7 @@ use Rattle.form.specs.Form.{enc, level, Wf}
 use Rattle.form.specs.Read.{readT}
 use Rattle.form.specs.Answers.{onto}
 use Rattle.form.proofs.ExactTypes.{read-enc}
-use Rattle.order.specs.Order.{fixed}
+use Rattle.order.specs.Order.{Order}
 use Rattle.order.specs.Types.{reduce}
 use Rattle.types.specs.At.{typeAt}
 use Rattle.types.proofs.Reading.{got-seen}
@@ -99,13 +99,14 @@ pub sides : (x y : Option Ty) (t u : Ty) (s : List ℕ) (n m spare : ℕ) → x 
 unfolding Sides
 sides x y t u s n m spare e f h = rw (e, f) h
 
-pub reduced : (m : Bool) (x : Option Ty) (t : Ty) → x ≡ some t → (m ≡ true → reduce fixed t ≡ t) → Reduced m x
+pub reduced : (O : Order) (m : Bool) (x : Option Ty) (t : Ty) → x ≡ some t → (m ≡ true → reduce O t ≡ t) → Reduced O m x
 unfolding Reduced
-reduced m x t e h = rw e h
+reduced O m x t e h = rw e h
 
-pub joined-is : (m equal : Bool) (x y : Option Ty) (t u : Ty) (old new : List ℕ) (n : ℕ) → x ≡ some t → y ≡ some u → Joined m equal x y old new n → Stands (joined m equal t u) old new n
+pub joined-is : (O : Order) (m equal : Bool) (x y : Option Ty) (t u : Ty) (old new : List ℕ) (n : ℕ) → x ≡ some t → y ≡ some u → Joined O m equal x y old new n
+    → Stands (joined O m equal t u) old new n
 unfolding Joined
-joined-is m equal x y t u old new n e f h = rw (e, f) at h
+joined-is O m equal x y t u old new n e f h = rw (e, f) at h
 
 -- what `&s[n..]` is
 abbrev pub behind : ℕ → List ℕ → List ℕ

@@ -11,14 +11,15 @@ use mathlib.Core.Bool.{Bool, true, false, cond, _&&_, false≢true}
 use Rattle.form.specs.Trees.{any, null, Ty, leaf, built, list, range, context, function, no-fields, field, Leaf, Params, Val, v-leaf, v-range, v-list, v-context, v-function}
 use Rattle.form.specs.Trees.{v-built-in, v-type, v-irrelevant, Vals, no-items, item, Entries, no-entries, entry}
 use Rattle.form.specs.Form.{level, levelV, Wf, WfV, WfVals, countFields, countEntries}
-use Rattle.order.specs.Order.{up, fixed}
-use Rattle.order.specs.Types.{reduce}
+use Rattle.order.specs.Order.{up, Order, Laws, fixed}
+use Rattle.order.specs.Types.{reduce, bound, sup}
 use Rattle.order.specs.Size.{size, sizeVal}
 use Rattle.order.specs.Values.{leafType, typesOf, isDataBy, areData, holdData, least, leastItems}
-use Rattle.order.specs.Document.{conformsTo, supertype}
-use Rattle.order.specs.Inferred.{isData, leastType, listType, typeOf, firstType, itemsBelow}
+use Rattle.order.specs.Document.{conformsTo}
+use Rattle.order.specs.Inferred.{listType, typeOf, firstType, itemsBelow}
 use Rattle.order.proofs.Simple.{fixed-laws, and-left, and-right}
-use Rattle.order.proofs.Laws.{le-refl, sup-reduced}
+use Rattle.order.proofs.Conform.{reduce-reduce, reduce-strict}
+use Rattle.order.proofs.Laws.{le-refl}
 use Rattle.order.proofs.Size.{size-positive, level-positive, size-sup, level-sup}
 use Rattle.order.proofs.WellFormed.{asc-of, wf-sup}
 use Rattle.order.proofs.Least.{least-reduced}
@@ -28,14 +29,14 @@ use Rattle.lattice.proofs.BoundTrees as bounds
 use Rattle.infer.specs.Typing.{typeBy, fieldsBy, keepsFirst, joined, taken, inner}
 
 -- ---- a value's type is well-formed, no longer than the value, at most one level deeper
-pub record Fine (least : Bool) (v : Val) : Type 0 where
-  pub wf : Wf (typeBy least v)
-  pub short : size (typeBy least v) ≤ sizeVal v
-  pub low : level (typeBy least v) ≤ levelV v + 1
+pub record Fine (O : Order) (m : Bool) (v : Val) : Type 0 where
+  pub wf : Wf (typeBy O m v)
+  pub short : size (typeBy O m v) ≤ sizeVal v
+  pub low : level (typeBy O m v) ≤ levelV v + 1
 
-pub fine : (m : Bool) (v : Val) → WfV v → sizeVal v < 65536 → Fine m v
-fine true v w h = record { wf = wf-least fixed v w h; short = size-least fixed v w; low = level-least fixed v }
-fine false v w h = record { wf = wf-type-of v w h; short = size-type-of v; low = level-type-of v }
+pub fine : (O : Order) (m : Bool) (v : Val) → WfV v → sizeVal v < 65536 → Fine O m v
+fine O true v w h = record { wf = wf-least O v w h; short = size-least O v w; low = level-least O v }
+fine O false v w h = record { wf = wf-type-of v w h; short = size-type-of v; low = level-type-of v }
 
 -- ---- two types joined
 pub record Sound (t u j : Ty) : Type 0 where
@@ -48,126 +49,126 @@ unfolding Wf size level
 kept true t u w = record { wf = w; short = omega arith; low = omega arith }
 kept false t u w = record { wf = tt; short = omega (arith, size-positive t); low = omega (arith, level-positive t) }
 
-pub sound : (m equal : Bool) (t u : Ty) → Wf t → Wf u → size t + size u < 65536 → Sound t u (joined m equal t u)
-sound true equal t u v w h = record { wf = wf-sup fixed t u v w h; short = size-sup fixed t u (asc-of t v); low = level-sup fixed t u }
-sound false equal t u v w h = kept (keepsFirst equal t u) t u v
+pub sound : (O : Order) (m equal : Bool) (t u : Ty) → Wf t → Wf u → size t + size u < 65536 → Sound t u (joined O m equal t u)
+sound O true equal t u v w h = record { wf = wf-sup O t u v w h; short = size-sup O t u (asc-of t v); low = level-sup O t u }
+sound O false equal t u v w h = kept (keepsFirst equal t u) t u v
 
 -- ---- least types are reduced
-pub type-reduced : (m : Bool) (v : Val) → m ≡ true → reduce fixed (typeBy m v) ≡ typeBy m v
-type-reduced true v e = least-reduced fixed v
-type-reduced false v e = absurd (false≢true e)
+pub type-reduced : (O : Order) (m : Bool) (v : Val) → m ≡ true → reduce O (typeBy O m v) ≡ typeBy O m v
+type-reduced O true v e = least-reduced O v
+type-reduced O false v e = absurd (false≢true e)
 
-pub joined-reduced : (m equal : Bool) (t u : Ty) → m ≡ true → reduce fixed (joined m equal t u) ≡ joined m equal t u
-joined-reduced true equal t u e = sup-reduced fixed fixed-laws t u
-joined-reduced false equal t u e = absurd (false≢true e)
+pub joined-reduced : (O : Order) (m equal : Bool) (t u : Ty) → m ≡ true → reduce O (joined O m equal t u) ≡ joined O m equal t u
+joined-reduced O true equal t u e = reduce-reduce O (bound O up t u)
+joined-reduced O false equal t u e = absurd (false≢true e)
 
 -- ---- a list
-null-first : (t : Ty) → reduce fixed t ≡ t → supertype (leaf null) t ≡ t
-null-first t h = bounds.least up (leaf null) t refl .1 ∙ h
+null-first : {O : Order} → Laws O → (t : Ty) → reduce O t ≡ t → sup O (leaf null) t ≡ t
+null-first {O} L t h = bounds.least L up (leaf null) t refl .1 ∙ h
 
-taken-least : (equal : Bool) (t : Ty) (vs : Vals) → leastItems fixed vs t ≡ taken true equal t vs
+taken-least : (O : Order) (equal : Bool) (t : Ty) (vs : Vals) → leastItems O vs t ≡ taken O true equal t vs
 unfolding least taken
-taken-least equal t no-items = refl
-taken-least equal t (item v vs) = taken-least equal (supertype t (leastType v)) vs
+taken-least O equal t no-items = refl
+taken-least O equal t (item v vs) = taken-least O equal (sup O t (least O v)) vs
 
 -- the fold may start at the first item
-least-list : (vs : Vals) → leastItems fixed vs (leaf null) ≡ inner true false vs
+least-list : {O : Order} → Laws O → (vs : Vals) → leastItems O vs (leaf null) ≡ inner O true false vs
 unfolding least inner
-least-list no-items = refl
-least-list (item v vs) = ap (leastItems fixed vs) (null-first (leastType v) (least-reduced fixed v)) ∙ taken-least false (leastType v) vs
+least-list {O} L no-items = refl
+least-list {O} L (item v vs) = ap (leastItems O vs) (null-first L (least O v) (least-reduced O v)) ∙ taken-least O false (least O v) vs
 
 same-both : (q : Bool) (t : Ty) → cond q t t ≡ t
 same-both true t = refl
 same-both false t = refl
 
 -- Any stays
-taken-any : (vs : Vals) → taken false false (leaf any) vs ≡ leaf any
+taken-any : (O : Order) (vs : Vals) → taken O false false (leaf any) vs ≡ leaf any
 unfolding taken
-taken-any no-items = refl
-taken-any (item v vs) = ap (λ t. taken false false t vs) (same-both (conformsTo (typeOf v) (leaf any)) (leaf any)) ∙ taken-any vs
+taken-any O no-items = refl
+taken-any O (item v vs) = ap (λ t. taken O false false t vs) (same-both (conformsTo (typeOf v) (leaf any)) (leaf any)) ∙ taken-any O vs
 
-taken-below : (t : Ty) (vs : Vals) → cond (itemsBelow vs (some t)) t (leaf any) ≡ taken false false t vs
+taken-below : (O : Order) (t : Ty) (vs : Vals) → cond (itemsBelow vs (some t)) t (leaf any) ≡ taken O false false t vs
 unfolding taken typeOf
-taken-below t no-items = refl
-taken-below t (item v vs) = go (conformsTo (typeOf v) t) (taken-below t vs)
+taken-below O t no-items = refl
+taken-below O t (item v vs) = go (conformsTo (typeOf v) t) (taken-below O t vs)
   where
-    go : (q : Bool) → cond (itemsBelow vs (some t)) t (leaf any) ≡ taken false false t vs → cond (q && itemsBelow vs (some t)) t (leaf any) ≡ taken false false (cond q t (leaf any)) vs
+    go : (q : Bool) → cond (itemsBelow vs (some t)) t (leaf any) ≡ taken O false false t vs → cond (q && itemsBelow vs (some t)) t (leaf any) ≡ taken O false false (cond q t (leaf any)) vs
     go true h = h
-    go false h = sym (taken-any vs)
+    go false h = sym (taken-any O vs)
 
-inferred-list : (vs : Vals) → WfVals vs → listType (firstType vs) (itemsBelow vs (firstType vs)) ≡ built (list (inner false false vs))
+inferred-list : (O : Order) (vs : Vals) → WfVals vs → listType (firstType vs) (itemsBelow vs (firstType vs)) ≡ built (list (inner O false false vs))
 unfolding typeOf inner WfV
-inferred-list no-items w = refl
-inferred-list (item v vs) w =
+inferred-list O no-items w = refl
+inferred-list O (item v vs) w =
     let t = typeOf v in
     ap (λ q. built (list (cond (q && itemsBelow vs (some t)) t (leaf any)))) (le-refl fixed fixed-laws t (asc-type-of v (w .0)))
-    ∙ ap (λ x. built (list x)) (taken-below t vs)
+    ∙ ap (λ x. built (list x)) (taken-below O t vs)
 
-pub list-is : (m : Bool) (vs : Vals) → WfVals vs → typeBy m (v-list vs) ≡ built (list (inner m false vs))
+pub list-is : {O : Order} → Laws O → (m : Bool) (vs : Vals) → WfVals vs → typeBy O m (v-list vs) ≡ built (list (inner O m false vs))
 unfolding least typeOf
-list-is true vs w = ap (λ x. built (list x)) (least-list vs)
-list-is false vs w = inferred-list vs w
+list-is {O} L true vs w = ap (λ x. built (list x)) (least-list L vs)
+list-is {O} L false vs w = inferred-list O vs w
 
 -- ---- a range, a context, the others
-pub range-is : (m : Bool) (i j : ℕ) (v w : Val) → typeBy m (v-range i j v w) ≡ built (range (inner m true (item v (item w no-items))))
+pub range-is : (O : Order) (m : Bool) (i j : ℕ) (v w : Val) → typeBy O m (v-range i j v w) ≡ built (range (inner O m true (item v (item w no-items))))
 unfolding least typeOf inner taken
-range-is true i j v w = refl
-range-is false i j v w = refl
+range-is O true i j v w = refl
+range-is O false i j v w = refl
 
-pub context-is : (m : Bool) (es : Entries) → typeBy m (v-context es) ≡ built (context (fieldsBy m es))
+pub context-is : (O : Order) (m : Bool) (es : Entries) → typeBy O m (v-context es) ≡ built (context (fieldsBy O m es))
 unfolding least typeOf
-context-is true es = refl
-context-is false es = refl
+context-is O true es = refl
+context-is O false es = refl
 
-pub leaf-is : (m : Bool) (x : Leaf) → typeBy m (v-leaf x) ≡ leaf (leafType x)
+pub leaf-is : (O : Order) (m : Bool) (x : Leaf) → typeBy O m (v-leaf x) ≡ leaf (leafType x)
 unfolding least typeOf
-leaf-is true x = refl
-leaf-is false x = refl
+leaf-is O true x = refl
+leaf-is O false x = refl
 
-pub built-in-is : (m : Bool) (x : ℕ) → typeBy m (v-built-in x) ≡ leaf any
+pub built-in-is : (O : Order) (m : Bool) (x : ℕ) → typeBy O m (v-built-in x) ≡ leaf any
 unfolding least typeOf
-built-in-is true x = refl
-built-in-is false x = refl
+built-in-is O true x = refl
+built-in-is O false x = refl
 
-pub irrelevant-is : (m : Bool) → typeBy m v-irrelevant ≡ leaf any
+pub irrelevant-is : (O : Order) (m : Bool) → typeBy O m v-irrelevant ≡ leaf any
 unfolding least typeOf
-irrelevant-is true = refl
-irrelevant-is false = refl
+irrelevant-is O true = refl
+irrelevant-is O false = refl
 
--- no data: only the inferred type is asked
-pub function-is : (m : Bool) (ps : Params) (b : ℕ) (r : Ty) → (m ≡ true → isData (v-function ps b r) ≡ true) → typeBy m (v-function ps b r) ≡ built (function (typesOf ps) r)
+-- no data but under the strict reading, where nothing is reduced; otherwise only the inferred type is asked
+pub function-is : (O : Order) (m : Bool) (ps : Params) (b : ℕ) (r : Ty) → (m ≡ true → isDataBy O (v-function ps b r) ≡ true) → typeBy O m (v-function ps b r) ≡ built (function (typesOf ps) r)
+unfolding least typeOf isDataBy
+function-is O true ps b r d = reduce-strict O (built (function (typesOf ps) r)) (d refl)
+function-is O false ps b r d = refl
+
+pub type-is : (O : Order) (m : Bool) (t : Ty) → (m ≡ true → isDataBy O (v-type t) ≡ true) → typeBy O m (v-type t) ≡ t
 unfolding typeOf isDataBy
-function-is true ps b r d = absurd (false≢true (d refl))
-function-is false ps b r d = refl
-
-pub type-is : (m : Bool) (t : Ty) → (m ≡ true → isData (v-type t) ≡ true) → typeBy m (v-type t) ≡ t
-unfolding typeOf isDataBy
-type-is true t d = absurd (false≢true (d refl))
-type-is false t d = refl
+type-is O true t d = absurd (false≢true (d refl))
+type-is O false t d = refl
 
 -- ---- entries
-pub count-is : (m : Bool) (es : Entries) → countFields (fieldsBy m es) ≡ countEntries es
+pub count-is : (O : Order) (m : Bool) (es : Entries) → countFields (fieldsBy O m es) ≡ countEntries es
 unfolding least typeOf countFields countEntries
-count-is true no-entries = refl
-count-is false no-entries = refl
-count-is true (entry n v es) = ap suc (count-is true es)
-count-is false (entry n v es) = ap suc (count-is false es)
+count-is O true no-entries = refl
+count-is O false no-entries = refl
+count-is O true (entry n v es) = ap suc (count-is O true es)
+count-is O false (entry n v es) = ap suc (count-is O false es)
 
-pub fields-none : (m : Bool) → fieldsBy m no-entries ≡ no-fields
+pub fields-none : (O : Order) (m : Bool) → fieldsBy O m no-entries ≡ no-fields
 unfolding least typeOf
-fields-none true = refl
-fields-none false = refl
+fields-none O true = refl
+fields-none O false = refl
 
-pub fields-entry : (m : Bool) (n : ℕ) (v : Val) (es : Entries) → fieldsBy m (entry n v es) ≡ field n (typeBy m v) (fieldsBy m es)
+pub fields-entry : (O : Order) (m : Bool) (n : ℕ) (v : Val) (es : Entries) → fieldsBy O m (entry n v es) ≡ field n (typeBy O m v) (fieldsBy O m es)
 unfolding least typeOf
-fields-entry true n v es = refl
-fields-entry false n v es = refl
+fields-entry O true n v es = refl
+fields-entry O false n v es = refl
 
 -- ---- data, part by part
-pub data-item : (m : Bool) (v : Val) (vs : Vals) → (m ≡ true → areData fixed (item v vs) ≡ true) → (m ≡ true → isData v ≡ true) × (m ≡ true → areData fixed vs ≡ true)
+pub data-item : (O : Order) (m : Bool) (v : Val) (vs : Vals) → (m ≡ true → areData O (item v vs) ≡ true) → (m ≡ true → isDataBy O v ≡ true) × (m ≡ true → areData O vs ≡ true)
 unfolding isDataBy
-data-item m v vs d = (λ e. and-left (isData v) (areData fixed vs) (d e), λ e. and-right (isData v) (areData fixed vs) (d e))
+data-item O m v vs d = (λ e. and-left (isDataBy O v) (areData O vs) (d e), λ e. and-right (isDataBy O v) (areData O vs) (d e))
 
-pub data-entry : (m : Bool) (n : ℕ) (v : Val) (es : Entries) → (m ≡ true → holdData fixed (entry n v es) ≡ true) → (m ≡ true → isData v ≡ true) × (m ≡ true → holdData fixed es ≡ true)
+pub data-entry : (O : Order) (m : Bool) (n : ℕ) (v : Val) (es : Entries) → (m ≡ true → holdData O (entry n v es) ≡ true) → (m ≡ true → isDataBy O v ≡ true) × (m ≡ true → holdData O es ≡ true)
 unfolding isDataBy
-data-entry m n v es d = (λ e. and-left (isData v) (holdData fixed es) (d e), λ e. and-right (isData v) (holdData fixed es) (d e))
+data-entry O m n v es d = (λ e. and-left (isDataBy O v) (holdData O es) (d e), λ e. and-right (isDataBy O v) (holdData O es) (d e))

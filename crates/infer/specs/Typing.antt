@@ -12,12 +12,13 @@ use Rattle.form.specs.Form.{enc, encFields, encTys, Wf, WfV, WfVals, WfEntries}
 use Rattle.form.specs.Layout.{widthOf}
 use Rattle.form.specs.Answers.{onto}
 use Rattle.form.specs.Options.{WhereRead, WhereBoth}
-use Rattle.order.specs.Order.{fixed}
-use Rattle.order.specs.Types.{reduce}
+use Rattle.order.specs.Order.{Order}
+use Rattle.order.specs.Types.{reduce, sup}
 use Rattle.order.specs.Size.{size, sizeVal, sizeVals, sizeEntries}
-use Rattle.order.specs.Document.{conformsTo, eqTy, supertype}
-use Rattle.order.specs.Values.{typesOf, areData, holdData, leastEntries}
-use Rattle.order.specs.Inferred.{isData, leastType, typeOf, entryTypes}
+use Rattle.order.specs.Document.{conformsTo, eqTy}
+use Rattle.order.specs.Values.{typesOf, isDataBy, areData, holdData, leastEntries}
+use Rattle.order.specs.Values as values
+use Rattle.order.specs.Inferred.{typeOf, entryTypes}
 use Rattle.values.specs.At.{Definition, definition, sizeDefinition}
 use Rattle.infer.specs.declared.data.Data.{Data}
 use Rattle.infer.specs.declared.data.Data.the-variants as data-is
@@ -38,14 +39,14 @@ pub record Plain (c n : ℕ) : Type 0 where
   pub low : c < 9
   pub size : n ≡ widthOf c + 1
 
--- ---- the least type (true) or the inferred one
-abbrev pub typeBy : Bool → Val → Ty
-typeBy true v = leastType v
-typeBy false v = typeOf v
+-- ---- the least type under an order (true) or the inferred one
+abbrev pub typeBy : Order → Bool → Val → Ty
+typeBy O true v = values.least O v
+typeBy O false v = typeOf v
 
-abbrev pub fieldsBy : Bool → Entries → Fields
-fieldsBy true es = leastEntries fixed es
-fieldsBy false es = entryTypes es
+abbrev pub fieldsBy : Order → Bool → Entries → Fields
+fieldsBy O true es = leastEntries O es
+fieldsBy O false es = entryTypes es
 
 -- of two inferred types: they are equal, or the second conforms to the first
 abbrev pub keepsFirst : Bool → Ty → Ty → Bool
@@ -53,19 +54,19 @@ keepsFirst true t u = eqTy t u
 keepsFirst false t u = conformsTo u t
 
 -- Two types into one. Least: their supertype. Inferred: the first where it is kept, otherwise Any.
-abbrev pub joined : Bool → Bool → Ty → Ty → Ty
-joined true equal t u = supertype t u
-joined false equal t u = cond (keepsFirst equal t u) t (leaf any)
+abbrev pub joined : Order → Bool → Bool → Ty → Ty → Ty
+joined O true equal t u = sup O t u
+joined O false equal t u = cond (keepsFirst equal t u) t (leaf any)
 
 -- the type t with those of all items taken in, from the left
-unfoldable pub taken : Bool → Bool → Ty → Vals → Ty
-taken least equal t no-items = t
-taken least equal t (item v vs) = taken least equal (joined least equal t (typeBy least v)) vs
+unfoldable pub taken : Order → Bool → Bool → Ty → Vals → Ty
+taken O least equal t no-items = t
+taken O least equal t (item v vs) = taken O least equal (joined O least equal t (typeBy O least v)) vs
 
 -- one type of all items: Null where there is none, otherwise the first's with the others taken in
-unfoldable pub inner : Bool → Bool → Vals → Ty
-inner least equal no-items = leaf null
-inner least equal (item v vs) = taken least equal (typeBy least v) vs
+unfoldable pub inner : Order → Bool → Bool → Vals → Ty
+inner O least equal no-items = leaf null
+inner O least equal (item v vs) = taken O least equal (typeBy O least v) vs
 
 -- ---- what the builders ask: it was read and is well-formed, is data where the least type is asked, and fits the output and the spare place
 pub record Fits {X : Type 0} (wf : X → Type 0) (test : X → Bool) (want : X → ℕ) (least : Bool) (x : X) (room spare : ℕ) : Type 0 where
@@ -79,15 +80,15 @@ unfoldable pub Fitting : {X : Type 0} → (X → Type 0) → (X → Bool) → (X
 Fitting wf test want least r room spare = WhereRead ⊥ (λ x. Fits wf test want least x room spare) r
 
 -- of a value, of the entries of a context, of items, of a definition
-abbrev pub FitVal : Bool → Option Val → ℕ → ℕ → Type 0
-FitVal least v room spare = Fitting WfV isData sizeVal least v room spare
+abbrev pub FitVal : Order → Bool → Option Val → ℕ → ℕ → Type 0
+FitVal O least v room spare = Fitting WfV (isDataBy O) sizeVal least v room spare
 
-abbrev pub FitEntries : Bool → Option Entries → ℕ → ℕ → Type 0
-FitEntries least es room spare = Fitting (λ es. WfEntries es 0) (holdData fixed) sizeEntries least es room spare
+abbrev pub FitEntries : Order → Bool → Option Entries → ℕ → ℕ → Type 0
+FitEntries O least es room spare = Fitting (λ es. WfEntries es 0) (holdData O) sizeEntries least es room spare
 
 -- items want one byte more than they have: Null stands for none
-abbrev pub FitItems : Bool → Option Vals → ℕ → ℕ → Type 0
-FitItems least vs room spare = Fitting WfVals (areData fixed) (λ vs. sizeVals vs + 1) least vs room spare
+abbrev pub FitItems : Order → Bool → Option Vals → ℕ → ℕ → Type 0
+FitItems O least vs room spare = Fitting WfVals (areData O) (λ vs. sizeVals vs + 1) least vs room spare
 
 -- a function type behind its count is never longer than the definition
 unfoldable pub FitDefinition : Option Definition → ℕ → Type 0
@@ -109,14 +110,14 @@ unfoldable pub Typed : {X : Type 0} → (X → ℕ) → (X → List ℕ) → Opt
 Typed sz text r old new read wrote = WhereRead (Unit {0}) (λ x. Wrote sz text x old new read wrote) r
 
 -- the bytes of a value's type, of a context's entries, of the one type of all items, of a definition's function type behind its count
-abbrev pub typeText : Bool → Val → List ℕ
-typeText least v = enc (typeBy least v)
+abbrev pub typeText : Order → Bool → Val → List ℕ
+typeText O least v = enc (typeBy O least v)
 
-abbrev pub fieldsText : Bool → Entries → List ℕ
-fieldsText least es = encFields (fieldsBy least es)
+abbrev pub fieldsText : Order → Bool → Entries → List ℕ
+fieldsText O least es = encFields (fieldsBy O least es)
 
-abbrev pub innerText : Bool → Bool → Vals → List ℕ
-innerText least equal vs = enc (inner least equal vs)
+abbrev pub innerText : Order → Bool → Bool → Vals → List ℕ
+innerText O least equal vs = enc (inner O least equal vs)
 
 abbrev pub signatureText : Definition → List ℕ
 signatureText (definition r ps) = encTys (typesOf ps) ++ enc r
@@ -135,8 +136,8 @@ unfoldable pub Sides : Option Ty → Option Ty → List ℕ → ℕ → ℕ → 
 Sides x y s n m spare = WhereBoth ⊥ (λ t u. Side t u s n m spare) x y
 
 -- where the least type is asked, the first is reduced
-unfoldable pub Reduced : Bool → Option Ty → Type 0
-Reduced least x = WhereRead ⊥ (λ t. least ≡ true → reduce fixed t ≡ t) x
+unfoldable pub Reduced : Order → Bool → Option Ty → Type 0
+Reduced O least x = WhereRead ⊥ (λ t. least ≡ true → reduce O t ≡ t) x
 
 unfoldable pub Kept : Bool → Option Ty → Option Ty → Bool → Type 0
 Kept equal x y r = WhereBoth (Unit {0}) (λ t u. r ≡ keepsFirst equal t u) x y
@@ -146,5 +147,5 @@ pub record Stands (t : Ty) (old new : List ℕ) (n : ℕ) : Type 0 where
   pub out : Starts (enc t) new
   pub kept : length new ≡ length old
 
-unfoldable pub Joined : Bool → Bool → Option Ty → Option Ty → List ℕ → List ℕ → ℕ → Type 0
-Joined least equal x y old new r = WhereBoth (Unit {0}) (λ t u. Stands (joined least equal t u) old new r) x y
+unfoldable pub Joined : Order → Bool → Bool → Option Ty → Option Ty → List ℕ → List ℕ → ℕ → Type 0
+Joined O least equal x y old new r = WhereBoth (Unit {0}) (λ t u. Stands (joined O least equal t u) old new r) x y

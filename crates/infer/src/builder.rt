@@ -5,6 +5,7 @@ ghost use Prim.Native.Nat.{_+_, _*_, _<_, _≤_};
 ghost use lib.ListN.{length, drop};
 ghost use Rattle.form.specs.Answers.{Built};
 ghost use Rattle.form.specs.Limits.{typeLevels, valueLevels};
+ghost use Rattle.order.specs.Order.{orderOf};
 ghost use Rattle.order.specs.Size.{sizeVal, sizeVals, sizeEntries};
 ghost use Rattle.types.specs.At.{typeAt};
 ghost use Rattle.values.specs.At.{valueAt, itemsAt, entriesAt, definitionAt, sizeDefinition};
@@ -18,6 +19,7 @@ use form::limits::NAME_WIDTH;
 use form::limits::TYPE_LEVELS;
 use form::limits::VALUE_LEVELS;
 use form::refusals;
+use types::readings;
 
 // How many bytes of the value were read, and how many of the type written.
 struct Ends {
@@ -25,7 +27,7 @@ struct Ends {
     wrote: usize,
 }
 
-// ---- the builders: `least` asks the least type, otherwise the inferred one is written
+// ---- the builders: `least` asks the least type under a reading, otherwise the inferred one is written
 
 // Of the types at the front, n bytes, and behind it, m bytes: whether they are equal, or the second conforms to the first.
 fn keeps(equal: bool, s: &[u8], n: usize, m: usize) -> bool
@@ -37,17 +39,25 @@ fn keeps(equal: bool, s: &[u8], n: usize, m: usize) -> bool
         return check::same(&s[..n], &s[n..p]);
     }
     let mut other: usize = 0;
-    if types::compare::conforms(&s[n..], s, TYPE_LEVELS, &mut other) == 0 {
+    if types::compare::conforms(&s[n..], s, TYPE_LEVELS, &mut other, readings::DOCUMENT) == 0 {
         return false;
     }
     true
 }
 
 // The type at the front, n bytes, and the one behind it, m bytes, become one at the front; answers its length. Of equal ones the first stays as it is.
-fn join(least: bool, equal: bool, out: &mut [u8], n: usize, m: usize, spare: &mut [u8]) -> usize
+fn join(
+    least: bool,
+    equal: bool,
+    out: &mut [u8],
+    n: usize,
+    m: usize,
+    spare: &mut [u8],
+    reading: u64,
+) -> usize
     requires { ⌜ Sides (typeAt typeLevels (now out)) (typeAt typeLevels (drop n (now out))) (now out) n m (length (now spare)) ⌝ }
-    requires { ⌜ Reduced least (typeAt typeLevels (now out)) ⌝ }
-    ensures { λ r. ⌜ Joined least equal (typeAt typeLevels (now (out .entry))) (typeAt typeLevels (drop n (now (out .entry)))) (now (out .entry)) (now (out .exit)) r ⌝ }
+    requires { ⌜ Reduced (orderOf reading) least (typeAt typeLevels (now out)) ⌝ }
+    ensures { λ r. ⌜ Joined (orderOf reading) least equal (typeAt typeLevels (now (out .entry))) (typeAt typeLevels (drop n (now (out .entry)))) (now (out .entry)) (now (out .exit)) r ⌝ }
     ensures { λ _. ⌜ length (now (spare .exit)) ≡ length (now (spare .entry)) ⌝ }
 {
     if keeps(true, &out[..], n, m) {
@@ -55,7 +65,7 @@ fn join(least: bool, equal: bool, out: &mut [u8], n: usize, m: usize, spare: &mu
     }
     if least {
         let w = &out[..];
-        let e = lattice::write_super(w, &w[n..], spare, TYPE_LEVELS);
+        let e = lattice::write_super(w, &w[n..], spare, TYPE_LEVELS, reading);
         let k = e.wrote;
         output::copy(&spare[..k], out);
         return k;
@@ -93,10 +103,17 @@ fn write_signature(v: &[u8], count: usize, out: &mut [u8], left: usize) -> Ends
 }
 
 // The type of the value at the front of `v`.
-fn write_type(least: bool, v: &[u8], out: &mut [u8], spare: &mut [u8], left: usize) -> Ends
-    requires { ⌜ FitVal least (valueAt left (now v)) (length (now out)) (length (now spare)) ⌝ }
+fn write_type(
+    least: bool,
+    v: &[u8],
+    out: &mut [u8],
+    spare: &mut [u8],
+    left: usize,
+    reading: u64,
+) -> Ends
+    requires { ⌜ FitVal (orderOf reading) least (valueAt left (now v)) (length (now out)) (length (now spare)) ⌝ }
     requires { ⌜ left ≤ valueLevels ⌝ }
-    ensures { λ r. ⌜ Typed sizeVal (typeText least) (valueAt left (now (v .entry))) (now (out .entry)) (now (out .exit)) (r .read) (r .wrote) ⌝ }
+    ensures { λ r. ⌜ Typed sizeVal (typeText (orderOf reading) least) (valueAt left (now (v .entry))) (now (out .entry)) (now (out .exit)) (r .read) (r .wrote) ⌝ }
     ensures { λ _. ⌜ length (now (spare .exit)) ≡ length (now (spare .entry)) ⌝ }
 {
     let c = v[0];
@@ -110,7 +127,16 @@ fn write_type(least: bool, v: &[u8], out: &mut [u8], spare: &mut [u8], left: usi
         }
         commands::RANGE => {
             out[0] = commands::RANGE_TYPE;
-            let e = write_items(least, true, &v[3..], 2, &mut out[1..], spare, left - 1);
+            let e = write_items(
+                least,
+                true,
+                &v[3..],
+                2,
+                &mut out[1..],
+                spare,
+                left - 1,
+                reading,
+            );
             Ends {
                 read: e.read + 3,
                 wrote: e.wrote + 1,
@@ -119,7 +145,16 @@ fn write_type(least: bool, v: &[u8], out: &mut [u8], spare: &mut [u8], left: usi
         commands::LIST => {
             let n = form::bytes::word_at(v, 1);
             out[0] = commands::LIST_TYPE;
-            let e = write_items(least, false, &v[3..], n, &mut out[1..], spare, left - 1);
+            let e = write_items(
+                least,
+                false,
+                &v[3..],
+                n,
+                &mut out[1..],
+                spare,
+                left - 1,
+                reading,
+            );
             Ends {
                 read: e.read + 3,
                 wrote: e.wrote + 1,
@@ -130,7 +165,7 @@ fn write_type(least: bool, v: &[u8], out: &mut [u8], spare: &mut [u8], left: usi
             out[0] = commands::CONTEXT_TYPE;
             out[1] = v[1];
             out[2] = v[2];
-            let e = write_entries(least, &v[3..], n, &mut out[3..], spare, left - 1);
+            let e = write_entries(least, &v[3..], n, &mut out[3..], spare, left - 1, reading);
             Ends {
                 read: e.read + 3,
                 wrote: e.wrote + 3,
@@ -171,17 +206,18 @@ fn write_items(
     out: &mut [u8],
     spare: &mut [u8],
     left: usize,
+    reading: u64,
 ) -> Ends
-    requires { ⌜ FitItems least (itemsAt left n (now v)) (length (now out)) (length (now spare)) ⌝ }
+    requires { ⌜ FitItems (orderOf reading) least (itemsAt left n (now v)) (length (now out)) (length (now spare)) ⌝ }
     requires { ⌜ left ≤ valueLevels ⌝ }
-    ensures { λ r. ⌜ Typed sizeVals (innerText least equal) (itemsAt left n (now (v .entry))) (now (out .entry)) (now (out .exit)) (r .read) (r .wrote) ⌝ }
+    ensures { λ r. ⌜ Typed sizeVals (innerText (orderOf reading) least equal) (itemsAt left n (now (v .entry))) (now (out .entry)) (now (out .exit)) (r .read) (r .wrote) ⌝ }
     ensures { λ _. ⌜ length (now (spare .exit)) ≡ length (now (spare .entry)) ⌝ }
 {
     if n == 0 {
         out[0] = commands::NULL_TYPE;
         return Ends { read: 0, wrote: 1 };
     }
-    let e = write_type(least, v, out, spare, left);
+    let e = write_type(least, v, out, spare, left, reading);
     let mut at = e.read;
     let mut to = e.wrote;
     let mut i: usize = 1;
@@ -190,13 +226,13 @@ fn write_items(
         if k != 0 {
             out[to] = commands::leaf_type(v[at]);
             at = at + k;
-            to = join(least, equal, out, to, 1, spare);
+            to = join(least, equal, out, to, 1, spare, reading);
             i += 1;
             continue;
         }
-        let e = write_type(least, &v[at..], &mut out[to..], spare, left);
+        let e = write_type(least, &v[at..], &mut out[to..], spare, left, reading);
         at = at + e.read;
-        to = join(least, equal, out, to, e.wrote, spare);
+        to = join(least, equal, out, to, e.wrote, spare, reading);
         i += 1;
     }
     Ends {
@@ -213,10 +249,11 @@ fn write_entries(
     out: &mut [u8],
     spare: &mut [u8],
     left: usize,
+    reading: u64,
 ) -> Ends
-    requires { ⌜ FitEntries least (entriesAt left n 0 (now v)) (length (now out)) (length (now spare)) ⌝ }
+    requires { ⌜ FitEntries (orderOf reading) least (entriesAt left n 0 (now v)) (length (now out)) (length (now spare)) ⌝ }
     requires { ⌜ left ≤ valueLevels ⌝ }
-    ensures { λ r. ⌜ Typed sizeEntries (fieldsText least) (entriesAt left n 0 (now (v .entry))) (now (out .entry)) (now (out .exit)) (r .read) (r .wrote) ⌝ }
+    ensures { λ r. ⌜ Typed sizeEntries (fieldsText (orderOf reading) least) (entriesAt left n 0 (now (v .entry))) (now (out .entry)) (now (out .exit)) (r .read) (r .wrote) ⌝ }
     ensures { λ _. ⌜ length (now (spare .exit)) ≡ length (now (spare .entry)) ⌝ }
 {
     let mut at: usize = 0;
@@ -234,7 +271,7 @@ fn write_entries(
             i += 1;
             continue;
         }
-        let e = write_type(least, &v[p..], &mut out[w..], spare, left);
+        let e = write_type(least, &v[p..], &mut out[w..], spare, left, reading);
         at = p + e.read;
         to = w + e.wrote;
         i += 1;
@@ -245,24 +282,25 @@ fn write_entries(
     }
 }
 
-// ---- both calls
+// ---- all calls
 
-// Both calls after the value was read, and for the least type is data: the answer is built in the scratch, and copied where it fits. Refusals: 14, 18.
+// All calls after the value was read, and for the least type is data: the answer is built in the scratch, and copied where it fits. Refusals: 14, 18.
 fn build_with(
     least: bool,
     v: &[u8],
     scratch: &mut [u8],
     spare: &mut [u8],
     out: &mut [u8],
+    reading: u64,
 ) -> Written
-    requires { ⌜ Ready least (now v) ⌝ }
+    requires { ⌜ Ready (orderOf reading) least (now v) ⌝ }
     requires { ⌜ length (now v) ≤ length (now spare) ⌝ }
-    ensures { λ r. ⌜ Built (typeCall least (now (v .entry)) (length (now (scratch .entry))) (length (now (out .entry)))) (now (out .entry)) (now (out .exit)) r ⌝ }
+    ensures { λ r. ⌜ Built (typeCall (orderOf reading) least (now (v .entry)) (length (now (scratch .entry))) (length (now (out .entry)))) (now (out .entry)) (now (out .exit)) r ⌝ }
 {
     if scratch.len() < 4 * v.len() {
         return Written::Refused(refusals::SCRATCH);
     }
-    let e = write_type(least, v, scratch, spare, VALUE_LEVELS);
+    let e = write_type(least, v, scratch, spare, VALUE_LEVELS, reading);
     let n = e.wrote;
     if out.len() < n {
         return Written::Refused(refusals::OUTPUT);
@@ -271,15 +309,21 @@ fn build_with(
     Written::Bytes(n)
 }
 
-// Both calls after the value was read, with a spare place: a small one for a short value, since all of it is set to zero. Refusals 14, 18.
-pub(crate) fn build(least: bool, v: &[u8], scratch: &mut [u8], out: &mut [u8]) -> Written
-    requires { ⌜ Ready least (now v) ⌝ }
-    ensures { λ r. ⌜ Built (typeCall least (now (v .entry)) (length (now (scratch .entry))) (length (now (out .entry)))) (now (out .entry)) (now (out .exit)) r ⌝ }
+// All calls after the value was read, with a spare place: a small one for a short value, since all of it is set to zero. Refusals 14, 18.
+pub(crate) fn build(
+    least: bool,
+    v: &[u8],
+    scratch: &mut [u8],
+    out: &mut [u8],
+    reading: u64,
+) -> Written
+    requires { ⌜ Ready (orderOf reading) least (now v) ⌝ }
+    ensures { λ r. ⌜ Built (typeCall (orderOf reading) least (now (v .entry)) (length (now (scratch .entry))) (length (now (out .entry)))) (now (out .entry)) (now (out .exit)) r ⌝ }
 {
     if v.len() <= 512 {
         let mut spare = [0u8; 512];
-        return build_with(least, v, scratch, &mut spare, out);
+        return build_with(least, v, scratch, &mut spare, out, reading);
     }
     let mut spare = [0u8; MOST_BYTES];
-    build_with(least, v, scratch, &mut spare, out)
+    build_with(least, v, scratch, &mut spare, out, reading)
 }

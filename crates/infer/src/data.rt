@@ -2,15 +2,15 @@
 ghost use mathlib.Core.Path.{_≡_};
 ghost use Prim.Native.Nat.{ℕ, _+_, _<_, _≤_};
 ghost use lib.ListN.{length, getD};
-ghost use Rattle.order.specs.Order.{fixed};
-ghost use Rattle.order.specs.Values.{areData, holdData};
+ghost use Rattle.order.specs.Order.{orderOf};
+ghost use Rattle.order.specs.Values.{isDataBy, areData, holdData};
 ghost use Rattle.order.specs.Size.{sizeVal, sizeVals, sizeEntries};
-ghost use Rattle.order.specs.Inferred.{isData};
 ghost use Rattle.types.specs.At.{Ok};
 ghost use Rattle.values.specs.At.{valueAt, itemsAt, entriesAt};
 ghost use Rattle.infer.specs.Typing.{dataBy, addSize, Plain};
 use form::commands;
 use form::limits::NAME_WIDTH;
+use types::readings;
 
 // Whether what was walked is data, with its size.
 pub(crate) enum Data {
@@ -47,35 +47,41 @@ fn add_size(d: Data, k: usize, n: usize) -> Data
     }
 }
 
-// Whether the value at the front is data: 00 to 0B and 10 throughout.
-pub(crate) fn is_data(v: &[u8], left: usize) -> Data
+// Whether the value at the front is data: 00 to 0B and 10 throughout, and 0C under the strict reading.
+pub(crate) fn is_data(v: &[u8], left: usize, reading: u64) -> Data
     requires { ⌜ Ok (valueAt left (now v)) ⌝ }
-    ensures { λ r. ⌜ r ≡ dataBy isData sizeVal (valueAt left (now (v .entry))) ⌝ }
+    ensures { λ r. ⌜ r ≡ dataBy (isDataBy (orderOf reading)) sizeVal (valueAt left (now (v .entry))) ⌝ }
 {
     let c = v[0];
     match c {
         commands::NULL..=commands::YEARS_AND_MONTHS | commands::DECIMAL => {
             Data::Yes(commands::width(c) + 1)
         }
-        commands::RANGE => add_size(are_data(&v[3..], 2, left - 1), 3, v.len()),
+        commands::RANGE => add_size(are_data(&v[3..], 2, left - 1, reading), 3, v.len()),
         commands::LIST => add_size(
-            are_data(&v[3..], form::bytes::word_at(v, 1), left - 1),
+            are_data(&v[3..], form::bytes::word_at(v, 1), left - 1, reading),
             3,
             v.len(),
         ),
         commands::CONTEXT => add_size(
-            hold_data(&v[3..], form::bytes::word_at(v, 1), left - 1),
+            hold_data(&v[3..], form::bytes::word_at(v, 1), left - 1, reading),
             3,
             v.len(),
         ),
+        commands::FUNCTION_DEFINITION => {
+            if readings::is_strict(reading) {
+                return Data::Yes(values::walk::skip(v, left));
+            }
+            Data::No
+        }
         _ => Data::No,
     }
 }
 
 // Whether n values are data.
-fn are_data(v: &[u8], n: usize, left: usize) -> Data
+fn are_data(v: &[u8], n: usize, left: usize, reading: u64) -> Data
     requires { ⌜ Ok (itemsAt left n (now v)) ⌝ }
-    ensures { λ r. ⌜ r ≡ dataBy (areData fixed) sizeVals (itemsAt left n (now (v .entry))) ⌝ }
+    ensures { λ r. ⌜ r ≡ dataBy (areData (orderOf reading)) sizeVals (itemsAt left n (now (v .entry))) ⌝ }
 {
     let mut at: usize = 0;
     let mut i: usize = 0;
@@ -86,7 +92,7 @@ fn are_data(v: &[u8], n: usize, left: usize) -> Data
             i += 1;
             continue;
         }
-        match is_data(&v[at..], left) {
+        match is_data(&v[at..], left, reading) {
             Data::Yes(x) => at = at + x,
             Data::No => return Data::No,
         }
@@ -96,9 +102,9 @@ fn are_data(v: &[u8], n: usize, left: usize) -> Data
 }
 
 // Whether the values of n entries are data.
-fn hold_data(v: &[u8], n: usize, left: usize) -> Data
+fn hold_data(v: &[u8], n: usize, left: usize, reading: u64) -> Data
     requires { ⌜ Ok (entriesAt left n 0 (now v)) ⌝ }
-    ensures { λ r. ⌜ r ≡ dataBy (holdData fixed) sizeEntries (entriesAt left n 0 (now (v .entry))) ⌝ }
+    ensures { λ r. ⌜ r ≡ dataBy (holdData (orderOf reading)) sizeEntries (entriesAt left n 0 (now (v .entry))) ⌝ }
 {
     let mut at: usize = 0;
     let mut i: usize = 0;
@@ -110,7 +116,7 @@ fn hold_data(v: &[u8], n: usize, left: usize) -> Data
             i += 1;
             continue;
         }
-        match is_data(&v[p..], left) {
+        match is_data(&v[p..], left, reading) {
             Data::Yes(x) => at = p + x,
             Data::No => return Data::No,
         }

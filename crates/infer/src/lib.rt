@@ -2,7 +2,8 @@
 ghost use mathlib.Core.Bool.{true};
 ghost use lib.ListN.{length};
 ghost use Rattle.form.specs.Answers.{Built};
-ghost use Rattle.infer.specs.Calls.{leastTypeCall, typeOfCall};
+ghost use Rattle.order.specs.Order.{orderOf};
+ghost use Rattle.infer.specs.Calls.{leastTypeBy, leastTypeCall, strictLeastTypeCall, typeOfCall};
 
 mod builder;
 mod data;
@@ -12,16 +13,31 @@ use form::Checked;
 use form::Written;
 use form::limits::VALUE_LEVELS;
 use form::refusals;
+use types::readings;
 
 // The least type. Refusals 1 to 5, 13, 14, 18.
 pub fn least_type(v: &[u8], scratch: &mut [u8], out: &mut [u8]) -> Written
     ensures { λ r. ⌜ Built (leastTypeCall (now (v .entry)) (length (now (scratch .entry))) (length (now (out .entry)))) (now (out .entry)) (now (out .exit)) r ⌝ }
 {
+    build_least(v, scratch, out, readings::DOCUMENT)
+}
+
+// The least type as DMN has it: of a function definition its function type. Refusals likewise, 13 for 0D, 0E and 0F alone.
+pub fn strict_least_type(v: &[u8], scratch: &mut [u8], out: &mut [u8]) -> Written
+    ensures { λ r. ⌜ Built (strictLeastTypeCall (now (v .entry)) (length (now (scratch .entry))) (length (now (out .entry)))) (now (out .entry)) (now (out .exit)) r ⌝ }
+{
+    build_least(v, scratch, out, readings::STRICT)
+}
+
+// Both calls.
+fn build_least(v: &[u8], scratch: &mut [u8], out: &mut [u8], reading: u64) -> Written
+    ensures { λ r. ⌜ Built (leastTypeBy (orderOf reading) (now (v .entry)) (length (now (scratch .entry))) (length (now (out .entry)))) (now (out .entry)) (now (out .exit)) r ⌝ }
+{
     match form::check_value(v) {
         Checked::Refused(n) => Written::Refused(n),
-        Checked::Accepted { level: _ } => match data::is_data(v, VALUE_LEVELS) {
+        Checked::Accepted { level: _ } => match data::is_data(v, VALUE_LEVELS, reading) {
             Data::No => Written::Refused(refusals::NOT_DATA),
-            Data::Yes(_) => builder::build(true, v, scratch, out),
+            Data::Yes(_) => builder::build(true, v, scratch, out, reading),
         },
     }
 }
@@ -32,6 +48,12 @@ pub fn type_of(v: &[u8], scratch: &mut [u8], out: &mut [u8]) -> Written
 {
     match form::check_value(v) {
         Checked::Refused(n) => Written::Refused(n),
-        Checked::Accepted { level: _ } => builder::build(false, v, scratch, out),
+        Checked::Accepted { level: _ } => builder::build(
+            false,
+            v,
+            scratch,
+            out,
+            readings::DOCUMENT,
+        ),
     }
 }

@@ -5,6 +5,7 @@ use Rattle.infer.proofs.type_of.Statement.{statement}
 use Rattle.infer.proofs.type_of.Tie as tie
 use mathlib.Core.Path.{sym, ap, _∙_}
 use mathlib.Core.Bool.{false, true≢false}
+use Rattle.order.specs.Order.{fixed}
 use Rattle.form.specs.Answers.{checked}
 use Rattle.values.proofs.CallContracts.{value-refused}
 use Rattle.infer.proofs.CallContracts.{fine, ask, type-refused, type-done}
@@ -17,16 +18,16 @@ check-value-requires c κs = search needs
 enum-known-n : tie.Need-enum-known-n
 enum-known-n c = search needs
 
--- at `Checked::Accepted { level: _ } => builder::build(false, v, scratch, out),`
+-- at `Checked::Accepted { level: _ } => builder::build(false, v, scratch, out, readings::DOCUMENT),`
 enum-told : tie.Need-enum-told
 enum-told c = search needs
 
--- at `Checked::Accepted { level: _ } => builder::build(false, v, scratch, out),`
+-- at `Checked::Accepted { level: _ } => builder::build(false, v, scratch, out, readings::DOCUMENT),`
 build-requires : tie.Need-build-requires
 build-requires c κs =
     let c4 = c .before .before .before .before in
     let v = c4 .before .before .before .before .args .v in
-    ask false (v .now)
+    ask fixed false (v .now)
     (fine (v .now) _ (c4 .check-value .ensures .1) (sym (c4 .check-value .ensures .0) ∙ ap checked (c .before .before .enum-told .given .1)))
     (c4 .check-value .ensures .1)
     (λ h. absurd (true≢false (sym h)))

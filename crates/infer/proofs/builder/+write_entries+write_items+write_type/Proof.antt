@@ -29,6 +29,8 @@ use mathlib.Core.Path.{refl, _∙_}
 use mathlib.Core.Logic.{⊎-elim}
 use lib.ListN.{getD, set}
 use borrow.Author.Needs.{needs}
+use Rattle.order.specs.Order.{orderOf}
+use Rattle.order.proofs.Simple.{reading-laws}
 use native.Mathlib.Omega.{arith}
 use Rattle.form.proofs.Whole.{bytes-of}
 use Rattle.form.proofs.CommandKinds.{leaf-low, leaf-decimal}
@@ -77,16 +79,18 @@ write-type-below t =
     and 3 write-type-kinds.ps (falls 3 write-type-kinds.ps _<_ μ-write-type t) write-type.Pre
 
 abbrev write-entries-Inv-loop : write-entries-lts.InvT-loop
-write-entries-Inv-loop least v n out₀ spare₀ left at₀ to₀ i₀ out spare at to i = EntriesInv least left v n out₀ spare₀ out spare at to i
+write-entries-Inv-loop least v n out₀ spare₀ left reading at₀ to₀ i₀ out spare at to i =
+    EntriesInv (orderOf reading) least left v n out₀ spare₀ out spare at to i
 
 abbrev write-entries-μ-loop : write-entries-lts.MeasureT-loop
-write-entries-μ-loop least v n out₀ spare₀ left at₀ to₀ i₀ out spare at to i = n - i
+write-entries-μ-loop least v n out₀ spare₀ left reading at₀ to₀ i₀ out spare at to i = n - i
 
 abbrev write-items-Inv-loop : write-items-lts.InvT-loop
-write-items-Inv-loop least equal v n out₀ spare₀ left at₀ to₀ i₀ out spare at to i = ItemsInv least equal left v n out₀ spare₀ out spare at to i
+write-items-Inv-loop least equal v n out₀ spare₀ left reading at₀ to₀ i₀ out spare at to i =
+    ItemsInv (orderOf reading) least equal left v n out₀ spare₀ out spare at to i
 
 abbrev write-items-μ-loop : write-items-lts.MeasureT-loop
-write-items-μ-loop least equal v n out₀ spare₀ left at₀ to₀ i₀ out spare at to i = n - i
+write-items-μ-loop least equal v n out₀ spare₀ left reading at₀ to₀ i₀ out spare at to i = n - i
 
 abbrev write-entries-claims : ℕ → write-entries-lts.Claims
 write-entries-claims t = (
@@ -134,12 +138,12 @@ write-type-claims t = (
   leaf-type-reads.Learnt,
 )
 
--- src/builder.rt:225:5
+-- at `while i < n {`
 write-entries-loop-holds : (t : ℕ) →
     write-entries-lts.Need-loop-holds (write-entries-claims t) (write-entries-at t) write-entries.Post write-entries-Inv-loop write-entries-μ-loop
-write-entries-loop-holds t c = entries-start _ _ _ _ _ _ (c .before .before .before .pre .1 .0)
+write-entries-loop-holds t c = entries-start _ _ _ _ _ _ _ (c .before .before .before .pre .1 .0)
 
--- src/builder.rt:226:17
+-- at `let p = at + NAME_WIDTH;`
 write-entries-add-p : (t : ℕ) → write-entries-lts.Need-add-p (write-entries-claims t) (write-entries-at t) write-entries.Post write-entries-Inv-loop write-entries-μ-loop
 write-entries-add-p t c =
     let c4 = c .before .before .before .before in
@@ -149,7 +153,7 @@ write-entries-add-p t c =
       entry-name (c .before .loop .inv) (bytes-of (c4 .before .args .v .now) (c4 .shared-slice-known .given)) (c .loop-test .taken),
     )
 
--- src/builder.rt:227:17
+-- at `let w = to + NAME_WIDTH;`
 write-entries-add-w : (t : ℕ) → write-entries-lts.Need-add-w (write-entries-claims t) (write-entries-at t) write-entries.Post write-entries-Inv-loop write-entries-μ-loop
 write-entries-add-w t c =
     let c4 = c .before .before .before .before in
@@ -160,7 +164,7 @@ write-entries-add-w t c =
       entry-name (c .before .loop .inv) (bytes-of (c4 .before .args .v .now) (c4 .shared-slice-known .given)) (c .loop-test .taken),
     )
 
--- src/builder.rt:228:9
+-- at `output::copy_name(v, at, out, to);`
 write-entries-copy-name-requires : (t : ℕ) →
     write-entries-lts.Need-copy-name-requires (write-entries-claims t) (write-entries-at t) write-entries.Post write-entries-Inv-loop write-entries-μ-loop
 write-entries-copy-name-requires t c κs =
@@ -168,7 +172,7 @@ write-entries-copy-name-requires t c κs =
     let bytes-of1 = bytes-of (c2 .before .before .before .before .args .v .now) (c2 .before .before .before .shared-slice-known .given) in
     (entry-name (c2 .loop .inv) bytes-of1 (c .before .loop-test .taken), entry-room (c2 .loop .inv) bytes-of1 (c .before .loop-test .taken))
 
--- src/builder.rt:229:28
+-- at `let k = data::leaf(&v[p..]);`
 write-entries-sub-leaf : (t : ℕ) →
     write-entries-lts.Need-sub-leaf (write-entries-claims t) (write-entries-at t) write-entries.Post write-entries-Inv-loop write-entries-μ-loop
 write-entries-sub-leaf t c =
@@ -176,7 +180,7 @@ write-entries-sub-leaf t c =
     let c8 = c4 .before .before .before .before in
     entry-name (c4 .before .loop .inv) (bytes-of (c8 .before .args .v .now) (c8 .shared-slice-known .given)) (c4 .loop-test .taken)
 
--- src/builder.rt:229:28
+-- at `let k = data::leaf(&v[p..]);`
 write-entries-part-leaf-start : (t : ℕ) →
     write-entries-lts.Need-part-leaf-start (write-entries-claims t) (write-entries-at t) write-entries.Post write-entries-Inv-loop write-entries-μ-loop
 write-entries-part-leaf-start t c =
@@ -187,12 +191,12 @@ write-entries-part-leaf-start t c =
           entry-name (c4 .before .loop .inv) (bytes-of (c8 .before .args .v .now) (c8 .shared-slice-known .given)) (c4 .loop-test .taken),
     )
 
--- src/builder.rt:229:28
+-- at `let k = data::leaf(&v[p..]);`
 write-entries-part-leaf-end : (t : ℕ) →
     write-entries-lts.Need-part-leaf-end (write-entries-claims t) (write-entries-at t) write-entries.Post write-entries-Inv-loop write-entries-μ-loop
 write-entries-part-leaf-end t c = search needs
 
--- src/builder.rt:229:13
+-- at `let k = data::leaf(&v[p..]);`
 write-entries-leaf-requires : (t : ℕ) →
     write-entries-lts.Need-leaf-requires (write-entries-claims t) (write-entries-at t) write-entries.Post write-entries-Inv-loop write-entries-μ-loop
 write-entries-leaf-requires t c κs =
@@ -200,7 +204,6 @@ write-entries-leaf-requires t c κs =
     let c9 = c5 .before .before .before .before in
     entry-some (c5 .before .loop .inv) (bytes-of (c9 .before .args .v .now) (c9 .shared-slice-known .given)) (c5 .loop-test .taken)
 
--- src/builder.rt:231:42
 write-entries-shared-slice-read-leaf-type : (t : ℕ) →
     write-entries-lts.Need-shared-slice-read-leaf-type (write-entries-claims t) (write-entries-at t) write-entries.Post write-entries-Inv-loop
     write-entries-μ-loop
@@ -210,12 +213,12 @@ write-entries-shared-slice-read-leaf-type t c =
     (bytes-of (c8 .before .before .before .before .before .args .v .now) (c8 .before .before .before .before .shared-slice-known .given))
     (c8 .loop-test .taken)
 
--- src/builder.rt:231:22
+-- at `out[w] = commands::leaf_type(v[p]);`
 write-entries-leaf-type-requires : (t : ℕ) →
     write-entries-lts.Need-leaf-type-requires (write-entries-claims t) (write-entries-at t) write-entries.Post write-entries-Inv-loop write-entries-μ-loop
 write-entries-leaf-type-requires t c κs = search needs
 
--- src/builder.rt:231:13
+-- at `out[w] = commands::leaf_type(v[p]);`
 write-entries-slice-write-out : (t : ℕ) →
     write-entries-lts.Need-slice-write-out (write-entries-claims t) (write-entries-at t) write-entries.Post write-entries-Inv-loop write-entries-μ-loop
 write-entries-slice-write-out t c =
@@ -225,7 +228,7 @@ write-entries-slice-write-out t c =
     (bytes-of (c9 .before .before .before .before .before .args .v .now) (c9 .before .before .before .before .shared-slice-known .given))
     (c9 .loop-test .taken) _ (c7 .copy-name .ensures)
 
--- src/builder.rt:232:18
+-- at `at = p + k;`
 write-entries-add-at : (t : ℕ) →
     write-entries-lts.Need-add-at (write-entries-claims t) (write-entries-at t) write-entries.Post write-entries-Inv-loop write-entries-μ-loop
 write-entries-add-at t c =
@@ -239,7 +242,7 @@ write-entries-add-at t c =
           (c7 .copy-name .ensures) _ (c .leaf-type .ensures) _ (c .before .before .before .leaf .ensures .0 (omega (arith, c .before .before .if1 .taken))),
     )
 
--- src/builder.rt:233:18
+-- at `to = w + 1;`
 write-entries-add-to : (t : ℕ) →
     write-entries-lts.Need-add-to (write-entries-claims t) (write-entries-at t) write-entries.Post write-entries-Inv-loop write-entries-μ-loop
 write-entries-add-to t c =
@@ -253,16 +256,16 @@ write-entries-add-to t c =
           (c7 .copy-name .ensures) _ (c .leaf-type .ensures) _ (c .before .before .before .leaf .ensures .0 (omega (arith, c .before .before .if1 .taken))),
     )
 
--- src/builder.rt:234:13
+-- at `i += 1;`
 write-entries-add-i : (t : ℕ) → write-entries-lts.Need-add-i (write-entries-claims t) (write-entries-at t) write-entries.Post write-entries-Inv-loop write-entries-μ-loop
 write-entries-add-i t c = search needs
 
--- src/builder.rt:225:5
+-- at `while i < n {`
 write-entries-loop-less : (t : ℕ) →
     write-entries-lts.Need-loop-less (write-entries-claims t) (write-entries-at t) write-entries.Post write-entries-Inv-loop write-entries-μ-loop
 write-entries-loop-less t c = omega (arith, c .before .before .before .before .before .before .before .before .before .loop-test .taken)
 
--- src/builder.rt:225:5
+-- at `while i < n {`
 write-entries-loop-again : (t : ℕ) →
     write-entries-lts.Need-loop-again (write-entries-claims t) (write-entries-at t) write-entries.Post write-entries-Inv-loop write-entries-μ-loop
 write-entries-loop-again t c =
@@ -273,7 +276,7 @@ write-entries-loop-again t c =
     (c9 .loop-test .taken) _ (c7 .copy-name .ensures) _ (c .leaf-type .ensures) _
     (c .before .before .before .leaf .ensures .0 (omega (arith, c .before .before .if1 .taken)))
 
--- src/builder.rt:237:35
+-- at `let e = write_type(least, &v[p..], &mut out[w..], spare, left, reading);`
 write-entries-sub-write-type : (t : ℕ) →
     write-entries-lts.Need-sub-write-type (write-entries-claims t) (write-entries-at t) write-entries.Post write-entries-Inv-loop write-entries-μ-loop
 write-entries-sub-write-type t c =
@@ -282,7 +285,7 @@ write-entries-sub-write-type t c =
     (bytes-of (c7 .before .before .before .before .before .args .v .now) (c7 .before .before .before .before .shared-slice-known .given))
     (c7 .loop-test .taken)
 
--- src/builder.rt:237:35
+-- at `let e = write_type(least, &v[p..], &mut out[w..], spare, left, reading);`
 write-entries-part-write-type-start : (t : ℕ) →
     write-entries-lts.Need-part-write-type-start (write-entries-claims t) (write-entries-at t) write-entries.Post write-entries-Inv-loop
     write-entries-μ-loop
@@ -295,13 +298,13 @@ write-entries-part-write-type-start t c =
           (c7 .loop-test .taken),
     )
 
--- src/builder.rt:237:35
+-- at `let e = write_type(least, &v[p..], &mut out[w..], spare, left, reading);`
 write-entries-part-write-type-end : (t : ℕ) →
     write-entries-lts.Need-part-write-type-end (write-entries-claims t) (write-entries-at t) write-entries.Post write-entries-Inv-loop
     write-entries-μ-loop
 write-entries-part-write-type-end t c = search needs
 
--- src/builder.rt:237:44
+-- at `let e = write_type(least, &v[p..], &mut out[w..], spare, left, reading);`
 write-entries-sub-write-type-2 : (t : ℕ) →
     write-entries-lts.Need-sub-write-type-2 (write-entries-claims t) (write-entries-at t) write-entries.Post write-entries-Inv-loop write-entries-μ-loop
 write-entries-sub-write-type-2 t c =
@@ -314,7 +317,7 @@ write-entries-sub-write-type-2 t c =
       name-len (c8 .before .loop .inv) bytes-of1 (c8 .loop-test .taken) _ (c6 .copy-name .ensures),
     )
 
--- src/builder.rt:237:44
+-- at `let e = write_type(least, &v[p..], &mut out[w..], spare, left, reading);`
 write-entries-part-write-type-start-2 : (t : ℕ) →
     write-entries-lts.Need-part-write-type-start-2 (write-entries-claims t) (write-entries-at t) write-entries.Post write-entries-Inv-loop
     write-entries-μ-loop
@@ -328,13 +331,13 @@ write-entries-part-write-type-start-2 t c =
       name-len (c8 .before .loop .inv) bytes-of1 (c8 .loop-test .taken) _ (c6 .copy-name .ensures),
     )
 
--- src/builder.rt:237:44
+-- at `let e = write_type(least, &v[p..], &mut out[w..], spare, left, reading);`
 write-entries-part-write-type-end-2 : (t : ℕ) →
     write-entries-lts.Need-part-write-type-end-2 (write-entries-claims t) (write-entries-at t) write-entries.Post write-entries-Inv-loop
     write-entries-μ-loop
 write-entries-part-write-type-end-2 t c = search needs
 
--- src/builder.rt:237:13
+-- at `let e = write_type(least, &v[p..], &mut out[w..], spare, left, reading);`
 write-entries-write-type-requires : (t : ℕ) →
     write-entries-lts.Need-write-type-requires (write-entries-claims t) (write-entries-at t) write-entries.Post write-entries-Inv-loop
     write-entries-μ-loop
@@ -351,7 +354,7 @@ write-entries-write-type-requires t c κs =
       ),
     )
 
--- src/builder.rt:238:14
+-- at `at = p + e.read;`
 write-entries-add-at-2 : (t : ℕ) →
     write-entries-lts.Need-add-at-2 (write-entries-claims t) (write-entries-at t) write-entries.Post write-entries-Inv-loop write-entries-μ-loop
 write-entries-add-at-2 t c =
@@ -365,7 +368,7 @@ write-entries-add-at-2 t c =
           (c14 .before .before .loop-test .taken) _ _ _ _ (c14 .copy-name .ensures) (c5 .write-type .ensures .0),
     )
 
--- src/builder.rt:239:14
+-- at `to = w + e.wrote;`
 write-entries-add-to-2 : (t : ℕ) →
     write-entries-lts.Need-add-to-2 (write-entries-claims t) (write-entries-at t) write-entries.Post write-entries-Inv-loop write-entries-μ-loop
 write-entries-add-to-2 t c =
@@ -379,12 +382,12 @@ write-entries-add-to-2 t c =
           (c15 .before .before .loop-test .taken) _ _ _ _ (c15 .copy-name .ensures) (c6 .write-type .ensures .0),
     )
 
--- src/builder.rt:240:9
+-- at `i += 1;`
 write-entries-add-i-2 : (t : ℕ) →
     write-entries-lts.Need-add-i-2 (write-entries-claims t) (write-entries-at t) write-entries.Post write-entries-Inv-loop write-entries-μ-loop
 write-entries-add-i-2 t c = search needs
 
--- src/builder.rt:225:5
+-- at `while i < n {`
 write-entries-loop-less-2 : (t : ℕ) →
     write-entries-lts.Need-loop-less-2 (write-entries-claims t) (write-entries-at t) write-entries.Post write-entries-Inv-loop write-entries-μ-loop
 write-entries-loop-less-2 t c =
@@ -393,7 +396,7 @@ write-entries-loop-less-2 t c =
       c .before .before .before .before .before .before .before .before .before .before .before .before .before .before .before .before .before .loop-test .taken,
     )
 
--- src/builder.rt:225:5
+-- at `while i < n {`
 write-entries-loop-again-2 : (t : ℕ) →
     write-entries-lts.Need-loop-again-2 (write-entries-claims t) (write-entries-at t) write-entries.Post write-entries-Inv-loop write-entries-μ-loop
 write-entries-loop-again-2 t c =
@@ -403,17 +406,17 @@ write-entries-loop-again-2 t c =
     entry-next (c15 .before .before .before .loop .inv) (bytes-of (c21 .before .args .v .now) (c21 .shared-slice-known .given))
     (c15 .before .before .loop-test .taken) _ _ _ _ (c15 .copy-name .ensures) (c6 .write-type .ensures .0) _ (c6 .write-type .ensures .1)
 
--- src/builder.rt:209:1
+-- at the end
 write-entries-same-length : (t : ℕ) →
     write-entries-lts.Need-same-length (write-entries-claims t) (write-entries-at t) write-entries.Post write-entries-Inv-loop write-entries-μ-loop
 write-entries-same-length t c = (c .before .loop .inv) .out-len
 
--- src/builder.rt:209:1
+-- at the end
 write-entries-same-length-2 : (t : ℕ) →
     write-entries-lts.Need-same-length-2 (write-entries-claims t) (write-entries-at t) write-entries.Post write-entries-Inv-loop write-entries-μ-loop
 write-entries-same-length-2 t c = (c .before .loop .inv) .spare-len
 
--- src/builder.rt:209:1
+-- at the end
 write-entries-returns : (t : ℕ) →
     write-entries-lts.Need-returns (write-entries-claims t) (write-entries-at t) write-entries.Post write-entries-Inv-loop write-entries-μ-loop
 write-entries-returns t c =
@@ -422,31 +425,31 @@ write-entries-returns t c =
       (c .before .loop .inv) .spare-len,
     )
 
--- src/builder.rt:181:9
+-- at `out[0] = commands::NULL_TYPE;`
 write-items-slice-write-out : (t : ℕ) →
     write-items-lts.Need-slice-write-out (write-items-claims t) (write-items-at t) write-items.Post write-items-Inv-loop write-items-μ-loop
 write-items-slice-write-out t c =
     omega (
       arith,
       let c4 = c .before .before .before .before in
-          items-one (c4 .args .least) (c4 .args .equal) (c4 .args .left) (c4 .args .v .now) (c4 .args .n) (c4 .args .out .now) (c4 .args .spare .now)
+          items-one (orderOf (c4 .args .reading)) (c4 .args .least) (c4 .args .equal) (c4 .args .left) (c4 .args .v .now) (c4 .args .n) (c4 .args .out .now) (c4 .args .spare .now)
           (c4 .pre .1 .0),
     )
 
--- src/builder.rt:182:9
+-- at `return Ends { read: 0, wrote: 1 };`
 write-items-same-length : (t : ℕ) → write-items-lts.Need-same-length (write-items-claims t) (write-items-at t) write-items.Post write-items-Inv-loop write-items-μ-loop
 write-items-same-length t c = search needs
 
--- src/builder.rt:182:9
+-- at `return Ends { read: 0, wrote: 1 };`
 write-items-returns : (t : ℕ) → write-items-lts.Need-returns (write-items-claims t) (write-items-at t) write-items.Post write-items-Inv-loop write-items-μ-loop
 write-items-returns t c =
     let c4 = c .before .before .before .before in (
-      items-none (c4 .args .least) (c4 .args .equal) (c4 .args .left) (c4 .args .v .now) (c4 .args .n) (c4 .args .out .now) (c4 .args .spare .now)
+      items-none (orderOf (c4 .args .reading)) (c4 .args .least) (c4 .args .equal) (c4 .args .left) (c4 .args .v .now) (c4 .args .n) (c4 .args .out .now) (c4 .args .spare .now)
           (c4 .pre .1 .0) (c .if1 .taken),
       refl,
     )
 
--- src/builder.rt:184:9
+-- at `let e = write_type(least, v, out, spare, left, reading);`
 write-items-write-type-requires : (t : ℕ) →
     write-items-lts.Need-write-type-requires (write-items-claims t) (write-items-at t) write-items.Post write-items-Inv-loop write-items-μ-loop
 write-items-write-type-requires t c κs =
@@ -454,44 +457,43 @@ write-items-write-type-requires t c κs =
     let c6 = c5 .before in (
       omega (arith, c6 .pre .0),
       (
-        items-first (c6 .args .least) (c6 .args .equal) (c6 .args .left) (c6 .args .v .now) (c6 .args .n) (c6 .args .out .now) (c6 .args .spare .now)
+        items-first (orderOf (c6 .args .reading)) (c6 .args .least) (c6 .args .equal) (c6 .args .left) (c6 .args .v .now) (c6 .args .n) (c6 .args .out .now) (c6 .args .spare .now)
             (c6 .pre .1 .0) (bytes-of (c6 .args .v .now) (c5 .shared-slice-known .given)) (c6 .pre .1 .1) (c .before .before .if1 .left),
         c6 .pre .1 .1,
       ),
     )
 
--- src/builder.rt:188:5
+-- at `while i < n {`
 write-items-loop-holds : (t : ℕ) → write-items-lts.Need-loop-holds (write-items-claims t) (write-items-at t) write-items.Post write-items-Inv-loop write-items-μ-loop
 write-items-loop-holds t c =
     let c4 = c .before .before .before .before in
     let c10 = c4 .before .before .before .before .before .before in
     let args = c10 .before .args in
-    items-start (args .least) (args .equal) (args .left) (args .v .now) (args .n) (args .out .now) (args .spare .now) (c10 .before .pre .1 .0)
+    items-start (orderOf (args .reading)) (args .least) (args .equal) (args .left) (args .v .now) (args .n) (args .out .now) (args .spare .now) (c10 .before .pre .1 .0)
     (bytes-of (args .v .now) (c10 .shared-slice-known .given)) (c10 .before .pre .1 .1) (c4 .before .before .before .if1 .left) _ _ _ _
     (c4 .write-type .ensures .0) (c4 .write-type .ensures .1)
 
--- src/builder.rt:189:28
+-- at `let k = data::leaf(&v[at..]);`
 write-items-sub-leaf : (t : ℕ) → write-items-lts.Need-sub-leaf (write-items-claims t) (write-items-at t) write-items.Post write-items-Inv-loop write-items-μ-loop
 write-items-sub-leaf t c = (c .before .loop .inv) .in-v
 
--- src/builder.rt:189:28
+-- at `let k = data::leaf(&v[at..]);`
 write-items-part-leaf-start : (t : ℕ) →
     write-items-lts.Need-part-leaf-start (write-items-claims t) (write-items-at t) write-items.Post write-items-Inv-loop write-items-μ-loop
 write-items-part-leaf-start t c = omega (arith, (c .before .loop .inv) .in-v)
 
--- src/builder.rt:189:28
+-- at `let k = data::leaf(&v[at..]);`
 write-items-part-leaf-end : (t : ℕ) →
     write-items-lts.Need-part-leaf-end (write-items-claims t) (write-items-at t) write-items.Post write-items-Inv-loop write-items-μ-loop
 write-items-part-leaf-end t c = search needs
 
--- src/builder.rt:189:13
+-- at `let k = data::leaf(&v[at..]);`
 write-items-leaf-requires : (t : ℕ) →
     write-items-lts.Need-leaf-requires (write-items-claims t) (write-items-at t) write-items.Post write-items-Inv-loop write-items-μ-loop
 write-items-leaf-requires t c κs =
     let c13 = c .before .before .before .before .before .before .before .before .before .before .before .before .before in
     item-some (c .before .before .loop .inv) (bytes-of (c13 .before .args .v .now) (c13 .shared-slice-known .given)) (c .before .loop-test .taken)
 
--- src/builder.rt:191:43
 write-items-shared-slice-read-leaf-type : (t : ℕ) →
     write-items-lts.Need-shared-slice-read-leaf-type (write-items-claims t) (write-items-at t) write-items.Post write-items-Inv-loop write-items-μ-loop
 write-items-shared-slice-read-leaf-type t c =
@@ -499,12 +501,12 @@ write-items-shared-slice-read-leaf-type t c =
     let c16 = c4 .before .before .before .before .before .before .before .before .before .before .before .before in
     item-byte (c4 .before .loop .inv) (bytes-of (c16 .before .args .v .now) (c16 .shared-slice-known .given)) (c4 .loop-test .taken)
 
--- src/builder.rt:191:23
+-- at `out[to] = commands::leaf_type(v[at]);`
 write-items-leaf-type-requires : (t : ℕ) →
     write-items-lts.Need-leaf-type-requires (write-items-claims t) (write-items-at t) write-items.Post write-items-Inv-loop write-items-μ-loop
 write-items-leaf-type-requires t c κs = search needs
 
--- src/builder.rt:191:13
+-- at `out[to] = commands::leaf_type(v[at]);`
 write-items-slice-write-out-2 : (t : ℕ) →
     write-items-lts.Need-slice-write-out-2 (write-items-claims t) (write-items-at t) write-items.Post write-items-Inv-loop write-items-μ-loop
 write-items-slice-write-out-2 t c =
@@ -512,7 +514,7 @@ write-items-slice-write-out-2 t c =
     let c17 = c5 .before .before .before .before .before .before .before .before .before .before .before .before in
     item-free (c5 .before .loop .inv) (bytes-of (c17 .before .args .v .now) (c17 .shared-slice-known .given)) (c5 .loop-test .taken)
 
--- src/builder.rt:192:18
+-- at `at = at + k;`
 write-items-add-at : (t : ℕ) → write-items-lts.Need-add-at (write-items-claims t) (write-items-at t) write-items.Post write-items-Inv-loop write-items-μ-loop
 write-items-add-at t c =
     let c5 = c .before .before .before .before .before in
@@ -524,7 +526,7 @@ write-items-add-at t c =
           (c17 .before .pre .1 .1) _ (c .leaf-type .ensures) _ (c .before .before .before .leaf .ensures .0 (omega (arith, c .before .before .if2 .taken))),
     )
 
--- src/builder.rt:193:13
+-- at `to = join(least, equal, out, to, 1, spare, reading);`
 write-items-join-requires : (t : ℕ) →
     write-items-lts.Need-join-requires (write-items-claims t) (write-items-at t) write-items.Post write-items-Inv-loop write-items-μ-loop
 write-items-join-requires t c κs =
@@ -537,18 +539,18 @@ write-items-join-requires t c κs =
       leaf-reduced (c7 .before .loop .inv) bytes-of1 (c7 .loop-test .taken) (c19 .before .pre .1 .1) _ (c .before .before .leaf-type .ensures) _ c1,
     )
 
--- src/builder.rt:194:13
+-- at `i += 1;`
 write-items-add-i : (t : ℕ) → write-items-lts.Need-add-i (write-items-claims t) (write-items-at t) write-items.Post write-items-Inv-loop write-items-μ-loop
 write-items-add-i t c =
     let c12 = c .before .before .before .before .before .before .before .before .before .before .before .before in
     omega
     (arith, c12 .before .before .before .before .before .before .before .before .before .before .before .before .before .good, c12 .loop-test .taken)
 
--- src/builder.rt:188:5
+-- at `while i < n {`
 write-items-loop-less : (t : ℕ) → write-items-lts.Need-loop-less (write-items-claims t) (write-items-at t) write-items.Post write-items-Inv-loop write-items-μ-loop
 write-items-loop-less t c = omega (arith, c .before .before .before .before .before .before .before .before .before .before .before .before .loop-test .taken)
 
--- src/builder.rt:188:5
+-- at `while i < n {`
 write-items-loop-again : (t : ℕ) → write-items-lts.Need-loop-again (write-items-claims t) (write-items-at t) write-items.Post write-items-Inv-loop write-items-μ-loop
 write-items-loop-again t c =
     let c4 = c .before .before .before .before in
@@ -559,22 +561,22 @@ write-items-loop-again t c =
     (c24 .before .pre .1 .1) _ (c4 .before .before .before .leaf-type .ensures) _ (c9 .before .leaf .ensures .0 (omega (arith, c9 .if2 .taken))) _ _ _
     (c4 .join .ensures .0) (c4 .join .ensures .1)
 
--- src/builder.rt:197:35
+-- at `let e = write_type(least, &v[at..], &mut out[to..], spare, left, reading);`
 write-items-sub-write-type : (t : ℕ) →
     write-items-lts.Need-sub-write-type (write-items-claims t) (write-items-at t) write-items.Post write-items-Inv-loop write-items-μ-loop
 write-items-sub-write-type t c = (c .before .before .before .before .loop .inv) .in-v
 
--- src/builder.rt:197:35
+-- at `let e = write_type(least, &v[at..], &mut out[to..], spare, left, reading);`
 write-items-part-write-type-start : (t : ℕ) →
     write-items-lts.Need-part-write-type-start (write-items-claims t) (write-items-at t) write-items.Post write-items-Inv-loop write-items-μ-loop
 write-items-part-write-type-start t c = omega (arith, (c .before .before .before .before .loop .inv) .in-v)
 
--- src/builder.rt:197:35
+-- at `let e = write_type(least, &v[at..], &mut out[to..], spare, left, reading);`
 write-items-part-write-type-end : (t : ℕ) →
     write-items-lts.Need-part-write-type-end (write-items-claims t) (write-items-at t) write-items.Post write-items-Inv-loop write-items-μ-loop
 write-items-part-write-type-end t c = search needs
 
--- src/builder.rt:197:45
+-- at `let e = write_type(least, &v[at..], &mut out[to..], spare, left, reading);`
 write-items-sub-write-type-2 : (t : ℕ) →
     write-items-lts.Need-sub-write-type-2 (write-items-claims t) (write-items-at t) write-items.Post write-items-Inv-loop write-items-μ-loop
 write-items-sub-write-type-2 t c =
@@ -582,7 +584,7 @@ write-items-sub-write-type-2 t c =
     let c16 = c5 .before .before .before .before .before .before .before .before .before .before .before in
     item-room (c5 .loop .inv) (bytes-of (c16 .before .args .v .now) (c16 .shared-slice-known .given))
 
--- src/builder.rt:197:45
+-- at `let e = write_type(least, &v[at..], &mut out[to..], spare, left, reading);`
 write-items-part-write-type-start-2 : (t : ℕ) →
     write-items-lts.Need-part-write-type-start-2 (write-items-claims t) (write-items-at t) write-items.Post write-items-Inv-loop write-items-μ-loop
 write-items-part-write-type-start-2 t c =
@@ -593,12 +595,12 @@ write-items-part-write-type-start-2 t c =
           item-room (c5 .loop .inv) (bytes-of (c16 .before .args .v .now) (c16 .shared-slice-known .given)),
     )
 
--- src/builder.rt:197:45
+-- at `let e = write_type(least, &v[at..], &mut out[to..], spare, left, reading);`
 write-items-part-write-type-end-2 : (t : ℕ) →
     write-items-lts.Need-part-write-type-end-2 (write-items-claims t) (write-items-at t) write-items.Post write-items-Inv-loop write-items-μ-loop
 write-items-part-write-type-end-2 t c = search needs
 
--- src/builder.rt:197:13
+-- at `let e = write_type(least, &v[at..], &mut out[to..], spare, left, reading);`
 write-items-write-type-requires-2 : (t : ℕ) →
     write-items-lts.Need-write-type-requires-2 (write-items-claims t) (write-items-at t) write-items.Post write-items-Inv-loop write-items-μ-loop
 write-items-write-type-requires-2 t c κs =
@@ -611,7 +613,7 @@ write-items-write-type-requires-2 t c κs =
       ),
     )
 
--- src/builder.rt:198:14
+-- at `at = at + e.read;`
 write-items-add-at-2 : (t : ℕ) → write-items-lts.Need-add-at-2 (write-items-claims t) (write-items-at t) write-items.Post write-items-Inv-loop write-items-μ-loop
 write-items-add-at-2 t c =
     let c5 = c .before .before .before .before .before in
@@ -624,7 +626,7 @@ write-items-add-at-2 t c =
           (c24 .before .pre .1 .1) _ (c5 .write-type2 .last .1 .1 .1 .0) _ _ (c5 .write-type2 .ensures .0) (c5 .write-type2 .ensures .1),
     )
 
--- src/builder.rt:199:9
+-- at `to = join(least, equal, out, to, e.wrote, spare, reading);`
 write-items-join-requires-2 : (t : ℕ) →
     write-items-lts.Need-join-requires-2 (write-items-claims t) (write-items-at t) write-items.Post write-items-Inv-loop write-items-μ-loop
 write-items-join-requires-2 t c κs =
@@ -638,7 +640,7 @@ write-items-join-requires-2 t c κs =
           (c7 .write-type2 .ensures .0) (c7 .write-type2 .ensures .1),
     )
 
--- src/builder.rt:200:9
+-- at `i += 1;`
 write-items-add-i-2 : (t : ℕ) → write-items-lts.Need-add-i-2 (write-items-claims t) (write-items-at t) write-items.Post write-items-Inv-loop write-items-μ-loop
 write-items-add-i-2 t c =
     let c19 =
@@ -646,7 +648,7 @@ write-items-add-i-2 t c =
     omega
     (arith, c19 .before .before .before .before .before .before .before .before .before .before .before .before .before .good, c19 .loop-test .taken)
 
--- src/builder.rt:188:5
+-- at `while i < n {`
 write-items-loop-less-2 : (t : ℕ) → write-items-lts.Need-loop-less-2 (write-items-claims t) (write-items-at t) write-items.Post write-items-Inv-loop write-items-μ-loop
 write-items-loop-less-2 t c =
     omega (
@@ -654,7 +656,7 @@ write-items-loop-less-2 t c =
       c .before .before .before .before .before .before .before .before .before .before .before .before .before .before .before .before .before .before .before .loop-test .taken,
     )
 
--- src/builder.rt:188:5
+-- at `while i < n {`
 write-items-loop-again-2 : (t : ℕ) → write-items-lts.Need-loop-again-2 (write-items-claims t) (write-items-at t) write-items.Post write-items-Inv-loop write-items-μ-loop
 write-items-loop-again-2 t c =
     let c4 = c .before .before .before .before in
@@ -665,7 +667,7 @@ write-items-loop-again-2 t c =
     (c31 .before .pre .1 .1) _ (c12 .write-type2 .last .1 .1 .1 .0) _ _ (c12 .write-type2 .ensures .0) (c12 .write-type2 .ensures .1) _ _ _
     (c4 .join2 .ensures .0) (c4 .join2 .ensures .1)
 
--- src/builder.rt:166:1
+-- at the end
 write-items-same-length-2 : (t : ℕ) →
     write-items-lts.Need-same-length-2 (write-items-claims t) (write-items-at t) write-items.Post write-items-Inv-loop write-items-μ-loop
 write-items-same-length-2 t c =
@@ -674,15 +676,15 @@ write-items-same-length-2 t c =
     let c12 = c9 .before .before .before in
     let args = c12 .before .args in
     (c .before .loop .inv) .out-len ∙
-    (items-kept (args .least) (args .equal) (args .left) (args .v .now) (args .n) (args .out .now) (args .spare .now) (c12 .before .pre .1 .0)
+    (items-kept (orderOf (args .reading)) (args .least) (args .equal) (args .left) (args .v .now) (args .n) (args .out .now) (args .spare .now) (c12 .before .pre .1 .0)
     (bytes-of (args .v .now) (c12 .shared-slice-known .given)) (c12 .before .pre .1 .1) (c9 .if1 .left) _ _ _ (c6 .write-type .ensures .0))
 
--- src/builder.rt:166:1
+-- at the end
 write-items-same-length-3 : (t : ℕ) →
     write-items-lts.Need-same-length-3 (write-items-claims t) (write-items-at t) write-items.Post write-items-Inv-loop write-items-μ-loop
 write-items-same-length-3 t c = (c .before .loop .inv) .spare-len ∙ c .before .before .before .before .before .before .write-type .ensures .1
 
--- src/builder.rt:166:1
+-- at the end
 write-items-returns-2 : (t : ℕ) → write-items-lts.Need-returns-2 (write-items-claims t) (write-items-at t) write-items.Post write-items-Inv-loop write-items-μ-loop
 write-items-returns-2 t c =
     let c6 = c .before .before .before .before .before .before in
@@ -691,39 +693,39 @@ write-items-returns-2 t c =
     let args = c12 .before .args in
     let bytes-of1 = bytes-of (args .v .now) (c12 .shared-slice-known .given) in (
       items-done (c .before .loop .inv) bytes-of1 (c .loop-test .left) _
-          (items-kept (args .least) (args .equal) (args .left) (args .v .now) (args .n) (args .out .now) (args .spare .now) (c12 .before .pre .1 .0) bytes-of1
+          (items-kept (orderOf (args .reading)) (args .least) (args .equal) (args .left) (args .v .now) (args .n) (args .out .now) (args .spare .now) (c12 .before .pre .1 .0) bytes-of1
           (c12 .before .pre .1 .1) (c9 .if1 .left) _ _ _ (c6 .write-type .ensures .0)),
       (c .before .loop .inv) .spare-len ∙ c6 .write-type .ensures .1,
     )
 
--- src/builder.rt:102:13
+-- at `let c = v[0];`
 write-type-shared-slice-read-c : (t : ℕ) → write-type-lts.Need-shared-slice-read-c (write-type-claims t) (write-type-at t) write-type.Post
 write-type-shared-slice-read-c t c =
     let c4 = c .before .before .before .before in
-    first-byte (c4 .args .least) (c4 .args .left) (c4 .args .v .now) (c4 .args .out .now) (c4 .args .spare .now) (c4 .pre .1 .0)
+    first-byte (orderOf (c4 .args .reading)) (c4 .args .least) (c4 .args .left) (c4 .args .v .now) (c4 .args .out .now) (c4 .args .spare .now) (c4 .pre .1 .0)
     (bytes-of (c4 .args .v .now) (c .before .before .before .shared-slice-known .given))
 
--- src/builder.rt:112:13
+-- at `out[0] = commands::RANGE_TYPE;`
 write-type-slice-write-out : (t : ℕ) → write-type-lts.Need-slice-write-out (write-type-claims t) (write-type-at t) write-type.Post
 write-type-slice-write-out t c =
     omega (
       arith,
       let c4 = c .before .before .before .before in
           let c5 = c4 .before in
-          one-free (c5 .args .least) (c5 .args .left) (c5 .args .v .now) (c5 .args .out .now) (c5 .args .spare .now) (c5 .pre .1 .0)
+          one-free (orderOf (c5 .args .reading)) (c5 .args .least) (c5 .args .left) (c5 .args .v .now) (c5 .args .out .now) (c5 .args .spare .now) (c5 .pre .1 .0)
           (bytes-of (c5 .args .v .now) (c4 .shared-slice-known .given)),
     )
 
--- src/builder.rt:113:46
+-- at `&v[3..],`
 write-type-sub-write-items : (t : ℕ) → write-type-lts.Need-sub-write-items (write-type-claims t) (write-type-at t) write-type.Post
 write-type-sub-write-items t c =
     let c4 = c .before .before .before .before in
     let c5 = c4 .before in
     under-head
-    ((in-range (c5 .args .least) (c5 .args .left) (c5 .args .v .now) (c5 .args .out .now) (c5 .args .spare .now) (c5 .pre .1 .0)
+    ((in-range (orderOf (c5 .args .reading)) (c5 .args .least) (c5 .args .left) (c5 .args .v .now) (c5 .args .out .now) (c5 .args .spare .now) (c5 .pre .1 .0)
     (bytes-of (c5 .args .v .now) (c4 .shared-slice-known .given)) (c .match .keys2)) .under)
 
--- src/builder.rt:113:46
+-- at `&v[3..],`
 write-type-part-write-items-start : (t : ℕ) → write-type-lts.Need-part-write-items-start (write-type-claims t) (write-type-at t) write-type.Post
 write-type-part-write-items-start t c =
     omega (
@@ -731,24 +733,24 @@ write-type-part-write-items-start t c =
       let c4 = c .before .before .before .before in
           let c5 = c4 .before in
           under-head
-          ((in-range (c5 .args .least) (c5 .args .left) (c5 .args .v .now) (c5 .args .out .now) (c5 .args .spare .now) (c5 .pre .1 .0)
+          ((in-range (orderOf (c5 .args .reading)) (c5 .args .least) (c5 .args .left) (c5 .args .v .now) (c5 .args .out .now) (c5 .args .spare .now) (c5 .pre .1 .0)
           (bytes-of (c5 .args .v .now) (c4 .shared-slice-known .given)) (c .match .keys2)) .under),
     )
 
--- src/builder.rt:113:46
+-- at `&v[3..],`
 write-type-part-write-items-end : (t : ℕ) → write-type-lts.Need-part-write-items-end (write-type-claims t) (write-type-at t) write-type.Post
 write-type-part-write-items-end t c = search needs
 
--- src/builder.rt:113:58
+-- at `&mut out[1..],`
 write-type-sub-write-items-2 : (t : ℕ) → write-type-lts.Need-sub-write-items-2 (write-type-claims t) (write-type-at t) write-type.Post
 write-type-sub-write-items-2 t c =
     let c5 = c .before .before .before .before .before in
     let c6 = c5 .before in
     under-free
-    ((in-range (c6 .args .least) (c6 .args .left) (c6 .args .v .now) (c6 .args .out .now) (c6 .args .spare .now) (c6 .pre .1 .0)
+    ((in-range (orderOf (c6 .args .reading)) (c6 .args .least) (c6 .args .left) (c6 .args .v .now) (c6 .args .out .now) (c6 .args .spare .now) (c6 .pre .1 .0)
     (bytes-of (c6 .args .v .now) (c5 .shared-slice-known .given)) (c .before .match .keys2)) .under)
 
--- src/builder.rt:113:58
+-- at `&mut out[1..],`
 write-type-part-write-items-start-2 : (t : ℕ) → write-type-lts.Need-part-write-items-start-2 (write-type-claims t) (write-type-at t) write-type.Post
 write-type-part-write-items-start-2 t c =
     omega (
@@ -756,40 +758,40 @@ write-type-part-write-items-start-2 t c =
       let c5 = c .before .before .before .before .before in
           let c6 = c5 .before in
           under-free
-          ((in-range (c6 .args .least) (c6 .args .left) (c6 .args .v .now) (c6 .args .out .now) (c6 .args .spare .now) (c6 .pre .1 .0)
+          ((in-range (orderOf (c6 .args .reading)) (c6 .args .least) (c6 .args .left) (c6 .args .v .now) (c6 .args .out .now) (c6 .args .spare .now) (c6 .pre .1 .0)
           (bytes-of (c6 .args .v .now) (c5 .shared-slice-known .given)) (c .before .match .keys2)) .under),
     )
 
--- src/builder.rt:113:58
+-- at `&mut out[1..],`
 write-type-part-write-items-end-2 : (t : ℕ) → write-type-lts.Need-part-write-items-end-2 (write-type-claims t) (write-type-at t) write-type.Post
 write-type-part-write-items-end-2 t c = search needs
 
--- src/builder.rt:113:80
+-- at `left - 1,`
 write-type-sub-write-items-3 : (t : ℕ) → write-type-lts.Need-sub-write-items-3 (write-type-claims t) (write-type-at t) write-type.Post
 write-type-sub-write-items-3 t c =
     let c7 = c .before .before .before .before .before .before .before in
     let args = c7 .before .args in
-    level-left (args .least) (args .left) (args .v .now) (args .out .now) (args .spare .now) (c7 .before .pre .1 .0)
+    level-left (orderOf (args .reading)) (args .least) (args .left) (args .v .now) (args .out .now) (args .spare .now) (c7 .before .pre .1 .0)
     (bytes-of (args .v .now) (c7 .shared-slice-known .given))
 
--- src/builder.rt:113:17
+-- at `let e = write_items(`
 write-type-write-items-requires : (t : ℕ) → write-type-lts.Need-write-items-requires (write-type-claims t) (write-type-at t) write-type.Post
 write-type-write-items-requires t c κs =
     let c7 = c .before .before .before .before .before .before .before in
     let pre = c7 .before .pre in
     let args = c7 .before .args in
     let bytes-of1 = bytes-of (args .v .now) (c7 .shared-slice-known .given) in (
-      omega (arith, pre .0, level-left (args .least) (args .left) (args .v .now) (args .out .now) (args .spare .now) (pre .1 .0) bytes-of1),
+      omega (arith, pre .0, level-left (orderOf (args .reading)) (args .least) (args .left) (args .v .now) (args .out .now) (args .spare .now) (pre .1 .0) bytes-of1),
       (
         part-fits
-            (in-range (args .least) (args .left) (args .v .now) (args .out .now) (args .spare .now) (pre .1 .0) bytes-of1 (c .before .before .before .match .keys2)),
+            (in-range (orderOf (args .reading)) (args .least) (args .left) (args .v .now) (args .out .now) (args .spare .now) (pre .1 .0) bytes-of1 (c .before .before .before .match .keys2)),
         omega (arith, pre .1 .1),
       ),
     )
 
--- src/builder.rt:115:23
-write-type-add-t21 : (t : ℕ) → write-type-lts.Need-add-t21 (write-type-claims t) (write-type-at t) write-type.Post
-write-type-add-t21 t c =
+-- at `read: e.read + 3,`
+write-type-add-t22 : (t : ℕ) → write-type-lts.Need-add-t22 (write-type-claims t) (write-type-at t) write-type.Post
+write-type-add-t22 t c =
     let c5 = c .before .before .before .before .before in
     let c9 = c5 .before .before .before .before in
     let c13 = c9 .before .before .before .before in
@@ -798,14 +800,14 @@ write-type-add-t21 t c =
       c13 .before .good,
       let args = c13 .before .args in
           under-read
-          ((in-range (args .least) (args .left) (args .v .now) (args .out .now) (args .spare .now) (c13 .before .pre .1 .0)
+          ((in-range (orderOf (args .reading)) (args .least) (args .left) (args .v .now) (args .out .now) (args .spare .now) (c13 .before .pre .1 .0)
           (bytes-of (args .v .now) (c13 .shared-slice-known .given)) (c9 .match .keys2)) .under)
           _ _ _ (c5 .write-items .ensures .0),
     )
 
--- src/builder.rt:116:24
-write-type-add-t30 : (t : ℕ) → write-type-lts.Need-add-t30 (write-type-claims t) (write-type-at t) write-type.Post
-write-type-add-t30 t c =
+-- at `wrote: e.wrote + 1,`
+write-type-add-t31 : (t : ℕ) → write-type-lts.Need-add-t31 (write-type-claims t) (write-type-at t) write-type.Post
+write-type-add-t31 t c =
     let c6 = c .before .before .before .before .before .before in
     let c14 = c6 .before .before .before .before .before .before .before .before in
     omega (
@@ -813,41 +815,41 @@ write-type-add-t30 t c =
       c14 .before .good,
       let args = c14 .before .args in
           under-wrote
-          ((in-range (args .least) (args .left) (args .v .now) (args .out .now) (args .spare .now) (c14 .before .pre .1 .0)
+          ((in-range (orderOf (args .reading)) (args .least) (args .left) (args .v .now) (args .out .now) (args .spare .now) (c14 .before .pre .1 .0)
           (bytes-of (args .v .now) (c14 .shared-slice-known .given)) (c6 .before .before .before .before .match .keys2)) .under)
           _ _ _ (c6 .write-items .ensures .0),
     )
 
--- src/builder.rt:120:17
+-- at `let n = form::bytes::word_at(v, 1);`
 write-type-word-at-requires : (t : ℕ) → write-type-lts.Need-word-at-requires (write-type-claims t) (write-type-at t) write-type.Post
 write-type-word-at-requires t c κs =
     let c4 = c .before .before .before .before in
     let c5 = c4 .before in
     under-head
-    ((in-list (c5 .args .least) (c5 .args .left) (c5 .args .v .now) (c5 .args .out .now) (c5 .args .spare .now) (c5 .pre .1 .0)
-    (bytes-of (c5 .args .v .now) (c4 .shared-slice-known .given)) _ refl (c .match .keys3)) .under)
+    ((in-list (orderOf (c5 .args .reading)) (c5 .args .least) (c5 .args .left) (c5 .args .v .now) (c5 .args .out .now) (c5 .args .spare .now) (c5 .pre .1 .0)
+    (bytes-of (c5 .args .v .now) (c4 .shared-slice-known .given)) (reading-laws (c5 .args .reading)) _ refl (c .match .keys3)) .under)
 
--- src/builder.rt:121:13
+-- at `out[0] = commands::LIST_TYPE;`
 write-type-slice-write-out-2 : (t : ℕ) → write-type-lts.Need-slice-write-out-2 (write-type-claims t) (write-type-at t) write-type.Post
 write-type-slice-write-out-2 t c =
     omega (
       arith,
       let c5 = c .before .before .before .before .before in
           let c6 = c5 .before in
-          one-free (c6 .args .least) (c6 .args .left) (c6 .args .v .now) (c6 .args .out .now) (c6 .args .spare .now) (c6 .pre .1 .0)
+          one-free (orderOf (c6 .args .reading)) (c6 .args .least) (c6 .args .left) (c6 .args .v .now) (c6 .args .out .now) (c6 .args .spare .now) (c6 .pre .1 .0)
           (bytes-of (c6 .args .v .now) (c5 .shared-slice-known .given)),
     )
 
--- src/builder.rt:122:47
+-- at `&v[3..],`
 write-type-sub-write-items-4 : (t : ℕ) → write-type-lts.Need-sub-write-items-4 (write-type-claims t) (write-type-at t) write-type.Post
 write-type-sub-write-items-4 t c =
     let c5 = c .before .before .before .before .before in
     let c6 = c5 .before in
     under-head
-    ((in-list (c6 .args .least) (c6 .args .left) (c6 .args .v .now) (c6 .args .out .now) (c6 .args .spare .now) (c6 .pre .1 .0)
-    (bytes-of (c6 .args .v .now) (c5 .shared-slice-known .given)) _ (c .word-at .ensures .0) (c .before .match .keys3)) .under)
+    ((in-list (orderOf (c6 .args .reading)) (c6 .args .least) (c6 .args .left) (c6 .args .v .now) (c6 .args .out .now) (c6 .args .spare .now) (c6 .pre .1 .0)
+    (bytes-of (c6 .args .v .now) (c5 .shared-slice-known .given)) (reading-laws (c6 .args .reading)) _ (c .word-at .ensures .0) (c .before .match .keys3)) .under)
 
--- src/builder.rt:122:47
+-- at `&v[3..],`
 write-type-part-write-items-start-3 : (t : ℕ) → write-type-lts.Need-part-write-items-start-3 (write-type-claims t) (write-type-at t) write-type.Post
 write-type-part-write-items-start-3 t c =
     omega (
@@ -855,24 +857,24 @@ write-type-part-write-items-start-3 t c =
       let c5 = c .before .before .before .before .before in
           let c6 = c5 .before in
           under-head
-          ((in-list (c6 .args .least) (c6 .args .left) (c6 .args .v .now) (c6 .args .out .now) (c6 .args .spare .now) (c6 .pre .1 .0)
-          (bytes-of (c6 .args .v .now) (c5 .shared-slice-known .given)) _ (c .word-at .ensures .0) (c .before .match .keys3)) .under),
+          ((in-list (orderOf (c6 .args .reading)) (c6 .args .least) (c6 .args .left) (c6 .args .v .now) (c6 .args .out .now) (c6 .args .spare .now) (c6 .pre .1 .0)
+          (bytes-of (c6 .args .v .now) (c5 .shared-slice-known .given)) (reading-laws (c6 .args .reading)) _ (c .word-at .ensures .0) (c .before .match .keys3)) .under),
     )
 
--- src/builder.rt:122:47
+-- at `&v[3..],`
 write-type-part-write-items-end-3 : (t : ℕ) → write-type-lts.Need-part-write-items-end-3 (write-type-claims t) (write-type-at t) write-type.Post
 write-type-part-write-items-end-3 t c = search needs
 
--- src/builder.rt:122:59
+-- at `&mut out[1..],`
 write-type-sub-write-items-5 : (t : ℕ) → write-type-lts.Need-sub-write-items-5 (write-type-claims t) (write-type-at t) write-type.Post
 write-type-sub-write-items-5 t c =
     let c6 = c .before .before .before .before .before .before in
     let c7 = c6 .before in
     under-free
-    ((in-list (c7 .args .least) (c7 .args .left) (c7 .args .v .now) (c7 .args .out .now) (c7 .args .spare .now) (c7 .pre .1 .0)
-    (bytes-of (c7 .args .v .now) (c6 .shared-slice-known .given)) _ (c .before .word-at .ensures .0) (c .before .before .match .keys3)) .under)
+    ((in-list (orderOf (c7 .args .reading)) (c7 .args .least) (c7 .args .left) (c7 .args .v .now) (c7 .args .out .now) (c7 .args .spare .now) (c7 .pre .1 .0)
+    (bytes-of (c7 .args .v .now) (c6 .shared-slice-known .given)) (reading-laws (c7 .args .reading)) _ (c .before .word-at .ensures .0) (c .before .before .match .keys3)) .under)
 
--- src/builder.rt:122:59
+-- at `&mut out[1..],`
 write-type-part-write-items-start-4 : (t : ℕ) → write-type-lts.Need-part-write-items-start-4 (write-type-claims t) (write-type-at t) write-type.Post
 write-type-part-write-items-start-4 t c =
     omega (
@@ -880,23 +882,23 @@ write-type-part-write-items-start-4 t c =
       let c6 = c .before .before .before .before .before .before in
           let c7 = c6 .before in
           under-free
-          ((in-list (c7 .args .least) (c7 .args .left) (c7 .args .v .now) (c7 .args .out .now) (c7 .args .spare .now) (c7 .pre .1 .0)
-          (bytes-of (c7 .args .v .now) (c6 .shared-slice-known .given)) _ (c .before .word-at .ensures .0) (c .before .before .match .keys3)) .under),
+          ((in-list (orderOf (c7 .args .reading)) (c7 .args .least) (c7 .args .left) (c7 .args .v .now) (c7 .args .out .now) (c7 .args .spare .now) (c7 .pre .1 .0)
+          (bytes-of (c7 .args .v .now) (c6 .shared-slice-known .given)) (reading-laws (c7 .args .reading)) _ (c .before .word-at .ensures .0) (c .before .before .match .keys3)) .under),
     )
 
--- src/builder.rt:122:59
+-- at `&mut out[1..],`
 write-type-part-write-items-end-4 : (t : ℕ) → write-type-lts.Need-part-write-items-end-4 (write-type-claims t) (write-type-at t) write-type.Post
 write-type-part-write-items-end-4 t c = search needs
 
--- src/builder.rt:122:81
+-- at `left - 1,`
 write-type-sub-write-items-6 : (t : ℕ) → write-type-lts.Need-sub-write-items-6 (write-type-claims t) (write-type-at t) write-type.Post
 write-type-sub-write-items-6 t c =
     let c8 = c .before .before .before .before .before .before .before .before in
     let args = c8 .before .args in
-    level-left (args .least) (args .left) (args .v .now) (args .out .now) (args .spare .now) (c8 .before .pre .1 .0)
+    level-left (orderOf (args .reading)) (args .least) (args .left) (args .v .now) (args .out .now) (args .spare .now) (c8 .before .pre .1 .0)
     (bytes-of (args .v .now) (c8 .shared-slice-known .given))
 
--- src/builder.rt:122:17
+-- at `let e = write_items(`
 write-type-write-items-requires-2 : (t : ℕ) → write-type-lts.Need-write-items-requires-2 (write-type-claims t) (write-type-at t) write-type.Post
 write-type-write-items-requires-2 t c κs =
     let c3 = c .before .before .before in
@@ -904,18 +906,19 @@ write-type-write-items-requires-2 t c κs =
     let args = c8 .before .args in
     let bytes-of1 = bytes-of (args .v .now) (c8 .shared-slice-known .given) in
     let pre = c8 .before .pre in (
-      omega (arith, pre .0, level-left (args .least) (args .left) (args .v .now) (args .out .now) (args .spare .now) (pre .1 .0) bytes-of1),
+      omega (arith, pre .0, level-left (orderOf (args .reading)) (args .least) (args .left) (args .v .now) (args .out .now) (args .spare .now) (pre .1 .0) bytes-of1),
       (
         part-fits
-            (in-list (args .least) (args .left) (args .v .now) (args .out .now) (args .spare .now) (pre .1 .0) bytes-of1 _ (c3 .word-at .ensures .0)
+            (in-list (orderOf (args .reading)) (args .least) (args .left) (args .v .now) (args .out .now) (args .spare .now) (pre .1 .0) bytes-of1 (reading-laws (args .reading)) _
+            (c3 .word-at .ensures .0)
             (c3 .before .match .keys3)),
         omega (arith, pre .1 .1),
       ),
     )
 
--- src/builder.rt:124:23
-write-type-add-t33 : (t : ℕ) → write-type-lts.Need-add-t33 (write-type-claims t) (write-type-at t) write-type.Post
-write-type-add-t33 t c =
+-- at `read: e.read + 3,`
+write-type-add-t34 : (t : ℕ) → write-type-lts.Need-add-t34 (write-type-claims t) (write-type-at t) write-type.Post
+write-type-add-t34 t c =
     let c5 = c .before .before .before .before .before in
     let c9 = c5 .before .before .before .before in
     let c14 = c9 .before .before .before .before .before in
@@ -924,14 +927,14 @@ write-type-add-t33 t c =
       c14 .before .good,
       let args = c14 .before .args in
           under-read
-          ((in-list (args .least) (args .left) (args .v .now) (args .out .now) (args .spare .now) (c14 .before .pre .1 .0)
-          (bytes-of (args .v .now) (c14 .shared-slice-known .given)) _ (c9 .word-at .ensures .0) (c9 .before .match .keys3)) .under)
+          ((in-list (orderOf (args .reading)) (args .least) (args .left) (args .v .now) (args .out .now) (args .spare .now) (c14 .before .pre .1 .0)
+          (bytes-of (args .v .now) (c14 .shared-slice-known .given)) (reading-laws (args .reading)) _ (c9 .word-at .ensures .0) (c9 .before .match .keys3)) .under)
           _ _ _ (c5 .write-items2 .ensures .0),
     )
 
--- src/builder.rt:125:24
-write-type-add-t42 : (t : ℕ) → write-type-lts.Need-add-t42 (write-type-claims t) (write-type-at t) write-type.Post
-write-type-add-t42 t c =
+-- at `wrote: e.wrote + 1,`
+write-type-add-t43 : (t : ℕ) → write-type-lts.Need-add-t43 (write-type-claims t) (write-type-at t) write-type.Post
+write-type-add-t43 t c =
     let c6 = c .before .before .before .before .before .before in
     let c10 = c6 .before .before .before .before in
     let c15 = c10 .before .before .before .before .before in
@@ -940,21 +943,21 @@ write-type-add-t42 t c =
       c15 .before .good,
       let args = c15 .before .args in
           under-wrote
-          ((in-list (args .least) (args .left) (args .v .now) (args .out .now) (args .spare .now) (c15 .before .pre .1 .0)
-          (bytes-of (args .v .now) (c15 .shared-slice-known .given)) _ (c10 .word-at .ensures .0) (c10 .before .match .keys3)) .under)
+          ((in-list (orderOf (args .reading)) (args .least) (args .left) (args .v .now) (args .out .now) (args .spare .now) (c15 .before .pre .1 .0)
+          (bytes-of (args .v .now) (c15 .shared-slice-known .given)) (reading-laws (args .reading)) _ (c10 .word-at .ensures .0) (c10 .before .match .keys3)) .under)
           _ _ _ (c6 .write-items2 .ensures .0),
     )
 
--- src/builder.rt:129:17
+-- at `let n = form::bytes::word_at(v, 1);`
 write-type-word-at-requires-2 : (t : ℕ) → write-type-lts.Need-word-at-requires-2 (write-type-claims t) (write-type-at t) write-type.Post
 write-type-word-at-requires-2 t c κs =
     let c4 = c .before .before .before .before in
     let c5 = c4 .before in
     under-head
-    ((in-context (c5 .args .least) (c5 .args .left) (c5 .args .v .now) (c5 .args .out .now) (c5 .args .spare .now) (c5 .pre .1 .0)
+    ((in-context (orderOf (c5 .args .reading)) (c5 .args .least) (c5 .args .left) (c5 .args .v .now) (c5 .args .out .now) (c5 .args .spare .now) (c5 .pre .1 .0)
     (bytes-of (c5 .args .v .now) (c4 .shared-slice-known .given)) _ refl (c .match .keys4)) .under)
 
--- src/builder.rt:130:13
+-- at `out[0] = commands::CONTEXT_TYPE;`
 write-type-slice-write-out-3 : (t : ℕ) → write-type-lts.Need-slice-write-out-3 (write-type-claims t) (write-type-at t) write-type.Post
 write-type-slice-write-out-3 t c =
     omega (
@@ -962,11 +965,11 @@ write-type-slice-write-out-3 t c =
       let c5 = c .before .before .before .before .before in
           let c6 = c5 .before in
           under-room
-          ((in-context (c6 .args .least) (c6 .args .left) (c6 .args .v .now) (c6 .args .out .now) (c6 .args .spare .now) (c6 .pre .1 .0)
+          ((in-context (orderOf (c6 .args .reading)) (c6 .args .least) (c6 .args .left) (c6 .args .v .now) (c6 .args .out .now) (c6 .args .spare .now) (c6 .pre .1 .0)
           (bytes-of (c6 .args .v .now) (c5 .shared-slice-known .given)) _ (c .word-at2 .ensures .0) (c .before .match .keys4)) .under),
     )
 
--- src/builder.rt:131:22
+-- at `out[1] = v[1];`
 write-type-shared-slice-read-out : (t : ℕ) → write-type-lts.Need-shared-slice-read-out (write-type-claims t) (write-type-at t) write-type.Post
 write-type-shared-slice-read-out t c =
     omega (
@@ -974,11 +977,11 @@ write-type-shared-slice-read-out t c =
       let c6 = c .before .before .before .before .before .before in
           let c7 = c6 .before in
           under-head
-          ((in-context (c7 .args .least) (c7 .args .left) (c7 .args .v .now) (c7 .args .out .now) (c7 .args .spare .now) (c7 .pre .1 .0)
+          ((in-context (orderOf (c7 .args .reading)) (c7 .args .least) (c7 .args .left) (c7 .args .v .now) (c7 .args .out .now) (c7 .args .spare .now) (c7 .pre .1 .0)
           (bytes-of (c7 .args .v .now) (c6 .shared-slice-known .given)) _ (c .before .word-at2 .ensures .0) (c .before .before .match .keys4)) .under),
     )
 
--- src/builder.rt:131:13
+-- at `out[1] = v[1];`
 write-type-slice-write-out-4 : (t : ℕ) → write-type-lts.Need-slice-write-out-4 (write-type-claims t) (write-type-at t) write-type.Post
 write-type-slice-write-out-4 t c =
     let c6 = c .before .before .before .before .before .before in
@@ -987,11 +990,11 @@ write-type-slice-write-out-4 t c =
     (omega (
       arith,
       under-room
-          ((in-context (c7 .args .least) (c7 .args .left) (c7 .args .v .now) (c7 .args .out .now) (c7 .args .spare .now) (c7 .pre .1 .0)
+          ((in-context (orderOf (c7 .args .reading)) (c7 .args .least) (c7 .args .left) (c7 .args .v .now) (c7 .args .out .now) (c7 .args .spare .now) (c7 .pre .1 .0)
           (bytes-of (c7 .args .v .now) (c6 .shared-slice-known .given)) _ (c .before .word-at2 .ensures .0) (c .before .before .match .keys4)) .under),
     ))
 
--- src/builder.rt:132:22
+-- at `out[2] = v[2];`
 write-type-shared-slice-read-out-2 : (t : ℕ) → write-type-lts.Need-shared-slice-read-out-2 (write-type-claims t) (write-type-at t) write-type.Post
 write-type-shared-slice-read-out-2 t c =
     let c7 = c .before .before .before .before .before .before .before in
@@ -999,11 +1002,11 @@ write-type-shared-slice-read-out-2 t c =
       arith,
       let args = c7 .before .args in
           under-head
-          ((in-context (args .least) (args .left) (args .v .now) (args .out .now) (args .spare .now) (c7 .before .pre .1 .0)
+          ((in-context (orderOf (args .reading)) (args .least) (args .left) (args .v .now) (args .out .now) (args .spare .now) (c7 .before .pre .1 .0)
           (bytes-of (args .v .now) (c7 .shared-slice-known .given)) _ (c .before .before .word-at2 .ensures .0) (c .before .before .before .match .keys4)) .under),
     )
 
--- src/builder.rt:132:13
+-- at `out[2] = v[2];`
 write-type-slice-write-out-5 : (t : ℕ) → write-type-lts.Need-slice-write-out-5 (write-type-claims t) (write-type-at t) write-type.Post
 write-type-slice-write-out-5 t c =
     let c7 = c .before .before .before .before .before .before .before in
@@ -1013,20 +1016,20 @@ write-type-slice-write-out-5 t c =
     (omega (
       arith,
       under-room
-          ((in-context (c8 .args .least) (c8 .args .left) (c8 .args .v .now) (c8 .args .out .now) (c8 .args .spare .now) (c8 .pre .1 .0)
+          ((in-context (orderOf (c8 .args .reading)) (c8 .args .least) (c8 .args .left) (c8 .args .v .now) (c8 .args .out .now) (c8 .args .spare .now) (c8 .pre .1 .0)
           (bytes-of (c8 .args .v .now) (c7 .shared-slice-known .given)) _ (c .before .before .word-at2 .ensures .0) (c .before .before .before .match .keys4)) .under),
     )))
 
--- src/builder.rt:133:42
+-- at `let e = write_entries(least, &v[3..], n, &mut out[3..], spare, left - 1, reading);`
 write-type-sub-write-entries : (t : ℕ) → write-type-lts.Need-sub-write-entries (write-type-claims t) (write-type-at t) write-type.Post
 write-type-sub-write-entries t c =
     let c7 = c .before .before .before .before .before .before .before in
     let args = c7 .before .args in
     under-head
-    ((in-context (args .least) (args .left) (args .v .now) (args .out .now) (args .spare .now) (c7 .before .pre .1 .0)
+    ((in-context (orderOf (args .reading)) (args .least) (args .left) (args .v .now) (args .out .now) (args .spare .now) (c7 .before .pre .1 .0)
     (bytes-of (args .v .now) (c7 .shared-slice-known .given)) _ (c .before .before .word-at2 .ensures .0) (c .before .before .before .match .keys4)) .under)
 
--- src/builder.rt:133:42
+-- at `let e = write_entries(least, &v[3..], n, &mut out[3..], spare, left - 1, reading);`
 write-type-part-write-entries-start : (t : ℕ) → write-type-lts.Need-part-write-entries-start (write-type-claims t) (write-type-at t) write-type.Post
 write-type-part-write-entries-start t c =
     let c7 = c .before .before .before .before .before .before .before in
@@ -1034,25 +1037,25 @@ write-type-part-write-entries-start t c =
       arith,
       let args = c7 .before .args in
           under-head
-          ((in-context (args .least) (args .left) (args .v .now) (args .out .now) (args .spare .now) (c7 .before .pre .1 .0)
+          ((in-context (orderOf (args .reading)) (args .least) (args .left) (args .v .now) (args .out .now) (args .spare .now) (c7 .before .pre .1 .0)
           (bytes-of (args .v .now) (c7 .shared-slice-known .given)) _ (c .before .before .word-at2 .ensures .0) (c .before .before .before .match .keys4)) .under),
     )
 
--- src/builder.rt:133:42
+-- at `let e = write_entries(least, &v[3..], n, &mut out[3..], spare, left - 1, reading);`
 write-type-part-write-entries-end : (t : ℕ) → write-type-lts.Need-part-write-entries-end (write-type-claims t) (write-type-at t) write-type.Post
 write-type-part-write-entries-end t c = search needs
 
--- src/builder.rt:133:54
+-- at `let e = write_entries(least, &v[3..], n, &mut out[3..], spare, left - 1, reading);`
 write-type-sub-write-entries-2 : (t : ℕ) → write-type-lts.Need-sub-write-entries-2 (write-type-claims t) (write-type-at t) write-type.Post
 write-type-sub-write-entries-2 t c =
     let c3 = c .before .before .before in
     let c8 = c3 .before .before .before .before .before in
     let args = c8 .before .args in
     under-free
-    ((in-context (args .least) (args .left) (args .v .now) (args .out .now) (args .spare .now) (c8 .before .pre .1 .0)
+    ((in-context (orderOf (args .reading)) (args .least) (args .left) (args .v .now) (args .out .now) (args .spare .now) (c8 .before .pre .1 .0)
     (bytes-of (args .v .now) (c8 .shared-slice-known .given)) _ (c3 .word-at2 .ensures .0) (c3 .before .match .keys4)) .under)
 
--- src/builder.rt:133:54
+-- at `let e = write_entries(least, &v[3..], n, &mut out[3..], spare, left - 1, reading);`
 write-type-part-write-entries-start-2 : (t : ℕ) → write-type-lts.Need-part-write-entries-start-2 (write-type-claims t) (write-type-at t) write-type.Post
 write-type-part-write-entries-start-2 t c =
     let c3 = c .before .before .before in
@@ -1061,23 +1064,23 @@ write-type-part-write-entries-start-2 t c =
       arith,
       let args = c8 .before .args in
           under-free
-          ((in-context (args .least) (args .left) (args .v .now) (args .out .now) (args .spare .now) (c8 .before .pre .1 .0)
+          ((in-context (orderOf (args .reading)) (args .least) (args .left) (args .v .now) (args .out .now) (args .spare .now) (c8 .before .pre .1 .0)
           (bytes-of (args .v .now) (c8 .shared-slice-known .given)) _ (c3 .word-at2 .ensures .0) (c3 .before .match .keys4)) .under),
     )
 
--- src/builder.rt:133:54
+-- at `let e = write_entries(least, &v[3..], n, &mut out[3..], spare, left - 1, reading);`
 write-type-part-write-entries-end-2 : (t : ℕ) → write-type-lts.Need-part-write-entries-end-2 (write-type-claims t) (write-type-at t) write-type.Post
 write-type-part-write-entries-end-2 t c = search needs
 
--- src/builder.rt:133:76
+-- at `let e = write_entries(least, &v[3..], n, &mut out[3..], spare, left - 1, reading);`
 write-type-sub-write-entries-3 : (t : ℕ) → write-type-lts.Need-sub-write-entries-3 (write-type-claims t) (write-type-at t) write-type.Post
 write-type-sub-write-entries-3 t c =
     let c10 = c .before .before .before .before .before .before .before .before .before .before in
     let args = c10 .before .args in
-    level-left (args .least) (args .left) (args .v .now) (args .out .now) (args .spare .now) (c10 .before .pre .1 .0)
+    level-left (orderOf (args .reading)) (args .least) (args .left) (args .v .now) (args .out .now) (args .spare .now) (c10 .before .pre .1 .0)
     (bytes-of (args .v .now) (c10 .shared-slice-known .given))
 
--- src/builder.rt:133:17
+-- at `let e = write_entries(least, &v[3..], n, &mut out[3..], spare, left - 1, reading);`
 write-type-write-entries-requires : (t : ℕ) → write-type-lts.Need-write-entries-requires (write-type-claims t) (write-type-at t) write-type.Post
 write-type-write-entries-requires t c κs =
     let c5 = c .before .before .before .before .before in
@@ -1085,18 +1088,18 @@ write-type-write-entries-requires t c κs =
     let args = c10 .before .args in
     let bytes-of1 = bytes-of (args .v .now) (c10 .shared-slice-known .given) in
     let pre = c10 .before .pre in (
-      omega (arith, pre .0, level-left (args .least) (args .left) (args .v .now) (args .out .now) (args .spare .now) (pre .1 .0) bytes-of1),
+      omega (arith, pre .0, level-left (orderOf (args .reading)) (args .least) (args .left) (args .v .now) (args .out .now) (args .spare .now) (pre .1 .0) bytes-of1),
       (
         part-fits
-            (in-context (args .least) (args .left) (args .v .now) (args .out .now) (args .spare .now) (pre .1 .0) bytes-of1 _ (c5 .word-at2 .ensures .0)
+            (in-context (orderOf (args .reading)) (args .least) (args .left) (args .v .now) (args .out .now) (args .spare .now) (pre .1 .0) bytes-of1 _ (c5 .word-at2 .ensures .0)
             (c5 .before .match .keys4)),
         omega (arith, pre .1 .1),
       ),
     )
 
--- src/builder.rt:135:23
-write-type-add-t50 : (t : ℕ) → write-type-lts.Need-add-t50 (write-type-claims t) (write-type-at t) write-type.Post
-write-type-add-t50 t c =
+-- at `read: e.read + 3,`
+write-type-add-t51 : (t : ℕ) → write-type-lts.Need-add-t51 (write-type-claims t) (write-type-at t) write-type.Post
+write-type-add-t51 t c =
     let c5 = c .before .before .before .before .before in
     let c11 = c5 .before .before .before .before .before .before in
     let c16 = c11 .before .before .before .before .before in
@@ -1105,14 +1108,14 @@ write-type-add-t50 t c =
       c16 .before .good,
       let args = c16 .before .args in
           under-read
-          ((in-context (args .least) (args .left) (args .v .now) (args .out .now) (args .spare .now) (c16 .before .pre .1 .0)
+          ((in-context (orderOf (args .reading)) (args .least) (args .left) (args .v .now) (args .out .now) (args .spare .now) (c16 .before .pre .1 .0)
           (bytes-of (args .v .now) (c16 .shared-slice-known .given)) _ (c11 .word-at2 .ensures .0) (c11 .before .match .keys4)) .under)
           _ _ _ (c5 .write-entries .ensures .0),
     )
 
--- src/builder.rt:136:24
-write-type-add-t59 : (t : ℕ) → write-type-lts.Need-add-t59 (write-type-claims t) (write-type-at t) write-type.Post
-write-type-add-t59 t c =
+-- at `wrote: e.wrote + 3,`
+write-type-add-t60 : (t : ℕ) → write-type-lts.Need-add-t60 (write-type-claims t) (write-type-at t) write-type.Post
+write-type-add-t60 t c =
     let c6 = c .before .before .before .before .before .before in
     let c12 = c6 .before .before .before .before .before .before in
     let c17 = c12 .before .before .before .before .before in
@@ -1121,12 +1124,12 @@ write-type-add-t59 t c =
       c17 .before .good,
       let args = c17 .before .args in
           under-wrote
-          ((in-context (args .least) (args .left) (args .v .now) (args .out .now) (args .spare .now) (c17 .before .pre .1 .0)
+          ((in-context (orderOf (args .reading)) (args .least) (args .left) (args .v .now) (args .out .now) (args .spare .now) (c17 .before .pre .1 .0)
           (bytes-of (args .v .now) (c17 .shared-slice-known .given)) _ (c12 .word-at2 .ensures .0) (c12 .before .match .keys4)) .under)
           _ _ _ (c6 .write-entries .ensures .0),
     )
 
--- src/builder.rt:140:21
+-- at `let n = v[1];`
 write-type-shared-slice-read-n : (t : ℕ) → write-type-lts.Need-shared-slice-read-n (write-type-claims t) (write-type-at t) write-type.Post
 write-type-shared-slice-read-n t c =
     omega (
@@ -1134,11 +1137,11 @@ write-type-shared-slice-read-n t c =
       let c5 = c .before .before .before .before .before in
           let c6 = c5 .before in
           under-head
-          (in-definition (c6 .args .least) (c6 .args .left) (c6 .args .v .now) (c6 .args .out .now) (c6 .args .spare .now) (c6 .pre .1 .0)
+          (in-definition (orderOf (c6 .args .reading)) (c6 .args .least) (c6 .args .left) (c6 .args .v .now) (c6 .args .out .now) (c6 .args .spare .now) (c6 .pre .1 .0)
           (bytes-of (c6 .args .v .now) (c5 .shared-slice-known .given)) _ refl (c .before .match .keys5)),
     )
 
--- src/builder.rt:141:13
+-- at `out[0] = commands::FUNCTION_TYPE;`
 write-type-slice-write-out-6 : (t : ℕ) → write-type-lts.Need-slice-write-out-6 (write-type-claims t) (write-type-at t) write-type.Post
 write-type-slice-write-out-6 t c =
     omega (
@@ -1146,11 +1149,11 @@ write-type-slice-write-out-6 t c =
       let c5 = c .before .before .before .before .before in
           let c6 = c5 .before in
           under-room
-          (in-definition (c6 .args .least) (c6 .args .left) (c6 .args .v .now) (c6 .args .out .now) (c6 .args .spare .now) (c6 .pre .1 .0)
+          (in-definition (orderOf (c6 .args .reading)) (c6 .args .least) (c6 .args .left) (c6 .args .v .now) (c6 .args .out .now) (c6 .args .spare .now) (c6 .pre .1 .0)
           (bytes-of (c6 .args .v .now) (c5 .shared-slice-known .given)) _ refl (c .before .match .keys5)),
     )
 
--- src/builder.rt:142:13
+-- at `out[1] = n;`
 write-type-slice-write-out-7 : (t : ℕ) → write-type-lts.Need-slice-write-out-7 (write-type-claims t) (write-type-at t) write-type.Post
 write-type-slice-write-out-7 t c =
     let c5 = c .before .before .before .before .before in
@@ -1159,20 +1162,20 @@ write-type-slice-write-out-7 t c =
     (omega (
       arith,
       under-room
-          (in-definition (c6 .args .least) (c6 .args .left) (c6 .args .v .now) (c6 .args .out .now) (c6 .args .spare .now) (c6 .pre .1 .0)
+          (in-definition (orderOf (c6 .args .reading)) (c6 .args .least) (c6 .args .left) (c6 .args .v .now) (c6 .args .out .now) (c6 .args .spare .now) (c6 .pre .1 .0)
           (bytes-of (c6 .args .v .now) (c5 .shared-slice-known .given)) _ refl (c .before .match .keys5)),
     ))
 
--- src/builder.rt:143:37
+-- at `let e = write_signature(&v[4..], form::bytes::wide(n), &mut out[2..], left - 1);`
 write-type-sub-write-signature : (t : ℕ) → write-type-lts.Need-sub-write-signature (write-type-claims t) (write-type-at t) write-type.Post
 write-type-sub-write-signature t c =
     let c5 = c .before .before .before .before .before in
     let c6 = c5 .before in
     under-head
-    (in-definition (c6 .args .least) (c6 .args .left) (c6 .args .v .now) (c6 .args .out .now) (c6 .args .spare .now) (c6 .pre .1 .0)
+    (in-definition (orderOf (c6 .args .reading)) (c6 .args .least) (c6 .args .left) (c6 .args .v .now) (c6 .args .out .now) (c6 .args .spare .now) (c6 .pre .1 .0)
     (bytes-of (c6 .args .v .now) (c5 .shared-slice-known .given)) _ refl (c .before .match .keys5))
 
--- src/builder.rt:143:37
+-- at `let e = write_signature(&v[4..], form::bytes::wide(n), &mut out[2..], left - 1);`
 write-type-part-write-signature-start : (t : ℕ) → write-type-lts.Need-part-write-signature-start (write-type-claims t) (write-type-at t) write-type.Post
 write-type-part-write-signature-start t c =
     omega (
@@ -1180,28 +1183,27 @@ write-type-part-write-signature-start t c =
       let c5 = c .before .before .before .before .before in
           let c6 = c5 .before in
           under-head
-          (in-definition (c6 .args .least) (c6 .args .left) (c6 .args .v .now) (c6 .args .out .now) (c6 .args .spare .now) (c6 .pre .1 .0)
+          (in-definition (orderOf (c6 .args .reading)) (c6 .args .least) (c6 .args .left) (c6 .args .v .now) (c6 .args .out .now) (c6 .args .spare .now) (c6 .pre .1 .0)
           (bytes-of (c6 .args .v .now) (c5 .shared-slice-known .given)) _ refl (c .before .match .keys5)),
     )
 
--- src/builder.rt:143:37
+-- at `let e = write_signature(&v[4..], form::bytes::wide(n), &mut out[2..], left - 1);`
 write-type-part-write-signature-end : (t : ℕ) → write-type-lts.Need-part-write-signature-end (write-type-claims t) (write-type-at t) write-type.Post
 write-type-part-write-signature-end t c = search needs
 
--- src/builder.rt:143:46
+-- at `let e = write_signature(&v[4..], form::bytes::wide(n), &mut out[2..], left - 1);`
 write-type-wide-requires : (t : ℕ) → write-type-lts.Need-wide-requires (write-type-claims t) (write-type-at t) write-type.Post
 write-type-wide-requires t c κs = search needs
 
--- src/builder.rt:143:68
+-- at `let e = write_signature(&v[4..], form::bytes::wide(n), &mut out[2..], left - 1);`
 write-type-sub-write-signature-2 : (t : ℕ) → write-type-lts.Need-sub-write-signature-2 (write-type-claims t) (write-type-at t) write-type.Post
 write-type-sub-write-signature-2 t c =
     let c7 = c .before .before .before .before .before .before .before in
     let args = c7 .before .args in
     under-free
-    (in-definition (args .least) (args .left) (args .v .now) (args .out .now) (args .spare .now) (c7 .before .pre .1 .0)
+    (in-definition (orderOf (args .reading)) (args .least) (args .left) (args .v .now) (args .out .now) (args .spare .now) (c7 .before .pre .1 .0)
     (bytes-of (args .v .now) (c7 .shared-slice-known .given)) _ (c .wide .ensures .0) (c .before .before .before .match .keys5))
 
--- src/builder.rt:143:68
 write-type-part-write-signature-start-2 : (t : ℕ) → write-type-lts.Need-part-write-signature-start-2 (write-type-claims t) (write-type-at t) write-type.Post
 write-type-part-write-signature-start-2 t c =
     let c7 = c .before .before .before .before .before .before .before in
@@ -1209,35 +1211,35 @@ write-type-part-write-signature-start-2 t c =
       arith,
       let args = c7 .before .args in
           under-free
-          (in-definition (args .least) (args .left) (args .v .now) (args .out .now) (args .spare .now) (c7 .before .pre .1 .0)
+          (in-definition (orderOf (args .reading)) (args .least) (args .left) (args .v .now) (args .out .now) (args .spare .now) (c7 .before .pre .1 .0)
           (bytes-of (args .v .now) (c7 .shared-slice-known .given)) _ (c .wide .ensures .0) (c .before .before .before .match .keys5)),
     )
 
--- src/builder.rt:143:68
+-- at `let e = write_signature(&v[4..], form::bytes::wide(n), &mut out[2..], left - 1);`
 write-type-part-write-signature-end-2 : (t : ℕ) → write-type-lts.Need-part-write-signature-end-2 (write-type-claims t) (write-type-at t) write-type.Post
 write-type-part-write-signature-end-2 t c = search needs
 
--- src/builder.rt:143:83
+-- at `let e = write_signature(&v[4..], form::bytes::wide(n), &mut out[2..], left - 1);`
 write-type-sub-write-signature-3 : (t : ℕ) → write-type-lts.Need-sub-write-signature-3 (write-type-claims t) (write-type-at t) write-type.Post
 write-type-sub-write-signature-3 t c =
     let c8 = c .before .before .before .before .before .before .before .before in
     let args = c8 .before .args in
-    level-left (args .least) (args .left) (args .v .now) (args .out .now) (args .spare .now) (c8 .before .pre .1 .0)
+    level-left (orderOf (args .reading)) (args .least) (args .left) (args .v .now) (args .out .now) (args .spare .now) (c8 .before .pre .1 .0)
     (bytes-of (args .v .now) (c8 .shared-slice-known .given))
 
--- src/builder.rt:143:17
+-- at `let e = write_signature(&v[4..], form::bytes::wide(n), &mut out[2..], left - 1);`
 write-type-write-signature-requires : (t : ℕ) → write-type-lts.Need-write-signature-requires (write-type-claims t) (write-type-at t) write-type.Post
 write-type-write-signature-requires t c κs =
     let c4 = c .before .before .before .before in
     let c8 = c4 .before .before .before .before in
     let args = c8 .before .args in
     definition-fits
-    (in-definition (args .least) (args .left) (args .v .now) (args .out .now) (args .spare .now) (c8 .before .pre .1 .0)
+    (in-definition (orderOf (args .reading)) (args .least) (args .left) (args .v .now) (args .out .now) (args .spare .now) (c8 .before .pre .1 .0)
     (bytes-of (args .v .now) (c8 .shared-slice-known .given)) _ (c .before .wide .ensures .0) (c4 .match .keys5))
 
--- src/builder.rt:145:23
-write-type-add-t65 : (t : ℕ) → write-type-lts.Need-add-t65 (write-type-claims t) (write-type-at t) write-type.Post
-write-type-add-t65 t c =
+-- at `read: e.read + 4,`
+write-type-add-t66 : (t : ℕ) → write-type-lts.Need-add-t66 (write-type-claims t) (write-type-at t) write-type.Post
+write-type-add-t66 t c =
     let c5 = c .before .before .before .before .before in
     let c12 = c5 .before .before .before .before .before .before .before in
     omega (
@@ -1245,14 +1247,14 @@ write-type-add-t65 t c =
       c12 .before .good,
       let args = c12 .before .args in
           under-read
-          (in-definition (args .least) (args .left) (args .v .now) (args .out .now) (args .spare .now) (c12 .before .pre .1 .0)
+          (in-definition (orderOf (args .reading)) (args .least) (args .left) (args .v .now) (args .out .now) (args .spare .now) (c12 .before .pre .1 .0)
           (bytes-of (args .v .now) (c12 .shared-slice-known .given)) _ (c5 .wide .ensures .0) (c5 .before .before .before .match .keys5))
           _ _ _ (c .before .before .before .write-signature .ensures),
     )
 
--- src/builder.rt:146:24
-write-type-add-t73 : (t : ℕ) → write-type-lts.Need-add-t73 (write-type-claims t) (write-type-at t) write-type.Post
-write-type-add-t73 t c =
+-- at `wrote: e.wrote + 2,`
+write-type-add-t74 : (t : ℕ) → write-type-lts.Need-add-t74 (write-type-claims t) (write-type-at t) write-type.Post
+write-type-add-t74 t c =
     let c4 = c .before .before .before .before in
     let c6 = c4 .before .before in
     let c13 = c6 .before .before .before .before .before .before .before in
@@ -1261,47 +1263,47 @@ write-type-add-t73 t c =
       c13 .before .good,
       let args = c13 .before .args in
           under-wrote
-          (in-definition (args .least) (args .left) (args .v .now) (args .out .now) (args .spare .now) (c13 .before .pre .1 .0)
+          (in-definition (orderOf (args .reading)) (args .least) (args .left) (args .v .now) (args .out .now) (args .spare .now) (c13 .before .pre .1 .0)
           (bytes-of (args .v .now) (c13 .shared-slice-known .given)) _ (c6 .wide .ensures .0) (c6 .before .before .before .match .keys5))
           _ _ _ (c4 .write-signature .ensures),
     )
 
--- src/builder.rt:150:39
+-- at `let n = types::walk::skip(&v[1..], left - 1);`
 write-type-sub-skip : (t : ℕ) → write-type-lts.Need-sub-skip (write-type-claims t) (write-type-at t) write-type.Post
 write-type-sub-skip t c =
     let c4 = c .before .before .before .before in
     let c5 = c4 .before in
-    first-byte (c5 .args .least) (c5 .args .left) (c5 .args .v .now) (c5 .args .out .now) (c5 .args .spare .now) (c5 .pre .1 .0)
+    first-byte (orderOf (c5 .args .reading)) (c5 .args .least) (c5 .args .left) (c5 .args .v .now) (c5 .args .out .now) (c5 .args .spare .now) (c5 .pre .1 .0)
     (bytes-of (c5 .args .v .now) (c4 .shared-slice-known .given))
 
--- src/builder.rt:150:39
+-- at `let n = types::walk::skip(&v[1..], left - 1);`
 write-type-part-skip-start : (t : ℕ) → write-type-lts.Need-part-skip-start (write-type-claims t) (write-type-at t) write-type.Post
 write-type-part-skip-start t c =
     omega (
       arith,
       let c4 = c .before .before .before .before in
           let c5 = c4 .before in
-          first-byte (c5 .args .least) (c5 .args .left) (c5 .args .v .now) (c5 .args .out .now) (c5 .args .spare .now) (c5 .pre .1 .0)
+          first-byte (orderOf (c5 .args .reading)) (c5 .args .least) (c5 .args .left) (c5 .args .v .now) (c5 .args .out .now) (c5 .args .spare .now) (c5 .pre .1 .0)
           (bytes-of (c5 .args .v .now) (c4 .shared-slice-known .given)),
     )
 
--- src/builder.rt:150:39
+-- at `let n = types::walk::skip(&v[1..], left - 1);`
 write-type-part-skip-end : (t : ℕ) → write-type-lts.Need-part-skip-end (write-type-claims t) (write-type-at t) write-type.Post
 write-type-part-skip-end t c = search needs
 
--- src/builder.rt:150:48
+-- at `let n = types::walk::skip(&v[1..], left - 1);`
 write-type-sub-skip-2 : (t : ℕ) → write-type-lts.Need-sub-skip-2 (write-type-claims t) (write-type-at t) write-type.Post
 write-type-sub-skip-2 t c =
     let c5 = c .before .before .before .before .before in
     let c6 = c5 .before in
-    level-left (c6 .args .least) (c6 .args .left) (c6 .args .v .now) (c6 .args .out .now) (c6 .args .spare .now) (c6 .pre .1 .0)
+    level-left (orderOf (c6 .args .reading)) (c6 .args .least) (c6 .args .left) (c6 .args .v .now) (c6 .args .out .now) (c6 .args .spare .now) (c6 .pre .1 .0)
     (bytes-of (c6 .args .v .now) (c5 .shared-slice-known .given))
 
--- src/builder.rt:150:17
+-- at `let n = types::walk::skip(&v[1..], left - 1);`
 write-type-skip-requires : (t : ℕ) → write-type-lts.Need-skip-requires (write-type-claims t) (write-type-at t) write-type.Post
 write-type-skip-requires t c κs = search needs
 
--- src/builder.rt:151:21
+-- at `let p = n + 1;`
 write-type-add-p : (t : ℕ) → write-type-lts.Need-add-p (write-type-claims t) (write-type-at t) write-type.Post
 write-type-add-p t c =
     let c6 = c .before .before .before .before .before .before in
@@ -1310,21 +1312,21 @@ write-type-add-p t c =
       c6 .before .good,
       let args = c6 .before .args in
           let bytes-of1 = bytes-of (args .v .now) (c6 .shared-slice-known .given) in
-          type-end (args .least) (args .left) (args .v .now) (args .out .now) _ bytes-of1
-          (in-type (args .least) (args .left) (args .v .now) (args .out .now) (args .spare .now) (c6 .before .pre .1 .0) bytes-of1
+          type-end (orderOf (args .reading)) (args .least) (args .left) (args .v .now) (args .out .now) _ bytes-of1
+          (in-type (orderOf (args .reading)) (args .least) (args .left) (args .v .now) (args .out .now) (args .spare .now) (c6 .before .pre .1 .0) bytes-of1
           (c .before .before .match .keys6))
           _ (c .skip .ensures),
     )
 
--- src/builder.rt:152:26
+-- at `output::copy(&v[1..p], out);`
 write-type-sub-copy : (t : ℕ) → write-type-lts.Need-sub-copy (write-type-claims t) (write-type-at t) write-type.Post
 write-type-sub-copy t c = search needs
 
--- src/builder.rt:152:26
+-- at `output::copy(&v[1..p], out);`
 write-type-part-copy-start : (t : ℕ) → write-type-lts.Need-part-copy-start (write-type-claims t) (write-type-at t) write-type.Post
 write-type-part-copy-start t c = search needs
 
--- src/builder.rt:152:26
+-- at `output::copy(&v[1..p], out);`
 write-type-part-copy-end : (t : ℕ) → write-type-lts.Need-part-copy-end (write-type-claims t) (write-type-at t) write-type.Post
 write-type-part-copy-end t c =
     let c6 = c .before .before .before .before .before .before in
@@ -1332,73 +1334,73 @@ write-type-part-copy-end t c =
       arith,
       let args = c6 .before .args in
           let bytes-of1 = bytes-of (args .v .now) (c6 .shared-slice-known .given) in
-          type-end (args .least) (args .left) (args .v .now) (args .out .now) _ bytes-of1
-          (in-type (args .least) (args .left) (args .v .now) (args .out .now) (args .spare .now) (c6 .before .pre .1 .0) bytes-of1
+          type-end (orderOf (args .reading)) (args .least) (args .left) (args .v .now) (args .out .now) _ bytes-of1
+          (in-type (orderOf (args .reading)) (args .least) (args .left) (args .v .now) (args .out .now) (args .spare .now) (c6 .before .pre .1 .0) bytes-of1
           (c .before .before .match .keys6))
           _ (c .skip .ensures),
     )
 
--- src/builder.rt:152:13
+-- at `output::copy(&v[1..p], out);`
 write-type-copy-requires : (t : ℕ) → write-type-lts.Need-copy-requires (write-type-claims t) (write-type-at t) write-type.Post
 write-type-copy-requires t c κs =
     let c4 = c .before .before .before .before in
     let c8 = c4 .before .before .before .before in
     let args = c8 .before .args in
     let bytes-of1 = bytes-of (args .v .now) (c8 .shared-slice-known .given) in
-    type-room (args .least) (args .left) (args .v .now) (args .out .now) _ bytes-of1
-    (in-type (args .least) (args .left) (args .v .now) (args .out .now) (args .spare .now) (c8 .before .pre .1 .0) bytes-of1 (c4 .match .keys6)) _
+    type-room (orderOf (args .reading)) (args .least) (args .left) (args .v .now) (args .out .now) _ bytes-of1
+    (in-type (orderOf (args .reading)) (args .least) (args .left) (args .v .now) (args .out .now) (args .spare .now) (c8 .before .pre .1 .0) bytes-of1 (c4 .match .keys6)) _
     (c .before .before .skip .ensures)
 
--- src/builder.rt:156:13
+-- at `out[0] = commands::ANY_TYPE;`
 write-type-slice-write-out-8 : (t : ℕ) → write-type-lts.Need-slice-write-out-8 (write-type-claims t) (write-type-at t) write-type.Post
 write-type-slice-write-out-8 t c =
     omega (
       arith,
       let c5 = c .before .before .before .before .before in
           let c6 = c5 .before in
-          one-free (c6 .args .least) (c6 .args .left) (c6 .args .v .now) (c6 .args .out .now) (c6 .args .spare .now) (c6 .pre .1 .0)
+          one-free (orderOf (c6 .args .reading)) (c6 .args .least) (c6 .args .left) (c6 .args .v .now) (c6 .args .out .now) (c6 .args .spare .now) (c6 .pre .1 .0)
           (bytes-of (c6 .args .v .now) (c5 .shared-slice-known .given)),
     )
 
--- src/builder.rt:158:23
+-- at `read: commands::width(c) + 1,`
 write-type-width-requires : (t : ℕ) → write-type-lts.Need-width-requires (write-type-claims t) (write-type-at t) write-type.Post
 write-type-width-requires t c κs = search needs
 
--- src/builder.rt:158:23
-write-type-add-t88 : (t : ℕ) → write-type-lts.Need-add-t88 (write-type-claims t) (write-type-at t) write-type.Post
-write-type-add-t88 t c =
+-- at `read: commands::width(c) + 1,`
+write-type-add-t89 : (t : ℕ) → write-type-lts.Need-add-t89 (write-type-claims t) (write-type-at t) write-type.Post
+write-type-add-t89 t c =
     let c6 = c .before .before .before .before .before .before in
     let c7 = c6 .before in
     omega (
       arith,
       c7 .good,
       c .width .ensures,
-      other-ends (c7 .args .least) (c7 .args .left) (c7 .args .v .now) (c7 .args .out .now) (c7 .args .spare .now) (c7 .pre .1 .0)
+      other-ends (orderOf (c7 .args .reading)) (c7 .args .least) (c7 .args .left) (c7 .args .v .now) (c7 .args .out .now) (c7 .args .spare .now) (c7 .pre .1 .0)
           (bytes-of (c7 .args .v .now) (c6 .shared-slice-known .given)) (c .before .before .match .rest) (c .before .if1 .left),
     )
 
--- src/builder.rt:105:22
+-- at `out[0] = commands::leaf_type(c);`
 write-type-leaf-type-requires : (t : ℕ) → write-type-lts.Need-leaf-type-requires (write-type-claims t) (write-type-at t) write-type.Post
 write-type-leaf-type-requires t c κs = search needs
 
--- src/builder.rt:105:13
+-- at `out[0] = commands::leaf_type(c);`
 write-type-slice-write-out-9 : (t : ℕ) → write-type-lts.Need-slice-write-out-9 (write-type-claims t) (write-type-at t) write-type.Post
 write-type-slice-write-out-9 t c =
     omega (
       arith,
       let c5 = c .before .before .before .before .before in
           let c6 = c5 .before in
-          one-free (c6 .args .least) (c6 .args .left) (c6 .args .v .now) (c6 .args .out .now) (c6 .args .spare .now) (c6 .pre .1 .0)
+          one-free (orderOf (c6 .args .reading)) (c6 .args .least) (c6 .args .left) (c6 .args .v .now) (c6 .args .out .now) (c6 .args .spare .now) (c6 .pre .1 .0)
           (bytes-of (c6 .args .v .now) (c5 .shared-slice-known .given)),
     )
 
--- src/builder.rt:107:23
+-- at `read: commands::width(c) + 1,`
 write-type-width-requires-2 : (t : ℕ) → write-type-lts.Need-width-requires-2 (write-type-claims t) (write-type-at t) write-type.Post
 write-type-width-requires-2 t c κs = search needs
 
--- src/builder.rt:107:23
-write-type-add-t92 : (t : ℕ) → write-type-lts.Need-add-t92 (write-type-claims t) (write-type-at t) write-type.Post
-write-type-add-t92 t c =
+-- at `read: commands::width(c) + 1,`
+write-type-add-t93 : (t : ℕ) → write-type-lts.Need-add-t93 (write-type-claims t) (write-type-at t) write-type.Post
+write-type-add-t93 t c =
     let c6 = c .before .before .before .before .before .before in
     let c7 = c6 .before in
     omega (
@@ -1406,12 +1408,12 @@ write-type-add-t92 t c =
       c7 .good,
       c .width2 .ensures,
       let v-now = c7 .args .v .now in
-          leaf-ends (c7 .args .least) (c7 .args .left) v-now (c7 .args .out .now) (c7 .args .spare .now) (c7 .pre .1 .0)
+          leaf-ends (orderOf (c7 .args .reading)) (c7 .args .least) (c7 .args .left) v-now (c7 .args .out .now) (c7 .args .spare .now) (c7 .pre .1 .0)
           (bytes-of v-now (c6 .shared-slice-known .given))
           (⊎-elim (λ x. leaf-decimal (getD v-now 0 0) (x .keys1)) (λ x. leaf-low (getD v-now 0 0) (omega (arith, x .1 .taken))) (c .before .before .match .came)),
     )
 
--- src/builder.rt:96:1
+-- at the end
 write-type-same-length : (t : ℕ) → write-type-lts.Need-same-length (write-type-claims t) (write-type-at t) write-type.Post
 write-type-same-length t c =
     let c6 = c .before .before .before .before .before .before in
@@ -1419,28 +1421,28 @@ write-type-same-length t c =
     let c14 = c10 .before .before .before .before in
     let args = c14 .before .args in
     under-kept
-    ((in-range (args .least) (args .left) (args .v .now) (args .out .now) (args .spare .now) (c14 .before .pre .1 .0)
+    ((in-range (orderOf (args .reading)) (args .least) (args .left) (args .v .now) (args .out .now) (args .spare .now) (c14 .before .pre .1 .0)
     (bytes-of (args .v .now) (c14 .shared-slice-known .given)) (c10 .match .keys2)) .under)
     _ _ _ (c6 .write-items .ensures .0)
 
--- src/builder.rt:96:1
+-- at the end
 write-type-same-length-2 : (t : ℕ) → write-type-lts.Need-same-length-2 (write-type-claims t) (write-type-at t) write-type.Post
 write-type-same-length-2 t c = search needs
 
--- src/builder.rt:96:1
+-- at the end
 write-type-returns : (t : ℕ) → write-type-lts.Need-returns (write-type-claims t) (write-type-at t) write-type.Post
 write-type-returns t c =
     let c6 = c .before .before .before .before .before .before in
     let c14 = c6 .before .before .before .before .before .before .before .before in
     let args = c14 .before .args in (
       under-done
-          ((in-range (args .least) (args .left) (args .v .now) (args .out .now) (args .spare .now) (c14 .before .pre .1 .0)
+          ((in-range (orderOf (args .reading)) (args .least) (args .left) (args .v .now) (args .out .now) (args .spare .now) (c14 .before .pre .1 .0)
           (bytes-of (args .v .now) (c14 .shared-slice-known .given)) (c6 .before .before .before .before .match .keys2)) .under)
           _ _ _ (c6 .write-items .ensures .0),
       c6 .write-items .ensures .1,
     )
 
--- src/builder.rt:96:1
+-- at the end
 write-type-same-length-3 : (t : ℕ) → write-type-lts.Need-same-length-3 (write-type-claims t) (write-type-at t) write-type.Post
 write-type-same-length-3 t c =
     let c6 = c .before .before .before .before .before .before in
@@ -1448,15 +1450,15 @@ write-type-same-length-3 t c =
     let c15 = c10 .before .before .before .before .before in
     let args = c15 .before .args in
     under-kept
-    ((in-list (args .least) (args .left) (args .v .now) (args .out .now) (args .spare .now) (c15 .before .pre .1 .0)
-    (bytes-of (args .v .now) (c15 .shared-slice-known .given)) _ (c10 .word-at .ensures .0) (c10 .before .match .keys3)) .under)
+    ((in-list (orderOf (args .reading)) (args .least) (args .left) (args .v .now) (args .out .now) (args .spare .now) (c15 .before .pre .1 .0)
+    (bytes-of (args .v .now) (c15 .shared-slice-known .given)) (reading-laws (args .reading)) _ (c10 .word-at .ensures .0) (c10 .before .match .keys3)) .under)
     _ _ _ (c6 .write-items2 .ensures .0)
 
--- src/builder.rt:96:1
+-- at the end
 write-type-same-length-4 : (t : ℕ) → write-type-lts.Need-same-length-4 (write-type-claims t) (write-type-at t) write-type.Post
 write-type-same-length-4 t c = search needs
 
--- src/builder.rt:96:1
+-- at the end
 write-type-returns-2 : (t : ℕ) → write-type-lts.Need-returns-2 (write-type-claims t) (write-type-at t) write-type.Post
 write-type-returns-2 t c =
     let c6 = c .before .before .before .before .before .before in
@@ -1464,13 +1466,13 @@ write-type-returns-2 t c =
     let c15 = c10 .before .before .before .before .before in
     let args = c15 .before .args in (
       under-done
-          ((in-list (args .least) (args .left) (args .v .now) (args .out .now) (args .spare .now) (c15 .before .pre .1 .0)
-          (bytes-of (args .v .now) (c15 .shared-slice-known .given)) _ (c10 .word-at .ensures .0) (c10 .before .match .keys3)) .under)
+          ((in-list (orderOf (args .reading)) (args .least) (args .left) (args .v .now) (args .out .now) (args .spare .now) (c15 .before .pre .1 .0)
+          (bytes-of (args .v .now) (c15 .shared-slice-known .given)) (reading-laws (args .reading)) _ (c10 .word-at .ensures .0) (c10 .before .match .keys3)) .under)
           _ _ _ (c6 .write-items2 .ensures .0),
       c6 .write-items2 .ensures .1,
     )
 
--- src/builder.rt:96:1
+-- at the end
 write-type-same-length-5 : (t : ℕ) → write-type-lts.Need-same-length-5 (write-type-claims t) (write-type-at t) write-type.Post
 write-type-same-length-5 t c =
     let c6 = c .before .before .before .before .before .before in
@@ -1478,15 +1480,15 @@ write-type-same-length-5 t c =
     let c17 = c12 .before .before .before .before .before in
     let args = c17 .before .args in
     under-kept
-    ((in-context (args .least) (args .left) (args .v .now) (args .out .now) (args .spare .now) (c17 .before .pre .1 .0)
+    ((in-context (orderOf (args .reading)) (args .least) (args .left) (args .v .now) (args .out .now) (args .spare .now) (c17 .before .pre .1 .0)
     (bytes-of (args .v .now) (c17 .shared-slice-known .given)) _ (c12 .word-at2 .ensures .0) (c12 .before .match .keys4)) .under)
     _ _ _ (c6 .write-entries .ensures .0)
 
--- src/builder.rt:96:1
+-- at the end
 write-type-same-length-6 : (t : ℕ) → write-type-lts.Need-same-length-6 (write-type-claims t) (write-type-at t) write-type.Post
 write-type-same-length-6 t c = search needs
 
--- src/builder.rt:96:1
+-- at the end
 write-type-returns-3 : (t : ℕ) → write-type-lts.Need-returns-3 (write-type-claims t) (write-type-at t) write-type.Post
 write-type-returns-3 t c =
     let c6 = c .before .before .before .before .before .before in
@@ -1494,13 +1496,13 @@ write-type-returns-3 t c =
     let c17 = c12 .before .before .before .before .before in
     let args = c17 .before .args in (
       under-done
-          ((in-context (args .least) (args .left) (args .v .now) (args .out .now) (args .spare .now) (c17 .before .pre .1 .0)
+          ((in-context (orderOf (args .reading)) (args .least) (args .left) (args .v .now) (args .out .now) (args .spare .now) (c17 .before .pre .1 .0)
           (bytes-of (args .v .now) (c17 .shared-slice-known .given)) _ (c12 .word-at2 .ensures .0) (c12 .before .match .keys4)) .under)
           _ _ _ (c6 .write-entries .ensures .0),
       c6 .write-entries .ensures .1,
     )
 
--- src/builder.rt:96:1
+-- at the end
 write-type-same-length-7 : (t : ℕ) → write-type-lts.Need-same-length-7 (write-type-claims t) (write-type-at t) write-type.Post
 write-type-same-length-7 t c =
     let c4 = c .before .before .before .before in
@@ -1508,11 +1510,11 @@ write-type-same-length-7 t c =
     let c13 = c9 .before .before .before .before in
     let args = c13 .before .args in
     under-kept
-    (in-definition (args .least) (args .left) (args .v .now) (args .out .now) (args .spare .now) (c13 .before .pre .1 .0)
+    (in-definition (orderOf (args .reading)) (args .least) (args .left) (args .v .now) (args .out .now) (args .spare .now) (c13 .before .pre .1 .0)
     (bytes-of (args .v .now) (c13 .shared-slice-known .given)) _ (c4 .before .before .wide .ensures .0) (c9 .match .keys5))
     _ _ _ (c4 .write-signature .ensures)
 
--- src/builder.rt:96:1
+-- at the end
 write-type-returns-4 : (t : ℕ) → write-type-lts.Need-returns-4 (write-type-claims t) (write-type-at t) write-type.Post
 write-type-returns-4 t c =
     let c4 = c .before .before .before .before in
@@ -1520,55 +1522,55 @@ write-type-returns-4 t c =
     let c13 = c9 .before .before .before .before in
     let args = c13 .before .args in (
       under-done
-          (in-definition (args .least) (args .left) (args .v .now) (args .out .now) (args .spare .now) (c13 .before .pre .1 .0)
+          (in-definition (orderOf (args .reading)) (args .least) (args .left) (args .v .now) (args .out .now) (args .spare .now) (c13 .before .pre .1 .0)
           (bytes-of (args .v .now) (c13 .shared-slice-known .given)) _ (c4 .before .before .wide .ensures .0) (c9 .match .keys5))
           _ _ _ (c4 .write-signature .ensures),
       refl,
     )
 
--- src/builder.rt:96:1
+-- at the end
 write-type-same-length-8 : (t : ℕ) → write-type-lts.Need-same-length-8 (write-type-claims t) (write-type-at t) write-type.Post
 write-type-same-length-8 t c = search needs
 
--- src/builder.rt:96:1
+-- at the end
 write-type-returns-5 : (t : ℕ) → write-type-lts.Need-returns-5 (write-type-claims t) (write-type-at t) write-type.Post
 write-type-returns-5 t c =
     let c5 = c .before .before .before .before .before in
     let c11 = c5 .before .before .before .before .before .before in
     let args = c11 .before .args in
     let bytes-of1 = bytes-of (args .v .now) (c11 .shared-slice-known .given) in (
-      type-done (args .least) (args .left) (args .v .now) (args .out .now) _ bytes-of1
-          (in-type (args .least) (args .left) (args .v .now) (args .out .now) (args .spare .now) (c11 .before .pre .1 .0) bytes-of1
+      type-done (orderOf (args .reading)) (args .least) (args .left) (args .v .now) (args .out .now) _ bytes-of1
+          (in-type (orderOf (args .reading)) (args .least) (args .left) (args .v .now) (args .out .now) (args .spare .now) (c11 .before .pre .1 .0) bytes-of1
           (c5 .before .before .match .keys6))
           _ (c5 .skip .ensures) _ (c .before .before .copy .ensures),
       refl,
     )
 
--- src/builder.rt:96:1
+-- at the end
 write-type-same-length-9 : (t : ℕ) → write-type-lts.Need-same-length-9 (write-type-claims t) (write-type-at t) write-type.Post
 write-type-same-length-9 t c = search needs
 
--- src/builder.rt:96:1
+-- at the end
 write-type-returns-6 : (t : ℕ) → write-type-lts.Need-returns-6 (write-type-claims t) (write-type-at t) write-type.Post
 write-type-returns-6 t c =
     let c6 = c .before .before .before .before .before .before in
     let c7 = c6 .before in (
-      other-done (c7 .args .least) (c7 .args .left) (c7 .args .v .now) (c7 .args .out .now) (c7 .args .spare .now) (c7 .pre .1 .0)
+      other-done (orderOf (c7 .args .reading)) (c7 .args .least) (c7 .args .left) (c7 .args .v .now) (c7 .args .out .now) (c7 .args .spare .now) (c7 .pre .1 .0)
           (bytes-of (c7 .args .v .now) (c6 .shared-slice-known .given)) (c .before .before .match .rest) (c .before .if1 .left) _ (c .width .ensures),
       refl,
     )
 
--- src/builder.rt:96:1
+-- at the end
 write-type-same-length-10 : (t : ℕ) → write-type-lts.Need-same-length-10 (write-type-claims t) (write-type-at t) write-type.Post
 write-type-same-length-10 t c = search needs
 
--- src/builder.rt:96:1
+-- at the end
 write-type-returns-7 : (t : ℕ) → write-type-lts.Need-returns-7 (write-type-claims t) (write-type-at t) write-type.Post
 write-type-returns-7 t c =
     let c6 = c .before .before .before .before .before .before in
     let c7 = c6 .before in
     let v-now = c7 .args .v .now in (
-      leaf-done (c7 .args .least) (c7 .args .left) v-now (c7 .args .out .now) (c7 .args .spare .now) (c7 .pre .1 .0)
+      leaf-done (orderOf (c7 .args .reading)) (c7 .args .least) (c7 .args .left) v-now (c7 .args .out .now) (c7 .args .spare .now) (c7 .pre .1 .0)
           (bytes-of v-now (c6 .shared-slice-known .given))
           (⊎-elim (λ x. leaf-decimal (getD v-now 0 0) (x .keys1)) (λ x. leaf-low (getD v-now 0 0) (omega (arith, x .1 .taken))) (c .before .before .match .came))
           _ (c .before .leaf-type .ensures) _ (c .width2 .ensures),
@@ -1663,8 +1665,8 @@ pub +write-entries+write-items+write-type-spec : {M : Type 1} → statement M
     (write-type-part-write-items-end-2 t)
     (write-type-sub-write-items-3 t)
     (write-type-write-items-requires t)
-    (write-type-add-t21 t)
-    (write-type-add-t30 t)
+    (write-type-add-t22 t)
+    (write-type-add-t31 t)
     (write-type-word-at-requires t)
     (write-type-slice-write-out-2 t)
     (write-type-sub-write-items-4 t)
@@ -1675,8 +1677,8 @@ pub +write-entries+write-items+write-type-spec : {M : Type 1} → statement M
     (write-type-part-write-items-end-4 t)
     (write-type-sub-write-items-6 t)
     (write-type-write-items-requires-2 t)
-    (write-type-add-t33 t)
-    (write-type-add-t42 t)
+    (write-type-add-t34 t)
+    (write-type-add-t43 t)
     (write-type-word-at-requires-2 t)
     (write-type-slice-write-out-3 t)
     (write-type-shared-slice-read-out t)
@@ -1691,8 +1693,8 @@ pub +write-entries+write-items+write-type-spec : {M : Type 1} → statement M
     (write-type-part-write-entries-end-2 t)
     (write-type-sub-write-entries-3 t)
     (write-type-write-entries-requires t)
-    (write-type-add-t50 t)
-    (write-type-add-t59 t)
+    (write-type-add-t51 t)
+    (write-type-add-t60 t)
     (write-type-shared-slice-read-n t)
     (write-type-slice-write-out-6 t)
     (write-type-slice-write-out-7 t)
@@ -1705,8 +1707,8 @@ pub +write-entries+write-items+write-type-spec : {M : Type 1} → statement M
     (write-type-part-write-signature-end-2 t)
     (write-type-sub-write-signature-3 t)
     (write-type-write-signature-requires t)
-    (write-type-add-t65 t)
-    (write-type-add-t73 t)
+    (write-type-add-t66 t)
+    (write-type-add-t74 t)
     (write-type-sub-skip t)
     (write-type-part-skip-start t)
     (write-type-part-skip-end t)
@@ -1719,11 +1721,11 @@ pub +write-entries+write-items+write-type-spec : {M : Type 1} → statement M
     (write-type-copy-requires t)
     (write-type-slice-write-out-8 t)
     (write-type-width-requires t)
-    (write-type-add-t88 t)
+    (write-type-add-t89 t)
     (write-type-leaf-type-requires t)
     (write-type-slice-write-out-9 t)
     (write-type-width-requires-2 t)
-    (write-type-add-t92 t)
+    (write-type-add-t93 t)
     (write-type-same-length t)
     (write-type-same-length-2 t)
     (write-type-returns t)
