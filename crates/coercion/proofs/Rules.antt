@@ -29,6 +29,7 @@ use Rattle.form.proofs.Values.{value-accepted, value-told, read-upV}
 use Rattle.form.proofs.Runs.{rest, length-rest}
 use Rattle.order.specs.Types.{cmp}
 use Rattle.order.specs.Size.{size, sizeVal}
+use Rattle.order.specs.Order.{fixed}
 use Rattle.order.specs.Document.{conformsTo}
 use Rattle.order.specs.Inferred.{valueConformsTo}
 use Rattle.order.proofs.Size.{size-positive, size-val-positive}
@@ -84,7 +85,7 @@ module _ {X Y : Type 0} (test : X → Y → Bool) where
   met-says sx sy positive (some x) none r u m = ap not (eq-eqb r 0 m)
   met-says sx sy positive none q r u m = ap not (eq-eqb r 0 m)
 
-pub value-says : (v t : List ℕ) (r u : ℕ) → Met (held (valueAt valueLevels v) (typeAt typeLevels t)) r u → SaysAt valueConformsTo v t (not (eqb r 0))
+pub value-says : (v t : List ℕ) (r u : ℕ) → Met (held fixed (valueAt valueLevels v) (typeAt typeLevels t)) r u → SaysAt valueConformsTo v t (not (eqb r 0))
 value-says v t r u m = met-says valueConformsTo sizeVal size size-val-positive (valueAt valueLevels v) (typeAt typeLevels t) r u m
 
 -- ---- built-in functions
@@ -95,10 +96,10 @@ function-read : typeAt typeLevels (0x2D ∷ 0x01 ∷ 0x22 ∷ 0x22 ∷ []) ≡ s
 unfolding typeAt seen readT stepT stepType readFunction readRun andThen front kindOf
 function-read = refl
 
-pub function-says : (t : List ℕ) (r u : ℕ) → Met (conformOf (typeAt typeLevels (0x2D ∷ 0x01 ∷ 0x22 ∷ 0x22 ∷ [])) (typeAt typeLevels t)) r u → BifSays 0 t (not (eqb r 0))
+pub function-says : (t : List ℕ) (r u : ℕ) → Met (conformOf fixed (typeAt typeLevels (0x2D ∷ 0x01 ∷ 0x22 ∷ 0x22 ∷ [])) (typeAt typeLevels t)) r u → BifSays 0 t (not (eqb r 0))
 function-says t r u m =
     met-says conformsTo size size size-positive (some number-to-number) (typeAt typeLevels t) r u
-    (subst (λ (x : Option Ty). Met (conformOf x (typeAt typeLevels t)) r u) function-read m)
+    (subst (λ (x : Option Ty). Met (conformOf fixed x (typeAt typeLevels t)) r u) function-read m)
 
 module _ (t : List ℕ) (q : Ok (typeAt typeLevels t)) where
   U : (y : Ty) × (typeAt typeLevels t ≡ some y)

@@ -17,13 +17,14 @@ use form::limits::MOST_BYTES;
 use form::limits::TYPE_LEVELS;
 use form::limits::VALUE_LEVELS;
 use form::refusals;
+use types::readings;
 
 // Whether a value stands at the front of `v`, a type at the front of `t`, and the value conforms.
 fn conforms(v: &[u8], t: &[u8]) -> bool
     ensures { λ r. ⌜ SaysAt valueConformsTo (now (v .entry)) (now (t .entry)) r ⌝ }
 {
     let mut other: usize = 0;
-    values::compare::conforms(v, t, TYPE_LEVELS, &mut other) != 0
+    values::compare::conforms(v, t, TYPE_LEVELS, &mut other, readings::DOCUMENT) != 0
 }
 
 // Whether function<number> to number conforms to the type.
@@ -37,7 +38,7 @@ fn function_conforms(t: &[u8]) -> bool
         commands::NUMBER_TYPE,
     ];
     let mut other: usize = 0;
-    types::compare::conforms(&f, t, TYPE_LEVELS, &mut other) != 0
+    types::compare::conforms(&f, t, TYPE_LEVELS, &mut other, readings::DOCUMENT) != 0
 }
 
 // Whether the type of the built-in function at position b conforms to the type: Abs and Sqrt have a function type, all others Any.

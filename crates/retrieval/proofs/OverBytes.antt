@@ -21,7 +21,7 @@ use Rattle.order.specs.Inferred.{valueConformsTo}
 use Rattle.order.proofs.Simple.{same-eq}
 use Rattle.order.proofs.WellFormed.{asc-of}
 use Rattle.types.specs.Calls.{isYes}
-use Rattle.values.specs.Calls.{isConformant, Accepted}
+use Rattle.values.specs.Calls.{isConformantBy, isConformant, Accepted}
 use Rattle.retrieval.specs.Retrieve.{retrieve, isNullType, orNothing}
 use Rattle.retrieval.specs.Retrieval.{There}
 use Rattle.retrieval.specs.ByNames.{retrieveByNames}
@@ -43,7 +43,7 @@ fits-refused room bs n e = go (leb (length bs) room) e
 module _ (t v : List ℕ) (A : Accepted t v) where
   -- what the call for conformance says
   said : (q : Bool) → isConformant v t ≡ done q → valueConformsTo (A .value) (A .type) ≡ q
-  unfolding isConformant _>>=_
+  unfolding isConformantBy _>>=_
   said q h = let z : done (valueConformsTo (A .value) (A .type)) ≡ done q = rw (A .read-v, A .read-t) at h in cc
 
   ascends : Asc (A .type)
@@ -73,7 +73,7 @@ module _ (t v : List ℕ) (A : Accepted t v) where
         })
 
     conforms-back : valueConformsTo w (A .type) ≡ true → isConformant (encV w) t ≡ done true
-    unfolding isConformant _>>=_
+    unfolding isConformantBy _>>=_
     conforms-back h = rw (read-back, A .read-t, h)
 
   retrieved : isConformant v t ≡ done true → RetrievedBytes t v

@@ -8,6 +8,7 @@ mod builder;
 
 use form::Checked;
 use form::Written;
+use types::readings;
 
 // `FeelType::get_value_checked`. Refusals 6 to 10 of the type, 1 to 5 of the value, 15, 17, 18; 17 is never met.
 pub fn get_value_checked(t: &[u8], v: &[u8], out: &mut [u8]) -> Written
@@ -26,7 +27,7 @@ pub fn get_value_checked(t: &[u8], v: &[u8], out: &mut [u8]) -> Written
 pub fn get_conformant_value(t: &[u8], v: &[u8], out: &mut [u8]) -> Written
     ensures { λ r. ⌜ Built (getConformantValueCall (now (t .entry)) (now (v .entry)) (length (now (out .entry)))) (now (out .entry)) (now (out .exit)) r ⌝ }
 {
-    if values::compare::passes(v, t) {
+    if values::compare::passes(v, t, readings::DOCUMENT) {
         return builder::write_retrieved(t, v, out);
     }
     builder::give_nothing(t, v, out)
