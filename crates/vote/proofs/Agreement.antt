@@ -14,6 +14,8 @@ use Rattle.form.proofs.Encoded.{bytes-enc}
 use Rattle.form.proofs.Types.{type-exact}
 use Rattle.order.specs.Document.{isInstanceOf}
 use Rattle.order.specs.Inferred.{valueConformsTo, typeOf}
+use Rattle.order.specs.Order.{fixed}
+use Rattle.order.proofs.Simple.{fixed-laws}
 use Rattle.order.proofs.ValueTheorems.{inferred-type}
 use Rattle.order.proofs.Dmn.{dmn-is, dmn-here, agree-exactly, agrees-either, reduced-is-dmn}
 use Rattle.order.proofs.DataDmn.{data-is-dmn}
@@ -25,9 +27,9 @@ use Rattle.infer.specs.Calls.{wanted, typeOfCall}
 use Rattle.coercion.specs.Dmn.{dmnCoerced}
 use Rattle.coercion.specs.Calls.{coercedCall}
 use Rattle.coercion.proofs.Theorems.{coercion}
-use Rattle.vote.specs.Vote.{DataValue, AcceptedType}
+use Rattle.vote.specs.Vote.{AcceptedValue, DataValue, AcceptedType}
 use Rattle.vote.specs.Agreement.{TypeOfAnswered, Agreement}
-use Rattle.vote.proofs.Vote.{accepted-value, short, wf-any, wf-accepted, long-value, held-call}
+use Rattle.vote.proofs.Vote.{accepted-value, short, wf-any, wf-accepted, long-value, as-value, held-call}
 use Rattle.output.specs.Result.{result}
 
 -- what `instance_of` answered
@@ -36,7 +38,7 @@ unfolding types.instanceOf _>>=_
 instance-answered a b e = done-same (rw (a .accepted, b .accepted) at e)
 
 -- what `type_of` answered, as an accepted type
-type-of-is : (v : DataValue) (a : List ℕ) → TypeOfAnswered (v .bytes) a → a ≡ enc (typeOf (v .value))
+pub type-of-is : (v : AcceptedValue) (a : List ℕ) → TypeOfAnswered (v .bytes) a → a ≡ enc (typeOf (v .value))
 unfolding typeOfCall
 type-of-is v a A =
     bind-done (readValue (v .bytes)) _ a (A .answered) (λ w p f.
@@ -44,7 +46,7 @@ type-of-is v a A =
     fits-done (A .room) (enc (typeOf w)) a g (λ r i.
     i ∙ ap (λ x. enc (typeOf x)) (done-same (sym p ∙ v .accepted)))))
 
-abbrev inferred : DataValue → AcceptedType
+abbrev pub inferred : AcceptedValue → AcceptedType
 inferred v =
     let w = inferred-type .inferred-well-formed (v .value) (accepted-value v .well) (short v) in
     record {
@@ -61,7 +63,7 @@ inferred v =
     }
 
 own : (v : DataValue) → valueConformsTo (v .value) (typeOf (v .value)) ≡ true
-own v = type-of-conforms (v .value) (accepted-value v .well) (v .data-only)
+own v = type-of-conforms (v .value) (accepted-value (as-value v) .well) (v .data-only)
 
 converts : (v : DataValue) (t : AcceptedType) (room : ℕ) → coercedCall (v .bytes) (t .bytes) room ≡ result room (dmnCoerced (v .value) (t .type))
 unfolding coercedCall _>>=_
@@ -78,9 +80,9 @@ agreement =
       instance-conforms = λ a b. instance-conforms (a .type) (b .type) (wf-any a);
       instance-answers = λ a b e. instance-conforms (a .type) (b .type) (wf-accepted a) (instance-answered a b e);
       values-agree = λ v t. data-is-dmn (v .value) (t .type) (v .data-only);
-      value-answers = λ v t. held-call v t ∙ ap done (data-is-dmn (v .value) (t .type) (v .data-only));
+      value-answers = λ v t. held-call fixed fixed-laws (as-value v) t ∙ ap done (data-is-dmn (v .value) (t .type) (v .data-only));
       own-type = own;
-      own-answer = λ v a A. ap (values.isConformant (v .bytes)) (type-of-is v a A) ∙ held-call v (inferred v) ∙ ap done (own v);
+      own-answer = λ v a A. ap (values.isConformant (v .bytes)) (type-of-is (as-value v) a A) ∙ held-call fixed fixed-laws (as-value v) (inferred (as-value v)) ∙ ap done (own v);
       conversion = converts;
       definition-other = λ ps b r t. definition-other ps b r (t .type);
       definition-here = definition-here;

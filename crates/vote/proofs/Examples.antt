@@ -17,7 +17,7 @@ use Rattle.order.specs.Values.{least, isDataBy, conforms}
 use Rattle.order.specs.Inferred.{typeOf}
 use Rattle.types.specs.Calls as types
 use Rattle.values.specs.Calls as values
-use Rattle.infer.specs.Calls.{leastTypeCall, typeOfCall}
+use Rattle.infer.specs.Calls.{leastTypeBy, typeOfCall}
 use Rattle.retrieval.specs.Retrieve.{retrieve}
 use Rattle.retrieval.specs.Calls.{getValueCheckedCall}
 use Rattle.coercion.specs.Calls.{coercedCall}
@@ -42,8 +42,8 @@ apply-every v = example12 .apply (v .bytes) (record { are-bytes = v .are-bytes; 
 pub examples : All table
 unfolding Holds All one null yes pair full part inferred leastOf nested times longest lists longestType table bytes num countFields countTys enc level levelV kindOf
     front andThen orElse operand readRun named readNamed readFlag readKey counted readFunction readRange signature readDefinition stepType stepT readT stepValue stepV readV
-    numberOf all readWhole checkValue checkType cmp reduce bound lookup insertWith sameCount allFields eqTy least isDataBy conforms typeOf types.isConformant leastTypeCall typeOfCall
-    values.isConformant getValueCheckedCall coercedCall retrieve encV encLeaf countVals countEntries _>>=_ _>>_
+    numberOf all readWhole checkValue checkType cmp reduce bound lookup insertWith sameCount allFields eqTy least isDataBy conforms typeOf types.isConformantBy leastTypeBy typeOfCall
+    values.isConformantBy getValueCheckedCall coercedCall retrieve encV encLeaf countVals countEntries _>>=_ _>>_
 examples = (
   refl,
   (

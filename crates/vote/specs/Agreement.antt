@@ -12,12 +12,12 @@ use mathlib.Core.List.{List}
 use Rattle.form.specs.Outcome.{done}
 use Rattle.form.specs.Trees.{Ty, built, function, Tys, Params, no-parameters, v-function}
 use Rattle.form.specs.Form.{WfParams}
-use Rattle.order.specs.Order.{fixed}
+use Rattle.order.specs.Order.{fixed, strictOrder}
 use Rattle.order.specs.Types.{les}
 use Rattle.order.specs.Document.{conformsTo, reducedForm, isInstanceOf}
 use Rattle.order.specs.Values.{typesOf}
 use Rattle.order.specs.Inferred.{valueConformsTo, leastType, typeOf}
-use Rattle.order.specs.Dmn.{strictOrder, dmnConformsTo, resultsConform, Parameters, definitionType}
+use Rattle.order.specs.Dmn.{dmnConformsTo, resultsConform, Parameters, definitionType}
 use Rattle.types.specs.Calls as types
 use Rattle.values.specs.Calls as values
 use Rattle.infer.specs.Calls.{typeOfCall}
