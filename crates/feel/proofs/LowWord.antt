@@ -21,9 +21,12 @@ use Rattle.form.specs.Read.{readValue, readType}
 use Rattle.form.proofs.Accepted.{refused-done}
 use Rattle.form.proofs.Values.{value-accepted, value-told}
 use Rattle.form.proofs.Types.{type-accepted, type-told}
-use Rattle.order.specs.Order.{fixed}
-use Rattle.order.specs.Document.{reducedForm, supertype, subtype}
-use Rattle.order.specs.Inferred.{leastType, typeOf}
+use Rattle.order.specs.Order.{Dir, up, down, Order, fixed, strictOrder}
+use Rattle.order.specs.Order as order
+use Rattle.order.specs.Types.{sup, sub}
+use Rattle.order.specs.Document.{reducedForm}
+use Rattle.order.specs.Values.{least}
+use Rattle.order.specs.Inferred.{typeOf}
 use Rattle.order.specs.Size.{size, sizeVal}
 use Rattle.order.proofs.Simple.{and-left}
 use Rattle.order.proofs.Size.{length-enc, size-sup, size-sub, size-reduce}
@@ -32,7 +35,7 @@ use Rattle.order.proofs.TypeOf.{size-type-of}
 use Rattle.order.proofs.WellFormed.{asc-of}
 use Rattle.form.proofs.Options.{none-some}
 use Rattle.bounds.specs.Calls.{combined, reducedCall}
-use Rattle.infer.specs.Calls.{leastTypeCall, typeOfCall}
+use Rattle.infer.specs.Calls.{leastTypeBy, typeOfCall}
 use Rattle.retrieval.specs.Calls.{getValueCheckedCall, getConformantValueCall}
 use Rattle.coercion.specs.Calls.{coercedCall}
 use Rattle.ranges.specs.Calls.{bifTypeCall}
@@ -120,10 +123,14 @@ combined-written answer h a b scratch room ba bb =
 reduced-written : (t : List ℕ) (room : ℕ) → Bytes t → Written (reducedCall t room)
 reduced-written t room bs = after (readType t) _ (λ u e. type-fitted room (reducedForm u) (omega (arith, size-reduce fixed u, type-small t u bs e)))
 
-least-written : (v : List ℕ) (scratch room : ℕ) → Bytes v → Written (leastTypeCall v scratch room)
-unfolding leastTypeCall
-least-written v scratch room bs =
-    after (readValue v) _ (λ w e. behind _ _ (behind _ _ (type-fitted room (leastType w) (omega (arith, size-least fixed w (value-accepted v bs w e .well), value-small v w bs e)))))
+bound-written : (O : Order) (d : Dir) (a b : List ℕ) (scratch room : ℕ) → Bytes a → Bytes b → Written (combined (order.pick d (sup O) (sub O)) a b scratch room)
+bound-written O up a b scratch room ba bb = combined-written (sup O) (λ s t x bx e. size-sup O s t (asc-of s (type-accepted x bx s e .well))) a b scratch room ba bb
+bound-written O down a b scratch room ba bb = combined-written (sub O) (λ s t x bx e. size-sub O s t (asc-of s (type-accepted x bx s e .well))) a b scratch room ba bb
+
+least-written : (O : Order) (v : List ℕ) (scratch room : ℕ) → Bytes v → Written (leastTypeBy O v scratch room)
+unfolding leastTypeBy
+least-written O v scratch room bs =
+    after (readValue v) _ (λ w e. behind _ _ (behind _ _ (type-fitted room (least O w) (omega (arith, size-least O w (value-accepted v bs w e .well), value-small v w bs e)))))
 
 type-of-written : (v : List ℕ) (scratch room : ℕ) → Bytes v → Written (typeOfCall v scratch room)
 unfolding typeOfCall
@@ -250,10 +257,13 @@ low-word = record {
   search-deep = λ c p bs. near _ (halves-deep c p _ bs refl);
   get-entry = λ c n bs. near _ (halves-entry c n _ bs refl);
   get-first = λ c bs. near _ (halves-first c _ bs refl);
-  common-supertype = λ a b scratch room ba bb. written-short _ (combined-written supertype (λ s t x bx e. size-sup fixed s t (asc-of s (type-accepted x bx s e .well))) a b scratch room ba bb);
-  common-subtype = λ a b scratch room ba bb. written-short _ (combined-written subtype (λ s t x bx e. size-sub fixed s t (asc-of s (type-accepted x bx s e .well))) a b scratch room ba bb);
+  common-supertype = λ a b scratch room ba bb. written-short _ (bound-written fixed up a b scratch room ba bb);
+  common-subtype = λ a b scratch room ba bb. written-short _ (bound-written fixed down a b scratch room ba bb);
+  strict-common-supertype = λ a b scratch room ba bb. written-short _ (bound-written strictOrder up a b scratch room ba bb);
+  strict-common-subtype = λ a b scratch room ba bb. written-short _ (bound-written strictOrder down a b scratch room ba bb);
   reduced = λ t room bs. written-short _ (reduced-written t room bs);
-  least-type = λ v scratch room bs. written-short _ (least-written v scratch room bs);
+  least-type = λ v scratch room bs. written-short _ (least-written fixed v scratch room bs);
+  strict-least-type = λ v scratch room bs. written-short _ (least-written strictOrder v scratch room bs);
   type-of = λ v scratch room bs. written-short _ (type-of-written v scratch room bs);
   get-value-checked = λ t v room. written-short _ (checked-written t v room);
   get-conformant-value = λ t v room. written-short _ (conformant-written t v room);

@@ -3,14 +3,14 @@ ghost use mathlib.Core.Path.{_≡_};
 ghost use lib.ListN.{length};
 ghost use Rattle.form.specs.Answers.{checked, verdict, written};
 ghost use Rattle.form.specs.Read.{checkValue, checkType};
-ghost use Rattle.types.specs.Calls.{isConformant, instanceOf, isSimpleBuiltInType, isNull};
+ghost use Rattle.types.specs.Calls.{isConformant, strictIsConformant, instanceOf, isSimpleBuiltInType, isNull};
 ghost use Rattle.values.specs.Calls as values;
-ghost use Rattle.infer.specs.Calls.{leastTypeCall, typeOfCall};
+ghost use Rattle.infer.specs.Calls.{leastTypeCall, strictLeastTypeCall, typeOfCall};
 ghost use Rattle.retrieval.specs.Calls.{getValueCheckedCall, getConformantValueCall};
 ghost use Rattle.coercion.specs.Calls.{coercedCall};
 ghost use Rattle.ranges.specs.Calls.{isInvalidCoercionCall, isValidRangeCall, isNullCall, isTrueCall, isFalseCall, isNumberCall, isStringCall, isListCall, isRangeCall};
 ghost use Rattle.ranges.specs.Calls.{interval, openedCall, closedCall, undefinedCall, bifTypeCall};
-ghost use Rattle.bounds.specs.Calls.{commonSupertype, commonSubtype, reducedCall};
+ghost use Rattle.bounds.specs.Calls.{commonSupertype, commonSubtype, strictCommonSupertype, strictCommonSubtype, reducedCall};
 ghost use Rattle.paths.specs.Places.{found, extentOf};
 ghost use Rattle.paths.specs.Calls.{searchDeepCall, getEntryCall, getFirstCall, containsDeepCall, containsEntryCall, isContextCall, isEmptyCall, lenCall, count};
 ghost use Rattle.context.specs.Calls.{createEntriesCall, applyEntriesCall, zipCall, overwriteCall, moveEntryCall, setEntryCall, removeEntryCall, setNullCall};
@@ -524,4 +524,54 @@ pub extern "C" fn feel_names_trim(s: &[u8], out: &mut [u8]) -> u64
     ensures { λ r. ⌜ Exported (trimCall (now (s .entry)) (length (now (out .entry)))) (now (out .entry)) (now (out .exit)) r ⌝ }
 {
     written_number(names::trim_into(s, out))
+}
+
+// Does the type a conform to the type b as DMN has it?
+#[no_mangle]
+pub extern "C" fn feel_strict_type_is_conformant(a: &[u8], b: &[u8]) -> u64
+    ensures { λ r. ⌜ r ≡ judged (strictIsConformant (now (a .entry)) (now (b .entry))) ⌝ }
+{
+    verdict_number(types::strict_is_conformant(a, b))
+}
+
+// The common supertype of two types as DMN has it.
+#[no_mangle]
+pub extern "C" fn feel_strict_type_common_supertype(
+    a: &[u8],
+    b: &[u8],
+    scratch: &mut [u8],
+    out: &mut [u8],
+) -> u64
+    ensures { λ r. ⌜ Exported (strictCommonSupertype (now (a .entry)) (now (b .entry)) (length (now (scratch .entry))) (length (now (out .entry)))) (now (out .entry)) (now (out .exit)) r ⌝ }
+{
+    written_number(bounds::strict_common_supertype(a, b, scratch, out))
+}
+
+// The common subtype of two types as DMN has it.
+#[no_mangle]
+pub extern "C" fn feel_strict_type_common_subtype(
+    a: &[u8],
+    b: &[u8],
+    scratch: &mut [u8],
+    out: &mut [u8],
+) -> u64
+    ensures { λ r. ⌜ Exported (strictCommonSubtype (now (a .entry)) (now (b .entry)) (length (now (scratch .entry))) (length (now (out .entry)))) (now (out .entry)) (now (out .exit)) r ⌝ }
+{
+    written_number(bounds::strict_common_subtype(a, b, scratch, out))
+}
+
+// Does the value conform to the type as DMN has it?
+#[no_mangle]
+pub extern "C" fn feel_strict_value_is_conformant(v: &[u8], t: &[u8]) -> u64
+    ensures { λ r. ⌜ r ≡ judged (values.strictIsConformant (now (v .entry)) (now (t .entry))) ⌝ }
+{
+    verdict_number(values::strict_is_conformant(v, t))
+}
+
+// The least type of a value as DMN has it.
+#[no_mangle]
+pub extern "C" fn feel_strict_value_least_type(v: &[u8], scratch: &mut [u8], out: &mut [u8]) -> u64
+    ensures { λ r. ⌜ Exported (strictLeastTypeCall (now (v .entry)) (length (now (scratch .entry))) (length (now (out .entry)))) (now (out .entry)) (now (out .exit)) r ⌝ }
+{
+    written_number(infer::strict_least_type(v, scratch, out))
 }
