@@ -21,10 +21,10 @@ pub const NAMES: u8 = 3;
 pub const PATH: u8 = 4;
 
 // How many there are.
-const QUESTIONS: usize = 49;
+const QUESTIONS: usize = 54;
 
 // How many letters their words have.
-const SIZE: usize = 450;
+const SIZE: usize = 527;
 
 // The words one behind the other, in the order of include/feel.h.
 const LETTERS: [u8; SIZE] = *b"\
@@ -32,11 +32,11 @@ const LETTERS: [u8; SIZE] = *b"\
     conformsleasttype-ofretrieveretrieve-conformantcoerceis-invalid-coercionis-valid-rangeis-nullis-trueis-false\
     is-numberis-stringis-listis-rangeopenedclosedundefinedbif-typeget-entrysearchget-firstcontains-entrycontains\
     is-contextis-emptylencreateapplyzipoverwritemove-entryset-entryremove-entryset-nulldisplayfrom-str\
-    is-built-in-type-namename-newtrim\
+    is-built-in-type-namename-newtrimstrict-type-conformsstrict-supertypestrict-subtypestrict-conformsstrict-least\
 ";
 
 // Where each starts, and where the last ends.
-const STARTS: [u16; 50] = [
+const STARTS: [u16; 55] = [
     0,
     11,
     21,
@@ -87,6 +87,11 @@ const STARTS: [u16; 50] = [
     438,
     446,
     450,
+    470,
+    486,
+    500,
+    515,
+    527,
 ];
 
 // How each is asked: how many arguments it wants, and 4 for each number of a kind of call in front of its own.
@@ -140,6 +145,11 @@ const SHAPES: [u8; QUESTIONS] = [
     1,
     9,
     1,
+    6,
+    14,
+    14,
+    6,
+    13,
 ];
 
 // What its arguments have to be: BYTE, NAME, NAMES, PATH or 0 for any bytes.
@@ -193,6 +203,11 @@ const FITS: [u8; QUESTIONS] = [
     0,
     0,
     0,
+    0,
+    0,
+    0,
+    0,
+    0,
 ];
 
 fn wide(x: u16) -> usize {
@@ -210,7 +225,7 @@ fn start(k: usize) -> usize {
 
 // Whether this is the k-th word, from 0 on.
 fn is_word(word: &[u8], k: usize) -> bool
-    requires { ⌜ k < 49 ⌝ }
+    requires { ⌜ k < 54 ⌝ }
 {
     let from = start(k);
     let to = start(k + 1);
@@ -225,7 +240,7 @@ fn is_word(word: &[u8], k: usize) -> bool
 
 // The question with this word.
 pub(crate) fn find(word: &[u8]) -> usize
-    ensures { λ r. ⌜ r ≤ 49 ⌝ }
+    ensures { λ r. ⌜ r ≤ 54 ⌝ }
 {
     let mut k: usize = 0;
     while k < QUESTIONS {

@@ -227,7 +227,9 @@ fn judge(call: usize, a: &[u8], b: &[u8]) -> Verdict {
         27 => ranges::undefined(i),
         32 => paths::contains_entry(a, name),
         34 => paths::is_context(a, name),
-        _ => paths::is_empty(a),
+        35 => paths::is_empty(a),
+        50 => types::strict_is_conformant(a, b),
+        _ => values::strict_is_conformant(a, b),
     }
 }
 
@@ -238,7 +240,10 @@ fn build_apart(call: usize, a: &[u8], b: &[u8], out: &mut [u8]) -> Written {
         5 => bounds::common_supertype(a, b, &mut scratch, out),
         6 => bounds::common_subtype(a, b, &mut scratch, out),
         11 => infer::least_type(a, &mut scratch, out),
-        _ => infer::type_of(a, &mut scratch, out),
+        12 => infer::type_of(a, &mut scratch, out),
+        51 => bounds::strict_common_supertype(a, b, &mut scratch, out),
+        52 => bounds::strict_common_subtype(a, b, &mut scratch, out),
+        _ => infer::strict_least_type(a, &mut scratch, out),
     }
 }
 

@@ -66,7 +66,7 @@ const QUESTIONS: [u8; 1122] = *b"\
 ";
 
 // Those on contexts and texts.
-const MORE: [u8; 889] = *b"\
+const MORE: [u8; 888] = *b"\
     get-entry C NAME              bytes: the value, or none\n\
     search C PATH                 bytes: the value, or none\n\
     get-first C                   bytes: the value, or none\n\
@@ -88,6 +88,15 @@ const MORE: [u8; 889] = *b"\
     is-built-in-type-name S       yes or no\n\
     name-new PARTS                bytes: the name\n\
     trim S                        bytes: S without the blanks at both ends\n\
+";
+
+// Those of the strict reading.
+const STRICT: [u8; 507] = *b"\
+    strict-type-conforms A B      yes or no: A conforms to B as DMN has it, also in the results of functions without parameters\n\
+    strict-supertype A B          bytes: the least type to which both so conform\n\
+    strict-subtype A B            bytes: the greatest type that so conforms to both\n\
+    strict-conforms V T           yes or no: V conforms to T as DMN has it, a function definition as its function type\n\
+    strict-least V                bytes: the least type as DMN has it; of a function definition its function type\n\
     \n\
 ";
 
@@ -105,5 +114,6 @@ pub(crate) fn print() {
     io::write_all(STDOUT_FILENO, &ARGUMENTS);
     io::write_all(STDOUT_FILENO, &QUESTIONS);
     io::write_all(STDOUT_FILENO, &MORE);
+    io::write_all(STDOUT_FILENO, &STRICT);
     io::write_all(STDOUT_FILENO, &ANSWERS);
 }
