@@ -27,6 +27,7 @@
  *   11  path: more than 31 names
  *   12  a context is wanted, and the value is none
  *   13  least type asked of a value that holds a function, a built-in, a type or an irrelevant mark
+ *       (the strict call: a built-in, a type or an irrelevant mark; a function definition has its function type)
  *   14  scratch too short
  *   15  the value cannot be retrieved with the type
  *   16  a value on the way of the path is no context
@@ -202,6 +203,36 @@ uint64_t feel_names_name_new(const uint8_t *parts, size_t parts_len, uint8_t *ou
 /* Name::from: s without the blanks at both its ends, at the front of out; s has any bytes. Answers the length, or 19 where s has more than 16,384
  * bytes; 18. */
 uint64_t feel_names_trim(const uint8_t *s, size_t s_len, uint8_t *out, size_t out_len);
+
+/* STRICT READING. The five calls below read functions as DMN does: a function without parameters conforms only if its result does, at every depth,
+ * and a function definition (command 0x0C) conforms exactly when its function type does (0x2D, its count, its parameter types in order, its
+ * result type). All else is as in the calls above: order of arguments, refusals, scratch. Two types that strictly conform to each other are equal
+ * bytes. */
+
+/* Does the type a strictly conform to the type b? Answers 1 or 0, or a's refusal 6 to 10, or b's. */
+uint64_t feel_strict_type_is_conformant(const uint8_t *a, size_t a_len, const uint8_t *b, size_t b_len);
+
+/* The least type to which both strictly conform, at the front of out. Functions of equal count, 0 too, have the supertype of their results, and
+ * nothing is reduced: Null with a type gives that type as it is. Answers its length, or a's refusal 6 to 10, or b's; 14 where the scratch is
+ * shorter than a and b together; 18. The scratch's contents afterwards are free. */
+uint64_t feel_strict_type_common_supertype(const uint8_t *a, size_t a_len, const uint8_t *b, size_t b_len,
+                                           uint8_t *scratch, size_t scratch_len, uint8_t *out, size_t out_len);
+
+/* The greatest type that strictly conforms to both, at the front of out. Nothing is reduced: Any with a type gives that type as it is, and so does
+ * an entry whose name only one context has. Answers and refusals as above. */
+uint64_t feel_strict_type_common_subtype(const uint8_t *a, size_t a_len, const uint8_t *b, size_t b_len,
+                                         uint8_t *scratch, size_t scratch_len, uint8_t *out, size_t out_len);
+
+/* Does the value v strictly conform to the type t? The parameters of a function definition are compared as those of its function type: the other way
+ * round than in feel_value_is_conformant. A built-in function, a type and an irrelevant mark conform to Any alone. Answers 1 or 0, or v's refusal
+ * 1 to 5, or t's 6 to 10. */
+uint64_t feel_strict_value_is_conformant(const uint8_t *v, size_t v_len, const uint8_t *t, size_t t_len);
+
+/* The least type of a value of data and function definitions, at the front of out: v strictly conforms to a type exactly when it does. A function
+ * definition has its function type as it is; lists and ranges have the strict supertype. Answers its length, or refusal 1 to 5; 13 where a built-in
+ * function, a type or an irrelevant mark stands anywhere in v; 14 where the scratch is shorter than four times v; 18. The scratch's contents
+ * afterwards are free. */
+uint64_t feel_strict_value_least_type(const uint8_t *v, size_t v_len, uint8_t *scratch, size_t scratch_len, uint8_t *out, size_t out_len);
 
 #ifdef __cplusplus
 }

@@ -119,6 +119,12 @@ static const struct command {
     {"is-type-name", "s", YES, ONE, {.one = feel_names_is_built_in_type_name}},
     {"name", "parts", TEXT, ONE_OUT, {.one_out = feel_names_name_new}},
     {"trim", "s", TEXT, ONE_OUT, {.one_out = feel_names_trim}},
+    /* the strict reading */
+    {"strict-conforms", "T/T", YES, TWO, {.two = feel_strict_type_is_conformant}},
+    {"strict-supertype", "T/T", BYTES, TWO_WORK, {.two_work = feel_strict_type_common_supertype}},
+    {"strict-subtype", "T/T", BYTES, TWO_WORK, {.two_work = feel_strict_type_common_subtype}},
+    {"strict-holds", "V/T", YES, TWO, {.two = feel_strict_value_is_conformant}},
+    {"strict-least", "V", BYTES, ONE_WORK, {.one_work = feel_strict_value_least_type}},
 };
 
 static int digit(char c)
@@ -292,7 +298,7 @@ static void print_answer(const struct command *c, uint64_t answer)
 static void answer_line(unsigned number, char *line)
 {
     size_t len = strcspn(line, " ");
-    printf("%4u %-14.*s ", number, (int)len, line);
+    printf("%4u %-16.*s ", number, (int)len, line);
     for (size_t i = 0; i < sizeof commands / sizeof *commands; i++) {
         const struct command *c = &commands[i];
         if (strlen(c->name) != len || strncmp(c->name, line, len) != 0) continue;

@@ -9,7 +9,7 @@ fn main() {
     println!("cargo:rerun-if-env-changed=FEEL_LIB_DIR");
     println!("cargo:rerun-if-env-changed=FEEL_BEFORE_DIR");
     println!("cargo:rerun-if-changed=build.rs");
-    println!("cargo:rustc-check-cfg=cfg(feel_before)");
+    println!("cargo:rustc-check-cfg=cfg(feel_before, feel_before_strict)");
     if env::var_os("CARGO_FEATURE_SELF_CHECK").is_some() {
         return;
     }
@@ -71,6 +71,9 @@ fn link_before(library: &Path) {
     println!("cargo:rustc-link-search=native={}", out.display());
     println!("cargo:rustc-link-lib=static=feel_before");
     println!("cargo:rustc-cfg=feel_before");
+    if symbols.contains("feel_strict_") {
+        println!("cargo:rustc-cfg=feel_before_strict");
+    }
 }
 
 /// What a command prints.

@@ -184,4 +184,44 @@ unsafe extern "C" {
         out_len: usize,
     ) -> u64;
     pub fn feel_names_trim(s: *const u8, s_len: usize, out: *mut u8, out_len: usize) -> u64;
+    pub fn feel_strict_type_is_conformant(
+        a: *const u8,
+        a_len: usize,
+        b: *const u8,
+        b_len: usize,
+    ) -> u64;
+    pub fn feel_strict_type_common_supertype(
+        a: *const u8,
+        a_len: usize,
+        b: *const u8,
+        b_len: usize,
+        scratch: *mut u8,
+        scratch_len: usize,
+        out: *mut u8,
+        out_len: usize,
+    ) -> u64;
+    pub fn feel_strict_type_common_subtype(
+        a: *const u8,
+        a_len: usize,
+        b: *const u8,
+        b_len: usize,
+        scratch: *mut u8,
+        scratch_len: usize,
+        out: *mut u8,
+        out_len: usize,
+    ) -> u64;
+    pub fn feel_strict_value_is_conformant(
+        v: *const u8,
+        v_len: usize,
+        t: *const u8,
+        t_len: usize,
+    ) -> u64;
+    pub fn feel_strict_value_least_type(
+        v: *const u8,
+        v_len: usize,
+        scratch: *mut u8,
+        scratch_len: usize,
+        out: *mut u8,
+        out_len: usize,
+    ) -> u64;
 }

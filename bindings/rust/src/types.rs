@@ -179,6 +179,70 @@ pub fn get_conformant_value_into(t: &[u8], v: &[u8], out: &mut [u8]) -> Result<u
     retrieve_into(t, v, out, ffi::feel_type_get_conformant_value)
 }
 
+/// Does the type `a` strictly conform to the type `b`? As [is_conformant], but functions without
+/// parameters compare their results too, at every depth.
+///
+/// ```
+/// use hedvaste::types;
+/// let (number, string) = ([0x2D, 0, 0x22], [0x2D, 0, 0x23]); // function<>->number, ..->string
+/// assert_eq!(types::is_conformant(&number, &string), Ok(true));
+/// assert_eq!(types::strict_is_conformant(&number, &string), Ok(false));
+/// assert_eq!(types::strict_is_conformant(&number, &[0x2D, 0, 0x20]), Ok(true));
+/// ```
+pub fn strict_is_conformant(a: &[u8], b: &[u8]) -> Result<bool, Refusal> {
+    // SAFETY: as above.
+    yes(unsafe { ffi::feel_strict_type_is_conformant(a.as_ptr(), a.len(), b.as_ptr(), b.len()) })
+}
+
+/// The least type to which both strictly conform. Nothing is reduced.
+///
+/// ```
+/// use hedvaste::types;
+/// assert_eq!(types::common_supertype(&[0x29], &[0x2D, 0, 0x21]), Ok(vec![0x2D, 0, 0x20]));
+/// assert_eq!(types::strict_common_supertype(&[0x29], &[0x2D, 0, 0x21]), Ok(vec![0x2D, 0, 0x21]));
+/// ```
+pub fn strict_common_supertype(a: &[u8], b: &[u8]) -> Result<Vec<u8>, Refusal> {
+    written(together(a, b), |out| {
+        strict_common_supertype_into(a, b, out)
+    })
+}
+
+/// [strict_common_supertype] at the front of `out`: its length.
+///
+/// ```
+/// let mut out = [0; 3];
+/// let (number, string) = ([0x2D, 0, 0x22], [0x2D, 0, 0x23]);
+/// assert_eq!(hedvaste::types::strict_common_supertype_into(&number, &string, &mut out), Ok(3));
+/// assert_eq!(out, [0x2D, 0, 0x20]);
+/// ```
+pub fn strict_common_supertype_into(a: &[u8], b: &[u8], out: &mut [u8]) -> Result<usize, Refusal> {
+    bound_into(a, b, out, ffi::feel_strict_type_common_supertype)
+}
+
+/// The greatest type that strictly conforms to both. Nothing is reduced.
+///
+/// ```
+/// use hedvaste::types;
+/// let (number, string) = ([0x2D, 0, 0x22], [0x2D, 0, 0x23]);
+/// assert_eq!(types::common_subtype(&number, &string), Ok(vec![0x2D, 0, 0x20]));
+/// assert_eq!(types::strict_common_subtype(&number, &string), Ok(vec![0x2D, 0, 0x29]));
+/// ```
+pub fn strict_common_subtype(a: &[u8], b: &[u8]) -> Result<Vec<u8>, Refusal> {
+    written(together(a, b), |out| strict_common_subtype_into(a, b, out))
+}
+
+/// [strict_common_subtype] at the front of `out`: its length.
+///
+/// ```
+/// let mut out = [0; 3];
+/// let number = [0x2D, 0, 0x22];
+/// assert_eq!(hedvaste::types::strict_common_subtype_into(&[0x20], &number, &mut out), Ok(3));
+/// assert_eq!(out, number);
+/// ```
+pub fn strict_common_subtype_into(a: &[u8], b: &[u8], out: &mut [u8]) -> Result<usize, Refusal> {
+    bound_into(a, b, out, ffi::feel_strict_type_common_subtype)
+}
+
 /// The scratch of a common supertype or subtype, and the longest answer: never longer than the two
 /// types together.
 fn together(a: &[u8], b: &[u8]) -> usize {

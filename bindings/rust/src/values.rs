@@ -54,6 +54,51 @@ pub fn least_type_into(v: &[u8], out: &mut [u8]) -> Result<usize, Refusal> {
     inferred_into(v, out, ffi::feel_value_least_type)
 }
 
+/// Does the value `v` strictly conform to the type `t`? As [is_conformant], but a function definition
+/// conforms exactly when its function type strictly does.
+///
+/// ```
+/// use hedvaste::{Type, values};
+/// // A definition that takes a number and gives any value, beside one that takes any value.
+/// let v = [0x0C, 1, 0, 0, 0x20, 7, 0, 0x22];
+/// let t = Type::function([Type::Any], Type::Any).to_bytes()?;
+/// assert!(values::is_conformant(&v, &t)?);
+/// assert!(!values::strict_is_conformant(&v, &t)?);
+/// # Ok::<(), hedvaste::Refusal>(())
+/// ```
+pub fn strict_is_conformant(v: &[u8], t: &[u8]) -> Result<bool, Refusal> {
+    // SAFETY: as above.
+    yes(unsafe { ffi::feel_strict_value_is_conformant(v.as_ptr(), v.len(), t.as_ptr(), t.len()) })
+}
+
+/// The least type of a value of data and function definitions, under the strict reading; refusal 13
+/// where a built-in function, a type or an irrelevant mark stands in it.
+///
+/// ```
+/// use hedvaste::values;
+/// // Two definitions without parameters, of number and of string.
+/// let v = [0x0A, 2, 0, 0x0C, 0, 0, 0, 0x22, 0x0C, 0, 0, 0, 0x23];
+/// assert_eq!(values::strict_least_type(&v), Ok(vec![0x2A, 0x2D, 0, 0x20]));
+/// assert_eq!(values::least_type(&v).unwrap_err().number(), 13);
+/// assert_eq!(values::strict_least_type(&[0x0F]).unwrap_err().number(), 13);
+/// ```
+pub fn strict_least_type(v: &[u8]) -> Result<Vec<u8>, Refusal> {
+    // As long as the value at most, as above: a function type has fewer bytes than its definition.
+    written(counted(v), |out| strict_least_type_into(v, out))
+}
+
+/// [strict_least_type] at the front of `out`: its length.
+///
+/// ```
+/// let mut out = [0; 3];
+/// let v = [0x0C, 0, 0, 0, 0x22];
+/// assert_eq!(hedvaste::values::strict_least_type_into(&v, &mut out), Ok(3));
+/// assert_eq!(out, [0x2D, 0, 0x22]);
+/// ```
+pub fn strict_least_type_into(v: &[u8], out: &mut [u8]) -> Result<usize, Refusal> {
+    inferred_into(v, out, ffi::feel_strict_value_least_type)
+}
+
 /// `Value::type_of`: the type as the Rust infers it.
 ///
 /// ```

@@ -1,6 +1,7 @@
 //! Generators of cases, as plain bytes. For the readers: all short strings, records at the limits
 //! of level and length, random well-formed records, and damaged copies. For the calls over two
-//! types: all short types, types near each other, and pairs at the limits. For the calls over
+//! types: all short types, types near each other, pairs at the limits, and pairs that differ at a
+//! parameterless function. For the calls over
 //! values: all values with few nodes, values near each other, decimal numbers, function definitions
 //! beside function types, data at the limits. For the calls over contexts: contexts inside each other, and paths.
 //! For the calls over texts: tables, and the parts of names. Nothing here reads or writes by the code
@@ -12,9 +13,11 @@ mod damage;
 mod decimals;
 mod definitions;
 mod draft;
+mod holders;
 mod lengths;
 mod limits;
 mod near;
+mod parameterless;
 mod random;
 mod small;
 mod small_values;
@@ -32,9 +35,14 @@ pub use damage::each_damage;
 pub use decimals::{MAX_EXPONENT, decimal, each_decimal, near_number, whole};
 pub use definitions::each_definition;
 pub use draft::{Draft, random_draft};
+pub use holders::{HOLDERS, Holder, VALUE_STEPS, ValueStep, definition, held, value_around};
 pub use lengths::{each_long, long_data, long_records};
 pub use limits::{EachPair, each_deep_pair, each_long_pair};
 pub use near::{Move, instances, near};
+pub use parameterless::{
+    ENDS, End, STEPS, Step, around, around_once, ends, near_result, value_with_parameterless,
+    with_parameterless,
+};
 pub use random::Random;
 pub use small::{small_contexts, small_types};
 pub use small_values::small_values;

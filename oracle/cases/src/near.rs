@@ -16,7 +16,7 @@ pub enum Move {
 }
 
 impl Move {
-    fn turned(self) -> Move {
+    pub(crate) fn turned(self) -> Move {
         match self {
             Move::Up => Move::Down,
             Move::Down => Move::Up,

@@ -24,6 +24,8 @@ pub enum ValueTree {
 pub enum Parts {
     /// Data alone, commands 00 to 0B and 10.
     Data,
+    /// Data and function definitions.
+    Definitions,
     /// Function definitions, built-in functions, types and Irrelevant too.
     All,
 }
@@ -42,6 +44,7 @@ impl ValueTree {
         }
         let kinds = match parts {
             Parts::Data => 8,
+            Parts::Definitions => 10,
             Parts::All => 11,
         };
         match random.below(kinds) {
@@ -376,7 +379,7 @@ fn leaf(parts: Parts, random: &mut Random) -> ValueTree {
         [&[command], &key.to_le_bytes()[..]].concat()
     };
     let kinds = match parts {
-        Parts::Data => 12,
+        Parts::Data | Parts::Definitions => 12,
         Parts::All => 16,
     };
     let bytes = match random.below(kinds) {

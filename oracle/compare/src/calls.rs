@@ -11,6 +11,8 @@ use crate::library::{
     feel_context_search_deep, feel_context_set_entry, feel_context_set_null, feel_context_zip,
     feel_interval_closed, feel_interval_opened, feel_interval_undefined, feel_names_display,
     feel_names_from_str, feel_names_is_built_in_type_name, feel_names_name_new, feel_names_trim,
+    feel_strict_type_common_subtype, feel_strict_type_common_supertype,
+    feel_strict_type_is_conformant, feel_strict_value_is_conformant, feel_strict_value_least_type,
     feel_type_common_subtype, feel_type_common_supertype, feel_type_get_conformant_value,
     feel_type_get_value_checked, feel_type_instance_of, feel_type_is_conformant, feel_type_is_null,
     feel_type_is_simple_built_in_type, feel_type_reduced, feel_value_coerced,
@@ -24,7 +26,7 @@ use crate::{
     records, type_answers, type_cases, value_answers, value_cases,
 };
 use feel_cases::{Kind, Parts};
-use feel_form::{calls, read_type, read_value, write_type, write_value};
+use feel_form::{Reading, calls, read_type, read_value, write_type, write_value};
 
 const OF_A_VALUE: &[u8] = &[1, 2, 3, 4, 5];
 
@@ -32,7 +34,7 @@ const OF_A_CONTEXT: &[u8] = &[1, 2, 3, 4, 5, 12];
 
 const OF_A_TYPE: &[u8] = &[6, 7, 8, 9, 10];
 
-pub const CALLS: [Call; 49] = [
+pub const CALLS: [Call; 54] = [
     Call {
         name: "check_value",
         gives: Gives::Level,
@@ -54,7 +56,7 @@ pub const CALLS: [Call; 49] = [
         gives: Gives::YesOrNo,
         refusals: OF_A_TYPE,
         generate: type_cases::two_types,
-        expected: type_answers::is_conformant,
+        expected: |case| type_answers::is_conformant(case, Reading::Ported),
         actual: |lent| two_records(lent, feel_type_is_conformant),
     },
     Call {
@@ -72,7 +74,7 @@ pub const CALLS: [Call; 49] = [
         generate: |options, each| {
             type_cases::two_types_and_buffers(calls::common_supertype, options, each)
         },
-        expected: type_answers::common_supertype,
+        expected: |case| type_answers::common_supertype(case, Reading::Ported),
         actual: |lent| two_types_and_buffers(lent, feel_type_common_supertype),
     },
     Call {
@@ -82,7 +84,7 @@ pub const CALLS: [Call; 49] = [
         generate: |options, each| {
             type_cases::two_types_and_buffers(calls::common_subtype, options, each)
         },
-        expected: type_answers::common_subtype,
+        expected: |case| type_answers::common_subtype(case, Reading::Ported),
         actual: |lent| two_types_and_buffers(lent, feel_type_common_subtype),
     },
     Call {
@@ -114,7 +116,7 @@ pub const CALLS: [Call; 49] = [
         gives: Gives::YesOrNo,
         refusals: &[1, 2, 3, 4, 5, 6, 7, 8, 9, 10],
         generate: value_cases::value_and_type,
-        expected: value_answers::is_conformant,
+        expected: |case| value_answers::is_conformant(case, Reading::Ported),
         actual: |lent| two_records(lent, feel_value_is_conformant),
     },
     Call {
@@ -124,7 +126,7 @@ pub const CALLS: [Call; 49] = [
         generate: |options, each| {
             value_cases::one_value_and_buffers(Parts::Data, calls::value_least_type, options, each)
         },
-        expected: value_answers::least_type,
+        expected: |case| value_answers::least_type(case, Reading::Ported),
         actual: |lent| one_value_and_buffers(lent, feel_value_least_type),
     },
     Call {
@@ -491,6 +493,53 @@ pub const CALLS: [Call; 49] = [
         },
         expected: names_answers::trimmed,
         actual: |lent| one_type_and_output(lent, feel_names_trim),
+    },
+    Call {
+        name: "strict_type_is_conformant",
+        gives: Gives::YesOrNo,
+        refusals: OF_A_TYPE,
+        generate: type_cases::two_types,
+        expected: |case| type_answers::is_conformant(case, Reading::Strict),
+        actual: |lent| two_records(lent, feel_strict_type_is_conformant),
+    },
+    Call {
+        name: "strict_type_common_supertype",
+        gives: Gives::Length,
+        refusals: &[6, 7, 8, 9, 10, 14, 18],
+        generate: |options, each| {
+            type_cases::two_types_and_buffers(calls::strict_common_supertype, options, each)
+        },
+        expected: |case| type_answers::common_supertype(case, Reading::Strict),
+        actual: |lent| two_types_and_buffers(lent, feel_strict_type_common_supertype),
+    },
+    Call {
+        name: "strict_type_common_subtype",
+        gives: Gives::Length,
+        refusals: &[6, 7, 8, 9, 10, 14, 18],
+        generate: |options, each| {
+            type_cases::two_types_and_buffers(calls::strict_common_subtype, options, each)
+        },
+        expected: |case| type_answers::common_subtype(case, Reading::Strict),
+        actual: |lent| two_types_and_buffers(lent, feel_strict_type_common_subtype),
+    },
+    Call {
+        name: "strict_value_is_conformant",
+        gives: Gives::YesOrNo,
+        refusals: &[1, 2, 3, 4, 5, 6, 7, 8, 9, 10],
+        generate: value_cases::value_and_type,
+        expected: |case| value_answers::is_conformant(case, Reading::Strict),
+        actual: |lent| two_records(lent, feel_strict_value_is_conformant),
+    },
+    Call {
+        name: "strict_value_least_type",
+        gives: Gives::Length,
+        refusals: &[1, 2, 3, 4, 5, 13, 14, 18],
+        generate: |options, each| {
+            let call = calls::strict_value_least_type;
+            value_cases::one_value_and_buffers(Parts::Definitions, call, options, each)
+        },
+        expected: |case| value_answers::least_type(case, Reading::Strict),
+        actual: |lent| one_value_and_buffers(lent, feel_strict_value_least_type),
     },
 ];
 

@@ -20,6 +20,8 @@ mod robust_args;
 pub mod robust_cases;
 pub mod run;
 pub mod section;
+pub mod strict;
+mod strict_theorems;
 mod theorems;
 #[cfg(feature = "self-check")]
 mod twin;

@@ -9,6 +9,8 @@ pub use crate::twin::{
     feel_context_search_deep, feel_context_set_entry, feel_context_set_null, feel_context_zip,
     feel_interval_closed, feel_interval_opened, feel_interval_undefined, feel_names_display,
     feel_names_from_str, feel_names_is_built_in_type_name, feel_names_name_new, feel_names_trim,
+    feel_strict_type_common_subtype, feel_strict_type_common_supertype,
+    feel_strict_type_is_conformant, feel_strict_value_is_conformant, feel_strict_value_least_type,
     feel_type_common_subtype, feel_type_common_supertype, feel_type_get_conformant_value,
     feel_type_get_value_checked, feel_type_instance_of, feel_type_is_conformant, feel_type_is_null,
     feel_type_is_simple_built_in_type, feel_type_reduced, feel_value_coerced,
@@ -231,4 +233,44 @@ functions! {
         out_len: usize,
     ) -> u64;
     pub fn feel_names_trim(s: *const u8, s_len: usize, out: *mut u8, out_len: usize) -> u64;
+    pub fn feel_strict_type_is_conformant(
+        a: *const u8,
+        a_len: usize,
+        b: *const u8,
+        b_len: usize,
+    ) -> u64;
+    pub fn feel_strict_type_common_supertype(
+        a: *const u8,
+        a_len: usize,
+        b: *const u8,
+        b_len: usize,
+        scratch: *mut u8,
+        scratch_len: usize,
+        out: *mut u8,
+        out_len: usize,
+    ) -> u64;
+    pub fn feel_strict_type_common_subtype(
+        a: *const u8,
+        a_len: usize,
+        b: *const u8,
+        b_len: usize,
+        scratch: *mut u8,
+        scratch_len: usize,
+        out: *mut u8,
+        out_len: usize,
+    ) -> u64;
+    pub fn feel_strict_value_is_conformant(
+        v: *const u8,
+        v_len: usize,
+        t: *const u8,
+        t_len: usize,
+    ) -> u64;
+    pub fn feel_strict_value_least_type(
+        v: *const u8,
+        v_len: usize,
+        scratch: *mut u8,
+        scratch_len: usize,
+        out: *mut u8,
+        out_len: usize,
+    ) -> u64;
 }

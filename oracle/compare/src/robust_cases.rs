@@ -36,7 +36,8 @@ fn args_of(name: &str) -> &'static [Arg] {
         Byte, Context, Name, NamedType, OtherContext, OtherType, Parts, Path, Table, Text, Type,
         TypeName, Value,
     };
-    match name {
+    // A strict call takes the arguments of the ported one.
+    match name.trim_start_matches("strict_") {
         "check_value" | "value_least_type" | "value_type_of" => &[Value],
         "value_is_conformant" | "value_coerced" => &[Value, Type],
         "type_is_conformant"
@@ -63,7 +64,7 @@ fn args_of(name: &str) -> &'static [Arg] {
 }
 
 fn scratch_of(name: &str) -> Scratch {
-    match name {
+    match name.trim_start_matches("strict_") {
         "type_common_supertype" | "type_common_subtype" => Scratch::Together,
         "value_least_type" | "value_type_of" => Scratch::FourTimes,
         _ => Scratch::None,

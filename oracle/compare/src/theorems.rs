@@ -1,50 +1,65 @@
 //! The theorems on samples: what holds of the answers, with the published `is_conformant` of types
-//! and of values as the judges. The arguments are accepted; of the other types those that are
-//! accepted count.
+//! and of values as the judges, or under the strict reading with those of `form`. The arguments are
+//! accepted; of the other types those that are accepted count.
 
 use crate::call::Checks;
+use crate::strict_theorems;
 use dsntk_feel::FeelType;
 use dsntk_feel::values::Value;
 use feel_form::{
-    common_subtype, common_supertype, least_type, lists_inside, read_type, read_value, reduced,
-    type_level, type_of, type_of_parts, value_level, write_type, write_value,
+    Reading, common_subtype, common_supertype, conforms, least_type, lists_inside, read_type,
+    read_value, reduced, type_level, type_of, type_of_parts, value_conforms, value_level,
+    write_type, write_value,
 };
 
-/// Conformance is reflexive and transitive, and mutual exactly when the reduced forms are equal.
-pub fn of_conformance(a: &[u8], b: &[u8], others: &[&[u8]]) -> Checks {
+/// Conformance is reflexive and transitive, and mutual as [mutual] says.
+pub fn of_conformance(a: &[u8], b: &[u8], others: &[&[u8]], reading: Reading) -> Checks {
     let mut checks = Checks::default();
     let (a, b) = (read(a), read(b));
-    checks.check(
-        a.is_conformant(&a),
-        "theorem fails: a type conforms to itself",
-    );
-    mutual(&mut checks, &a, &b);
-    let a_to_b = a.is_conformant(&b);
+    let conforms = |a: &FeelType, b: &FeelType| conforms(a, b, reading);
+    checks.check(conforms(&a, &a), "theorem fails: a type conforms to itself");
+    mutual(&mut checks, &a, &b, reading);
+    if reading == Reading::Strict {
+        strict_theorems::of_conformance(&mut checks, &a, &b);
+    }
+    let a_to_b = conforms(&a, &b);
     for other in accepted(others) {
-        let passed_on = !(a_to_b && b.is_conformant(&other)) || a.is_conformant(&other);
+        let passed_on = !(a_to_b && conforms(&b, &other)) || conforms(&a, &other);
         checks.check(passed_on, "theorem fails: conformance is transitive");
     }
     checks
 }
 
-/// The supertype is the least upper bound, reduced, and no larger than it may be.
-pub fn of_supertype(a: &[u8], b: &[u8], others: &[&[u8]]) -> Checks {
+/// The supertype is the least upper bound, reduced, and no larger than it may be; strictly, it need
+/// not be reduced.
+pub fn of_supertype(a: &[u8], b: &[u8], others: &[&[u8]], reading: Reading) -> Checks {
     let mut checks = Checks::default();
     let length = a.len() + b.len();
     let (a, b) = (read(a), read(b));
-    let answer = common_supertype(&a, &b);
-    least_above(&mut checks, &a, &b, &answer, others);
+    let answer = common_supertype(&a, &b, reading);
+    least_above(&mut checks, [&a, &b], &answer, others, reading);
+    form(&mut checks, &answer, reading);
+    if reading == Reading::Strict {
+        let ported = common_supertype(&a, &b, Reading::Ported);
+        strict_theorems::of_bound(&mut checks, &answer, &ported);
+    }
     size(&mut checks, &answer, length, level(&a, &b));
     checks
 }
 
-/// The subtype is the greatest lower bound, reduced, and no larger than it may be.
-pub fn of_subtype(a: &[u8], b: &[u8], others: &[&[u8]]) -> Checks {
+/// The subtype is the greatest lower bound, reduced, and no larger than it may be; strictly, it need
+/// not be reduced.
+pub fn of_subtype(a: &[u8], b: &[u8], others: &[&[u8]], reading: Reading) -> Checks {
     let mut checks = Checks::default();
     let length = a.len() + b.len();
     let (a, b) = (read(a), read(b));
-    let answer = common_subtype(&a, &b);
-    greatest_below(&mut checks, &a, &b, &answer, others);
+    let answer = common_subtype(&a, &b, reading);
+    greatest_below(&mut checks, [&a, &b], &answer, others, reading);
+    form(&mut checks, &answer, reading);
+    if reading == Reading::Strict {
+        let ported = common_subtype(&a, &b, Reading::Ported);
+        strict_theorems::of_bound(&mut checks, &answer, &ported);
+    }
     size(&mut checks, &answer, length, level(&a, &b));
     checks
 }
@@ -59,30 +74,35 @@ pub fn of_reduced(t: &[u8], others: &[&[u8]]) -> Checks {
         "theorem fails: a type and its reduced form conform to each other",
     );
     for other in accepted(others) {
-        mutual(&mut checks, &tree, &other);
+        mutual(&mut checks, &tree, &other, Reading::Ported);
     }
+    form(&mut checks, &answer, Reading::Ported);
     size(&mut checks, &answer, t.len(), type_level(&tree));
     checks
 }
 
-/// Any value conforms to Any. Of data: it conforms to a type exactly when its least type does, and
-/// to whatever that type conforms to.
-pub fn of_value_conformance(v: &[u8], t: &[u8], others: &[&[u8]]) -> Checks {
+/// Any value conforms to Any. Of data, strictly with function definitions: it conforms to a type
+/// exactly when its least type does, and to whatever that type conforms to.
+pub fn of_value_conformance(v: &[u8], t: &[u8], others: &[&[u8]], reading: Reading) -> Checks {
     let mut checks = Checks::default();
     let (v, t) = (value(v), read(t));
+    let meets = |t: &FeelType| value_conforms(&v, t, reading);
     checks.check(
-        v.is_conformant(&FeelType::Any),
+        meets(&FeelType::Any),
         "theorem fails: every value conforms to Any",
     );
-    let Some(least) = least_type(&v) else {
+    let Some(least) = least_type(&v, reading) else {
         return checks;
     };
-    as_its_least_type(&mut checks, &v, &least, &t);
-    let v_to_t = v.is_conformant(&t);
+    if reading == Reading::Strict {
+        strict_theorems::of_definition(&mut checks, &v, &t);
+    }
+    as_its_least_type(&mut checks, &v, &least, &t, reading);
+    let v_to_t = meets(&t);
     for other in accepted(others) {
-        as_its_least_type(&mut checks, &v, &least, &other);
+        as_its_least_type(&mut checks, &v, &least, &other, reading);
         checks.check(
-            !(v_to_t && t.is_conformant(&other)) || v.is_conformant(&other),
+            !(v_to_t && conforms(&t, &other, reading)) || meets(&other),
             "theorem fails: data conforms to whatever its type conforms to",
         );
     }
@@ -90,26 +110,33 @@ pub fn of_value_conformance(v: &[u8], t: &[u8], others: &[&[u8]]) -> Checks {
 }
 
 /// The least type is one to which the value conforms, it conforms to every type to which the value
-/// conforms, the inferred one too, and it is reduced and no larger than it may be.
-pub fn of_least_type(v: &[u8], others: &[&[u8]]) -> Checks {
+/// conforms, and it is reduced and no larger than it may be. It conforms to the inferred one; not so
+/// strictly, as the inferred type of a list of function definitions leaves results out of account.
+pub fn of_least_type(v: &[u8], others: &[&[u8]], reading: Reading) -> Checks {
     let mut checks = Checks::default();
     let length = v.len();
     let v = value(v);
-    let Some(least) = least_type(&v) else {
+    let Some(least) = least_type(&v, reading) else {
         return checks;
     };
     checks.check(
-        v.is_conformant(&least),
+        value_conforms(&v, &least, reading),
         "theorem fails: a value conforms to its least type",
     );
     let inferred = type_of(&v);
-    checks.check(
-        least.is_conformant(&inferred),
-        "theorem fails: the least type conforms to the inferred type",
-    );
-    as_its_least_type(&mut checks, &v, &least, &inferred);
+    if reading == Reading::Ported {
+        checks.check(
+            least.is_conformant(&inferred),
+            "theorem fails: the least type conforms to the inferred type",
+        );
+    }
+    as_its_least_type(&mut checks, &v, &least, &inferred, reading);
     for other in accepted(others) {
-        as_its_least_type(&mut checks, &v, &least, &other);
+        as_its_least_type(&mut checks, &v, &least, &other, reading);
+    }
+    form(&mut checks, &least, reading);
+    if reading == Reading::Strict {
+        strict_theorems::of_least_type(&mut checks, &v, &least);
     }
     size(&mut checks, &least, length, 1 + value_level(&v));
     checks
@@ -122,7 +149,7 @@ pub fn of_type_of(v: &[u8], _: &[&[u8]]) -> Checks {
     let length = v.len();
     let v = value(v);
     let inferred = type_of(&v);
-    if least_type(&v).is_some() {
+    if least_type(&v, Reading::Ported).is_some() {
         checks.check(
             v.is_conformant(&inferred),
             "theorem fails: data conforms to the inferred type",
@@ -235,9 +262,15 @@ fn retrieved(checks: &mut Checks, t: &FeelType, v: &Value, length: usize, answer
 }
 
 /// Data conforms to a type exactly when its least type does.
-fn as_its_least_type(checks: &mut Checks, v: &Value, least: &FeelType, t: &FeelType) {
+fn as_its_least_type(
+    checks: &mut Checks,
+    v: &Value,
+    least: &FeelType,
+    t: &FeelType,
+    reading: Reading,
+) {
     checks.check(
-        v.is_conformant(t) == least.is_conformant(t),
+        value_conforms(v, t, reading) == conforms(least, t, reading),
         "theorem fails: data conforms to a type exactly when its least type does",
     );
 }
@@ -245,22 +278,23 @@ fn as_its_least_type(checks: &mut Checks, v: &Value, least: &FeelType, t: &FeelT
 /// Both types conform to the answer, and it conforms to whatever both conform to.
 fn least_above(
     checks: &mut Checks,
-    a: &FeelType,
-    b: &FeelType,
+    [a, b]: [&FeelType; 2],
     answer: &FeelType,
     others: &[&[u8]],
+    reading: Reading,
 ) {
+    let conforms = |a: &FeelType, b: &FeelType| conforms(a, b, reading);
     checks.check(
-        a.is_conformant(answer),
+        conforms(a, answer),
         "theorem fails: the first type conforms to the supertype",
     );
     checks.check(
-        b.is_conformant(answer),
+        conforms(b, answer),
         "theorem fails: the second type conforms to the supertype",
     );
     let mut third = |other: &FeelType| {
         checks.check(
-            answer.is_conformant(other) == (a.is_conformant(other) && b.is_conformant(other)),
+            conforms(answer, other) == (conforms(a, other) && conforms(b, other)),
             "theorem fails: the supertype conforms to a third type exactly when both types do",
         );
     };
@@ -272,22 +306,23 @@ fn least_above(
 /// The answer conforms to both types, and whatever conforms to both conforms to it.
 fn greatest_below(
     checks: &mut Checks,
-    a: &FeelType,
-    b: &FeelType,
+    [a, b]: [&FeelType; 2],
     answer: &FeelType,
     others: &[&[u8]],
+    reading: Reading,
 ) {
+    let conforms = |a: &FeelType, b: &FeelType| conforms(a, b, reading);
     checks.check(
-        answer.is_conformant(a),
+        conforms(answer, a),
         "theorem fails: the subtype conforms to the first type",
     );
     checks.check(
-        answer.is_conformant(b),
+        conforms(answer, b),
         "theorem fails: the subtype conforms to the second type",
     );
     let mut third = |other: &FeelType| {
         checks.check(
-            other.is_conformant(answer) == (other.is_conformant(a) && other.is_conformant(b)),
+            conforms(other, answer) == (conforms(other, a) && conforms(other, b)),
             "theorem fails: a third type conforms to the subtype exactly when it does to both",
         );
     };
@@ -296,20 +331,34 @@ fn greatest_below(
     accepted(others).for_each(|other| third(&other));
 }
 
-/// Two types conform to each other exactly when their reduced forms are equal.
-fn mutual(checks: &mut Checks, a: &FeelType, b: &FeelType) {
-    checks.check(
-        (a.is_conformant(b) && b.is_conformant(a)) == (reduced(a) == reduced(b)),
-        "theorem fails: conformance is mutual exactly when the reduced forms are equal",
-    );
+/// Two types conform to each other exactly when their reduced forms are equal; strictly, when they
+/// are equal.
+fn mutual(checks: &mut Checks, a: &FeelType, b: &FeelType, reading: Reading) {
+    let is_mutual = conforms(a, b, reading) && conforms(b, a, reading);
+    match reading {
+        Reading::Ported => checks.check(
+            is_mutual == (reduced(a) == reduced(b)),
+            "theorem fails: conformance is mutual exactly when the reduced forms are equal",
+        ),
+        Reading::Strict => checks.check(
+            is_mutual == (write_type(a) == write_type(b)),
+            "theorem fails: strict conformance is mutual exactly when the bytes are equal",
+        ),
+    }
 }
 
-/// An answer is reduced, and neither its length nor its level passes the bound.
+/// An answer is reduced; of a strict one nothing is said.
+fn form(checks: &mut Checks, answer: &FeelType, reading: Reading) {
+    if reading == Reading::Ported {
+        checks.check(
+            reduced(answer) == *answer,
+            "theorem fails: an answer is reduced",
+        );
+    }
+}
+
+/// Neither the length nor the level of an answer passes the bound.
 fn size(checks: &mut Checks, answer: &FeelType, length: usize, level: usize) {
-    checks.check(
-        reduced(answer) == *answer,
-        "theorem fails: an answer is reduced",
-    );
     checks.check(
         write_type(answer).len() <= length,
         "theorem fails: an answer is never longer than the inputs together",
@@ -342,12 +391,13 @@ fn accepted(others: &[&[u8]]) -> impl Iterator<Item = FeelType> {
 mod tests {
     use super::*;
 
-    type Theorem = fn(&mut Checks, &FeelType, &FeelType, &FeelType, &[&[u8]]);
+    type Theorem = fn(&mut Checks, [&FeelType; 2], &FeelType, &[&[u8]], Reading);
 
     /// What fails of an answer for two types, with a third.
     fn failed(theorem: Theorem, a: &[u8], b: &[u8], answer: &[u8], other: &[u8]) -> &'static str {
         let mut checks = Checks::default();
-        theorem(&mut checks, &read(a), &read(b), &read(answer), &[other]);
+        let two = [&read(a), &read(b)];
+        theorem(&mut checks, two, &read(answer), &[other], Reading::Ported);
         checks.failed.unwrap_or("nothing")
     }
 
@@ -379,6 +429,7 @@ mod tests {
     fn the_size_of_an_answer_is_seen() {
         let failed = |answer: &[u8], length, level| {
             let mut checks = Checks::default();
+            form(&mut checks, &read(answer), Reading::Ported);
             size(&mut checks, &read(answer), length, level);
             checks.failed.unwrap_or("nothing")
         };
@@ -394,7 +445,7 @@ mod tests {
         let v = value(&[0x0A, 2, 0, 0x00, 0, 0x01, 1]);
         let failed = |least: &[u8], t: &[u8]| {
             let mut checks = Checks::default();
-            as_its_least_type(&mut checks, &v, &read(least), &read(t));
+            as_its_least_type(&mut checks, &v, &read(least), &read(t), Reading::Ported);
             checks.failed.unwrap_or("nothing")
         };
         let booleans = &[0x2A, 0x21];
@@ -443,12 +494,20 @@ mod tests {
     #[test]
     fn samples_of_values_hold() {
         let v: &[u8] = &[0x0A, 2, 0, 0x00, 0, 0x01, 1];
+        let definition: &[u8] = &[0x0C, 0, 0, 0, 0x22];
         let others: &[&[u8]] = &[LISTS, NULLS, &[0x2E]];
+        let (ported, strict) = (Reading::Ported, Reading::Strict);
         for (checks, held) in [
-            (of_value_conformance(v, &[0x2A, 0x21], others), 6),
-            (of_value_conformance(&[0x0F], NUMBERS, others), 1),
-            (of_least_type(v, others), 8),
-            (of_least_type(&[0x0F], others), 0),
+            (of_value_conformance(v, &[0x2A, 0x21], others, ported), 6),
+            (of_value_conformance(v, &[0x2A, 0x21], others, strict), 6),
+            (of_value_conformance(&[0x0F], NUMBERS, others, ported), 1),
+            (of_value_conformance(definition, NUMBERS, others, ported), 1),
+            (of_value_conformance(definition, NUMBERS, others, strict), 7),
+            (of_least_type(v, others, ported), 8),
+            (of_least_type(v, others, strict), 7),
+            (of_least_type(&[0x0F], others, ported), 0),
+            (of_least_type(definition, others, ported), 0),
+            (of_least_type(definition, others, strict), 6),
             (of_type_of(v, others), 4),
             (of_type_of(&[0x0F], others), 3),
         ] {
@@ -461,9 +520,12 @@ mod tests {
         let (a, b): (&[u8], &[u8]) = (&[0x2D, 0, 0x22], &[0x2D, 0, 0x23]);
         let others: &[&[u8]] = &[LISTS, &[0x2E], &[0x20]];
         for (checks, held) in [
-            (of_conformance(a, b, others), 4),
-            (of_supertype(a, b, others), 9),
-            (of_subtype(NUMBERS, b, others), 9),
+            (of_conformance(a, b, others, Reading::Ported), 4),
+            (of_conformance(a, b, others, Reading::Strict), 7),
+            (of_supertype(a, b, others, Reading::Ported), 9),
+            (of_supertype(a, b, others, Reading::Strict), 9),
+            (of_subtype(NUMBERS, b, others, Reading::Ported), 9),
+            (of_subtype(NUMBERS, b, others, Reading::Strict), 9),
             (of_reduced(a, others), 6),
         ] {
             assert_eq!((checks.held, checks.failed), (held, None));

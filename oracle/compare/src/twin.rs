@@ -8,10 +8,16 @@ mod names;
 mod parts;
 mod read;
 mod retrieval;
+mod strict;
 mod values;
 
+use bounds::{Bound, Side};
 use retrieval::Coerced;
 use std::slice::{from_raw_parts, from_raw_parts_mut};
+pub use strict::{
+    feel_strict_type_common_subtype, feel_strict_type_common_supertype,
+    feel_strict_type_is_conformant, feel_strict_value_is_conformant, feel_strict_value_least_type,
+};
 
 /// The answer, or the refusal.
 type Judged = Result<u64, u64>;
@@ -35,9 +41,15 @@ fn of_one_type(t: &[u8], decide: fn(&[u8]) -> bool) -> u64 {
     answer(read_type(t).map(|_| u64::from(decide(t))))
 }
 
-fn of_two_types(a: &[u8], b: &[u8], decide: fn(&[u8], &[u8]) -> bool) -> u64 {
+fn of_two_types(a: &[u8], b: &[u8], decide: impl FnOnce(&[u8], &[u8]) -> bool) -> u64 {
     let judged = read_type(a).and_then(|_| read_type(b));
     answer(judged.map(|_| u64::from(decide(a, b))))
+}
+
+/// Whether a value conforms to a type.
+fn judge_value(v: &[u8], t: &[u8], strict: bool) -> u64 {
+    let judged = read_value(v).and_then(|_| read_type(t));
+    answer(judged.map(|_| u64::from(values::value_conforms(v, t, strict))))
 }
 
 /// Copies the written bytes to the front of the output.
@@ -47,21 +59,29 @@ fn deliver(written: &[u8], out: &mut [u8]) -> Judged {
     Ok(written.len() as u64)
 }
 
+/// Document 01's bound on a side.
+fn ported(side: Side) -> Bound {
+    Bound {
+        side,
+        strict: false,
+    }
+}
+
 /// The bound of two types, built in the scratch.
-fn bound(a: &[u8], b: &[u8], side: bounds::Side, scratch: &mut [u8], out: &mut [u8]) -> Judged {
+fn bound(a: &[u8], b: &[u8], bound: Bound, scratch: &mut [u8], out: &mut [u8]) -> Judged {
     read_type(a)?;
     read_type(b)?;
     if scratch.len() < a.len() + b.len() {
         return Err(14);
     }
-    let end = bounds::put_bound(a, b, side, scratch, 0);
+    let end = bounds::put_bound(a, b, bound, scratch, 0);
     deliver(&scratch[..end], out)
 }
 
 /// The type of a value, which needs four times its length of scratch; `None` where it has none.
 fn type_of_value(
     v: &[u8],
-    of: fn(&[u8]) -> Option<Vec<u8>>,
+    of: impl FnOnce(&[u8]) -> Option<Vec<u8>>,
     scratch: &[u8],
     out: &mut [u8],
 ) -> Judged {
@@ -205,7 +225,7 @@ pub unsafe extern "C" fn feel_type_is_conformant(
     b_len: usize,
 ) -> u64 {
     let (a, b) = unsafe { (from_raw_parts(a, a_len), from_raw_parts(b, b_len)) };
-    of_two_types(a, b, conformance::conforms)
+    of_two_types(a, b, |a, b| conformance::conforms(a, b, false))
 }
 
 /// # Safety
@@ -236,7 +256,7 @@ pub unsafe extern "C" fn feel_type_common_supertype(
     let (a, b) = unsafe { (from_raw_parts(a, a_len), from_raw_parts(b, b_len)) };
     let scratch = unsafe { from_raw_parts_mut(scratch, scratch_len) };
     let out = unsafe { from_raw_parts_mut(out, out_len) };
-    answer(bound(a, b, bounds::Side::Above, scratch, out))
+    answer(bound(a, b, ported(Side::Above), scratch, out))
 }
 
 /// # Safety
@@ -254,7 +274,7 @@ pub unsafe extern "C" fn feel_type_common_subtype(
     let (a, b) = unsafe { (from_raw_parts(a, a_len), from_raw_parts(b, b_len)) };
     let scratch = unsafe { from_raw_parts_mut(scratch, scratch_len) };
     let out = unsafe { from_raw_parts_mut(out, out_len) };
-    answer(bound(a, b, bounds::Side::Below, scratch, out))
+    answer(bound(a, b, ported(Side::Below), scratch, out))
 }
 
 /// # Safety
@@ -296,8 +316,7 @@ pub unsafe extern "C" fn feel_value_is_conformant(
     t_len: usize,
 ) -> u64 {
     let (v, t) = unsafe { (from_raw_parts(v, v_len), from_raw_parts(t, t_len)) };
-    let judged = read_value(v).and_then(|_| read_type(t));
-    answer(judged.map(|_| u64::from(values::value_conforms(v, t))))
+    judge_value(v, t, false)
 }
 
 /// # Safety
@@ -314,7 +333,8 @@ pub unsafe extern "C" fn feel_value_least_type(
     let v = unsafe { from_raw_parts(v, v_len) };
     let scratch = unsafe { from_raw_parts(scratch, scratch_len) };
     let out = unsafe { from_raw_parts_mut(out, out_len) };
-    answer(type_of_value(v, values::least, scratch, out))
+    let of = |v: &[u8]| values::least(v, false);
+    answer(type_of_value(v, of, scratch, out))
 }
 
 /// # Safety

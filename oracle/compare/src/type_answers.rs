@@ -4,15 +4,16 @@
 use crate::answer::Answer;
 use crate::call::{Case, Checks, Expected};
 use crate::theorems;
-use feel_form::calls;
+use feel_form::{Reading, calls};
 
-pub fn is_conformant(case: Case) -> Expected {
+pub fn is_conformant(case: Case, reading: Reading) -> Expected {
     let [a, b] = two(case);
-    let answer = calls::is_conformant(a, b);
-    yes_or_no(
-        answer,
-        checks(case, |others| theorems::of_conformance(a, b, others)),
-    )
+    let call = match reading {
+        Reading::Ported => calls::is_conformant,
+        Reading::Strict => calls::strict_is_conformant,
+    };
+    let theorems = |others| theorems::of_conformance(a, b, others, reading);
+    yes_or_no(call(a, b), checks(case, theorems))
 }
 
 pub fn instance_of(case: Case) -> Expected {
@@ -31,22 +32,26 @@ pub fn is_null(case: Case) -> Expected {
     yes_or_no(calls::is_null(case.args[0]), Checks::default)
 }
 
-pub fn common_supertype(case: Case) -> Expected {
+pub fn common_supertype(case: Case, reading: Reading) -> Expected {
     let [a, b] = two(case);
-    let answer = calls::common_supertype(a, b, case.scratch, case.output);
-    bytes(
-        answer,
-        checks(case, |others| theorems::of_supertype(a, b, others)),
-    )
+    let call = match reading {
+        Reading::Ported => calls::common_supertype,
+        Reading::Strict => calls::strict_common_supertype,
+    };
+    let answer = call(a, b, case.scratch, case.output);
+    let theorems = |others| theorems::of_supertype(a, b, others, reading);
+    bytes(answer, checks(case, theorems))
 }
 
-pub fn common_subtype(case: Case) -> Expected {
+pub fn common_subtype(case: Case, reading: Reading) -> Expected {
     let [a, b] = two(case);
-    let answer = calls::common_subtype(a, b, case.scratch, case.output);
-    bytes(
-        answer,
-        checks(case, |others| theorems::of_subtype(a, b, others)),
-    )
+    let call = match reading {
+        Reading::Ported => calls::common_subtype,
+        Reading::Strict => calls::strict_common_subtype,
+    };
+    let answer = call(a, b, case.scratch, case.output);
+    let theorems = |others| theorems::of_subtype(a, b, others, reading);
+    bytes(answer, checks(case, theorems))
 }
 
 pub fn reduced(case: Case) -> Expected {

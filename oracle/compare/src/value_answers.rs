@@ -4,24 +4,27 @@
 use crate::call::{Case, Checks, Expected};
 use crate::theorems;
 use crate::type_answers::{bytes, checks, two, yes_or_no};
-use feel_form::calls;
+use feel_form::{Reading, calls};
 
-pub fn is_conformant(case: Case) -> Expected {
+pub fn is_conformant(case: Case, reading: Reading) -> Expected {
     let [v, t] = two(case);
-    let answer = calls::value_is_conformant(v, t);
-    yes_or_no(
-        answer,
-        checks(case, |others| theorems::of_value_conformance(v, t, others)),
-    )
+    let call = match reading {
+        Reading::Ported => calls::value_is_conformant,
+        Reading::Strict => calls::strict_value_is_conformant,
+    };
+    let theorems = |others| theorems::of_value_conformance(v, t, others, reading);
+    yes_or_no(call(v, t), checks(case, theorems))
 }
 
-pub fn least_type(case: Case) -> Expected {
+pub fn least_type(case: Case, reading: Reading) -> Expected {
     let v = case.args[0];
-    let answer = calls::value_least_type(v, case.scratch, case.output);
-    bytes(
-        answer,
-        checks(case, |others| theorems::of_least_type(v, others)),
-    )
+    let call = match reading {
+        Reading::Ported => calls::value_least_type,
+        Reading::Strict => calls::strict_value_least_type,
+    };
+    let answer = call(v, case.scratch, case.output);
+    let theorems = |others| theorems::of_least_type(v, others, reading);
+    bytes(answer, checks(case, theorems))
 }
 
 pub fn type_of(case: Case) -> Expected {

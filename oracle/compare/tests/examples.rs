@@ -119,6 +119,96 @@ const DECIMALS: &[Row] = &[
     ),
 ];
 
+/// Both readings of the smallest records on which they differ.
+const STRICT: &[Row] = &[
+    ("type_is_conformant", &["2D 00 20", "2D 00 21"], Yes),
+    ("strict_type_is_conformant", &["2D 00 20", "2D 00 21"], No),
+    (
+        "type_common_supertype",
+        &["29", "2D 00 21"],
+        Bytes("2D 00 20"),
+    ),
+    (
+        "strict_type_common_supertype",
+        &["29", "2D 00 21"],
+        Bytes("2D 00 21"),
+    ),
+    (
+        "type_common_subtype",
+        &["20", "2D 00 21"],
+        Bytes("2D 00 20"),
+    ),
+    (
+        "strict_type_common_subtype",
+        &["20", "2D 00 21"],
+        Bytes("2D 00 21"),
+    ),
+    (
+        "type_common_subtype",
+        &["2D 00 22", "2D 00 23"],
+        Bytes("2D 00 20"),
+    ),
+    (
+        "strict_type_common_subtype",
+        &["2D 00 22", "2D 00 23"],
+        Bytes("2D 00 29"),
+    ),
+    // a result inside the result; a parameter each way round
+    (
+        "value_is_conformant",
+        &["0C 00 00 00 2D 00 22", "2D 00 2D 00 23"],
+        Yes,
+    ),
+    (
+        "strict_value_is_conformant",
+        &["0C 00 00 00 2D 00 22", "2D 00 2D 00 23"],
+        No,
+    ),
+    (
+        "value_is_conformant",
+        &["0C 01 00 00 20 00 00 22", "2D 01 20 20"],
+        Yes,
+    ),
+    (
+        "strict_value_is_conformant",
+        &["0C 01 00 00 20 00 00 22", "2D 01 20 20"],
+        No,
+    ),
+    (
+        "value_is_conformant",
+        &["0C 01 00 00 20 00 00 20", "2D 01 22 20"],
+        No,
+    ),
+    (
+        "strict_value_is_conformant",
+        &["0C 01 00 00 20 00 00 20", "2D 01 22 20"],
+        Yes,
+    ),
+    ("strict_value_is_conformant", &["0D 00", "2D 01 22 22"], No),
+    ("value_least_type", &["0C 00 00 00 20"], Refused(13)),
+    (
+        "strict_value_least_type",
+        &["0C 00 00 00 20"],
+        Bytes("2D 00 20"),
+    ),
+    (
+        "strict_value_least_type",
+        &["0A 02 00 0C 00 00 00 22 0F"],
+        Refused(13),
+    ),
+    // the inferred type is one to which the list does not conform
+    (
+        "strict_value_least_type",
+        &["0A 02 00 0C 00 00 00 22 0C 00 00 00 23"],
+        Bytes("2A 2D 00 20"),
+    ),
+    (
+        "strict_value_is_conformant",
+        &["0A 02 00 0C 00 00 00 22 0C 00 00 00 23", "2A 2D 00 22"],
+        No,
+    ),
+];
+
 const BOUNDS: &[Row] = &[
     ("type_common_supertype", &["22", "23"], Bytes("20")),
     ("type_common_subtype", &["22", "23"], Bytes("29")),
@@ -653,6 +743,13 @@ fn worked_examples_of_readers_and_bounds() {
     }
     for (row, scratch, output) in SHORT {
         ask(row, *scratch, *output);
+    }
+}
+
+#[test]
+fn worked_examples_of_both_readings() {
+    for row in STRICT {
+        ask(row, ROOM, ROOM);
     }
 }
 

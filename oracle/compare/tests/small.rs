@@ -1,10 +1,10 @@
 //! Every call agrees with the Rust on few cases, and these give each of its refusals; the updates do
-//! around level 31 too, and `is_valid_range` on numbers.
+//! around level 31 too, `is_valid_range` on numbers, and the strict calls on parameterless functions.
 
 use compare::call::{Gives, Options};
 use compare::calls::CALLS;
 use compare::run::run;
-use compare::{decimals, levels};
+use compare::{decimals, levels, strict};
 
 const FEW: Options = Options {
     length: 1,
@@ -44,4 +44,15 @@ fn ranges_of_numbers_agree_and_meet_every_class() {
     let decimals = decimals::run(&FEW);
     assert_eq!(decimals.tally.smallest, None, "{decimals}");
     assert!(decimals.missing.is_empty(), "{:?}", decimals.missing);
+}
+
+#[test]
+fn the_strict_calls_agree_and_meet_every_class() {
+    let mut calls = 0;
+    for strict in strict::run(&FEW) {
+        assert_eq!(strict.tally.smallest, None, "{strict}");
+        assert!(strict.missing.is_empty(), "{:?}", strict.missing);
+        calls += 1;
+    }
+    assert_eq!(calls, 5);
 }

@@ -1,6 +1,8 @@
 //! The reduced form of a type, and the common supertype and subtype of two, over trees. Written
-//! from document 01's sections "Type against type" and "Common supertype and subtype".
+//! from document 01's sections "Type against type" and "Common supertype and subtype"; the strict
+//! reading of both bounds from document 02's request K8.
 
+use crate::Reading;
 use dsntk_feel::FeelType;
 use std::collections::BTreeMap;
 
@@ -25,71 +27,75 @@ pub fn reduced(feel_type: &FeelType) -> FeelType {
     }
 }
 
-/// The least type to which both conform, reduced.
-pub fn common_supertype(a: &FeelType, b: &FeelType) -> FeelType {
+/// A type as a bound keeps it: the ported bounds are reduced, the strict ones reduce nothing.
+fn kept(feel_type: &FeelType, reading: Reading) -> FeelType {
+    match reading {
+        Reading::Ported => reduced(feel_type),
+        Reading::Strict => feel_type.clone(),
+    }
+}
+
+/// The least type to which both conform.
+pub fn common_supertype(a: &FeelType, b: &FeelType, reading: Reading) -> FeelType {
+    let both = |a: &FeelType, b: &FeelType| common_supertype(a, b, reading);
     match (a, b) {
-        (FeelType::Null, other) | (other, FeelType::Null) => reduced(other),
-        (FeelType::List(a), FeelType::List(b)) => FeelType::list(&common_supertype(a, b)),
-        (FeelType::Range(a), FeelType::Range(b)) => FeelType::range(&common_supertype(a, b)),
+        (FeelType::Null, other) | (other, FeelType::Null) => kept(other, reading),
+        (FeelType::List(a), FeelType::List(b)) => FeelType::list(&both(a, b)),
+        (FeelType::Range(a), FeelType::Range(b)) => FeelType::range(&both(a, b)),
         (FeelType::Context(a), FeelType::Context(b)) => {
             let mut entries = BTreeMap::new();
             for (name, of_a) in a {
                 if let Some(of_b) = b.get(name) {
-                    entries.insert(name.clone(), common_supertype(of_a, of_b));
+                    entries.insert(name.clone(), both(of_a, of_b));
                 }
             }
             FeelType::Context(entries)
         }
         (FeelType::Function(a, to_a), FeelType::Function(b, to_b)) if a.len() == b.len() => {
-            if a.is_empty() {
+            if a.is_empty() && reading == Reading::Ported {
                 return FeelType::function(&[], &FeelType::Any);
             }
-            let parameters: Vec<FeelType> = a.iter().zip(b).map(subtype_of_two).collect();
-            FeelType::function(&parameters, &common_supertype(to_a, to_b))
+            let subtype = |(a, b)| common_subtype(a, b, reading);
+            let parameters: Vec<FeelType> = a.iter().zip(b).map(subtype).collect();
+            FeelType::function(&parameters, &both(to_a, to_b))
         }
         (a, b) if a.is_simple_built_in_type() && a == b => a.clone(),
         _ => FeelType::Any,
     }
 }
 
-/// The greatest type that conforms to both, reduced.
-pub fn common_subtype(a: &FeelType, b: &FeelType) -> FeelType {
+/// The greatest type that conforms to both.
+pub fn common_subtype(a: &FeelType, b: &FeelType, reading: Reading) -> FeelType {
+    let both = |a: &FeelType, b: &FeelType| common_subtype(a, b, reading);
     match (a, b) {
-        (FeelType::Any, other) | (other, FeelType::Any) => reduced(other),
-        (FeelType::List(a), FeelType::List(b)) => FeelType::list(&common_subtype(a, b)),
-        (FeelType::Range(a), FeelType::Range(b)) => FeelType::range(&common_subtype(a, b)),
+        (FeelType::Any, other) | (other, FeelType::Any) => kept(other, reading),
+        (FeelType::List(a), FeelType::List(b)) => FeelType::list(&both(a, b)),
+        (FeelType::Range(a), FeelType::Range(b)) => FeelType::range(&both(a, b)),
         (FeelType::Context(a), FeelType::Context(b)) => {
             let mut entries = BTreeMap::new();
             for (name, of_a) in a {
                 let entry = match b.get(name) {
-                    Some(of_b) => common_subtype(of_a, of_b),
-                    None => reduced(of_a),
+                    Some(of_b) => both(of_a, of_b),
+                    None => kept(of_a, reading),
                 };
                 entries.insert(name.clone(), entry);
             }
             for (name, of_b) in b {
                 if !a.contains_key(name) {
-                    entries.insert(name.clone(), reduced(of_b));
+                    entries.insert(name.clone(), kept(of_b, reading));
                 }
             }
             FeelType::Context(entries)
         }
         (FeelType::Function(a, to_a), FeelType::Function(b, to_b)) if a.len() == b.len() => {
-            if a.is_empty() {
+            if a.is_empty() && reading == Reading::Ported {
                 return FeelType::function(&[], &FeelType::Any);
             }
-            let parameters: Vec<FeelType> = a.iter().zip(b).map(supertype_of_two).collect();
-            FeelType::function(&parameters, &common_subtype(to_a, to_b))
+            let supertype = |(a, b)| common_supertype(a, b, reading);
+            let parameters: Vec<FeelType> = a.iter().zip(b).map(supertype).collect();
+            FeelType::function(&parameters, &both(to_a, to_b))
         }
         (a, b) if a.is_simple_built_in_type() && a == b => a.clone(),
         _ => FeelType::Null,
     }
-}
-
-fn subtype_of_two((a, b): (&FeelType, &FeelType)) -> FeelType {
-    common_subtype(a, b)
-}
-
-fn supertype_of_two((a, b): (&FeelType, &FeelType)) -> FeelType {
-    common_supertype(a, b)
 }

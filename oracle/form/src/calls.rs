@@ -3,8 +3,8 @@
 
 use crate::read::interval_type;
 use crate::{
-    BIFS, MAX_LENGTH, MAX_VALUE_LEVEL, bounds, inferred, read_type, read_value, value_level,
-    write_type, write_value,
+    BIFS, MAX_LENGTH, MAX_VALUE_LEVEL, Reading, bounds, conforms, inferred, read_type, read_value,
+    value_conforms, value_level, write_type, write_value,
 };
 use dsntk_feel::FeelType;
 use dsntk_feel::ranges::IntervalType;
@@ -12,8 +12,12 @@ use dsntk_feel::values::Value;
 
 /// `FeelType::is_conformant`, or the refusal.
 pub fn is_conformant(a: &[u8], b: &[u8]) -> Result<bool, u8> {
-    let (a, b) = read_two(a, b)?;
-    Ok(a.is_conformant(&b))
+    conformance(a, b, Reading::Ported)
+}
+
+/// Whether the first type strictly conforms to the second, or the refusal.
+pub fn strict_is_conformant(a: &[u8], b: &[u8]) -> Result<bool, u8> {
+    conformance(a, b, Reading::Strict)
 }
 
 /// `FeelType::instance_of`, or the refusal.
@@ -36,12 +40,40 @@ pub fn is_null(t: &[u8]) -> Result<bool, u8> {
 
 /// The bytes of the common supertype, or the refusal.
 pub fn common_supertype(a: &[u8], b: &[u8], scratch: usize, room: usize) -> Result<Vec<u8>, u8> {
-    bound(a, b, scratch, room, bounds::common_supertype)
+    bound(a, b, scratch, room, |a, b| {
+        bounds::common_supertype(a, b, Reading::Ported)
+    })
+}
+
+/// The bytes of the strict common supertype, or the refusal.
+pub fn strict_common_supertype(
+    a: &[u8],
+    b: &[u8],
+    scratch: usize,
+    room: usize,
+) -> Result<Vec<u8>, u8> {
+    bound(a, b, scratch, room, |a, b| {
+        bounds::common_supertype(a, b, Reading::Strict)
+    })
 }
 
 /// The bytes of the common subtype, or the refusal.
 pub fn common_subtype(a: &[u8], b: &[u8], scratch: usize, room: usize) -> Result<Vec<u8>, u8> {
-    bound(a, b, scratch, room, bounds::common_subtype)
+    bound(a, b, scratch, room, |a, b| {
+        bounds::common_subtype(a, b, Reading::Ported)
+    })
+}
+
+/// The bytes of the strict common subtype, or the refusal.
+pub fn strict_common_subtype(
+    a: &[u8],
+    b: &[u8],
+    scratch: usize,
+    room: usize,
+) -> Result<Vec<u8>, u8> {
+    bound(a, b, scratch, room, |a, b| {
+        bounds::common_subtype(a, b, Reading::Strict)
+    })
 }
 
 /// The bytes of the reduced form, or the refusal.
@@ -52,19 +84,22 @@ pub fn reduced(t: &[u8], room: usize) -> Result<Vec<u8>, u8> {
 
 /// `Value::is_conformant`, or the refusal.
 pub fn value_is_conformant(v: &[u8], t: &[u8]) -> Result<bool, u8> {
-    let (v, _) = read_value(v)?;
-    let (t, _) = read_type(t)?;
-    Ok(v.is_conformant(&t))
+    value_conformance(v, t, Reading::Ported)
+}
+
+/// Whether the value strictly conforms to the type, or the refusal.
+pub fn strict_value_is_conformant(v: &[u8], t: &[u8]) -> Result<bool, u8> {
+    value_conformance(v, t, Reading::Strict)
 }
 
 /// The bytes of the least type, or the refusal.
 pub fn value_least_type(v: &[u8], scratch: usize, room: usize) -> Result<Vec<u8>, u8> {
-    let (value, _) = read_value(v)?;
-    let answer = inferred::least_type(&value).ok_or(13)?;
-    if scratch < 4 * v.len() {
-        return Err(14);
-    }
-    written(&answer, room)
+    least_type(v, scratch, room, Reading::Ported)
+}
+
+/// The bytes of the strict least type, or the refusal.
+pub fn strict_value_least_type(v: &[u8], scratch: usize, room: usize) -> Result<Vec<u8>, u8> {
+    least_type(v, scratch, room, Reading::Strict)
 }
 
 /// The bytes of `Value::type_of`, or the refusal.
@@ -171,6 +206,26 @@ fn value_is(v: &[u8], method: fn(&Value) -> bool) -> Result<bool, u8> {
 
 fn interval_is(i: u8, method: fn(&IntervalType) -> bool) -> Result<bool, u8> {
     Ok(method(&interval_type(i).ok_or(2)?))
+}
+
+fn conformance(a: &[u8], b: &[u8], reading: Reading) -> Result<bool, u8> {
+    let (a, b) = read_two(a, b)?;
+    Ok(conforms(&a, &b, reading))
+}
+
+fn value_conformance(v: &[u8], t: &[u8], reading: Reading) -> Result<bool, u8> {
+    let (v, _) = read_value(v)?;
+    let (t, _) = read_type(t)?;
+    Ok(value_conforms(&v, &t, reading))
+}
+
+fn least_type(v: &[u8], scratch: usize, room: usize, reading: Reading) -> Result<Vec<u8>, u8> {
+    let (value, _) = read_value(v)?;
+    let answer = inferred::least_type(&value, reading).ok_or(13)?;
+    if scratch < 4 * v.len() {
+        return Err(14);
+    }
+    written(&answer, room)
 }
 
 fn bound(

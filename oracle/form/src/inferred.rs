@@ -1,6 +1,7 @@
 //! The types of a value, over trees: its least type, written from document 01's section "Least
-//! type", and the type that the Rust infers.
+//! type" and document 02's request K8, and the type that the Rust infers.
 
+use crate::Reading;
 use crate::bounds::common_supertype;
 use dsntk_feel::FeelType;
 use dsntk_feel::context::FeelContext;
@@ -9,9 +10,10 @@ use dsntk_feel::values::Value;
 /// Up to so many lists inside each other the Rust infers the type of the whole value.
 const FEW_LISTS: usize = 6;
 
-/// The least type of a data value; none where a function definition, a built-in function, a type or
-/// Irrelevant stands anywhere in it.
-pub fn least_type(value: &Value) -> Option<FeelType> {
+/// The least type of a data value; none where a built-in function, a type or Irrelevant stands
+/// anywhere in it, or a function definition, which has its function type under the strict reading.
+pub fn least_type(value: &Value, reading: Reading) -> Option<FeelType> {
+    let least = |value: &Value| least_type(value, reading);
     match value {
         Value::Null(_) => Some(FeelType::Null),
         Value::Boolean(_) => Some(FeelType::Boolean),
@@ -23,21 +25,22 @@ pub fn least_type(value: &Value) -> Option<FeelType> {
         Value::DaysAndTimeDuration(_) => Some(FeelType::DaysAndTimeDuration),
         Value::YearsAndMonthsDuration(_) => Some(FeelType::YearsAndMonthsDuration),
         Value::Range(start, _, end, _) => {
-            let inner = common_supertype(&least_type(start)?, &least_type(end)?);
+            let inner = common_supertype(&least(start)?, &least(end)?, reading);
             Some(FeelType::range(&inner))
         }
         Value::List(items) => {
             let mut inner = FeelType::Null;
             for item in items {
-                inner = common_supertype(&inner, &least_type(item)?);
+                inner = common_supertype(&inner, &least(item)?, reading);
             }
             Some(FeelType::list(&inner))
         }
         Value::Context(context) => {
-            let entry = |(name, entry): (&_, &_)| Some((Clone::clone(name), least_type(entry)?));
+            let entry = |(name, entry): (&_, &_)| Some((Clone::clone(name), least(entry)?));
             let entries: Option<_> = context.iter().map(entry).collect();
             Some(FeelType::Context(entries?))
         }
+        Value::FunctionDefinition(..) if reading == Reading::Strict => Some(value.type_of()),
         _ => None,
     }
 }

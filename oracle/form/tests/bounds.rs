@@ -3,7 +3,7 @@
 
 use dsntk_feel::FeelType;
 use feel_cases::{Move, Random, Tree, near};
-use feel_form::{calls, common_subtype, common_supertype, read_type, reduced, write_type};
+use feel_form::{Reading, calls, common_subtype, common_supertype, read_type, reduced, write_type};
 
 /// The bytes of hexadecimal digits; blanks are free between bytes.
 fn bytes(hex: &str) -> Vec<u8> {
@@ -24,7 +24,7 @@ fn conforms(a: &str, b: &str) -> bool {
 /// The supertype is this one, in either order of the arguments.
 fn assert_supertype(a: &str, b: &str, answer: &str) {
     for (a, b) in [(a, b), (b, a)] {
-        let actual = common_supertype(&feel_type(a), &feel_type(b));
+        let actual = common_supertype(&feel_type(a), &feel_type(b), Reading::Ported);
         assert_eq!(write_type(&actual), bytes(answer), "{a} with {b}");
     }
 }
@@ -32,7 +32,7 @@ fn assert_supertype(a: &str, b: &str, answer: &str) {
 /// The subtype is this one, in either order of the arguments.
 fn assert_subtype(a: &str, b: &str, answer: &str) {
     for (a, b) in [(a, b), (b, a)] {
-        let actual = common_subtype(&feel_type(a), &feel_type(b));
+        let actual = common_subtype(&feel_type(a), &feel_type(b), Reading::Ported);
         assert_eq!(write_type(&actual), bytes(answer), "{a} with {b}");
     }
 }

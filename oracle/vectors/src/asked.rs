@@ -163,5 +163,10 @@ fn word(call: Call) -> &'static str {
         Call::IsBuiltInTypeName => "is-built-in-type-name",
         Call::NameNew => "name-new",
         Call::Trim => "trim",
+        Call::StrictIsConformant => "strict-type-conforms",
+        Call::StrictCommonSupertype => "strict-supertype",
+        Call::StrictCommonSubtype => "strict-subtype",
+        Call::StrictValueIsConformant => "strict-conforms",
+        Call::StrictValueLeastType => "strict-least",
     }
 }

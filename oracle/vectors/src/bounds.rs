@@ -99,7 +99,7 @@ const CHANGED: [&str; 9] = [
 ];
 
 /// Cases with exactly the scratch and the output that are wanted.
-fn exact(call: Call, lines: &[&str]) -> Vec<Case> {
+pub fn exact(call: Call, lines: &[&str]) -> Vec<Case> {
     let case = |line: &&str| around(call, line, 0, 0);
     lines.iter().map(case).collect()
 }
@@ -138,7 +138,7 @@ fn deep(call: Call) -> Vec<Case> {
 }
 
 /// Scratch and output at their need, one less, one more and none.
-fn buffers(call: Call) -> Vec<Case> {
+pub fn buffers(call: Call) -> Vec<Case> {
     let line = "2C 0200 0100 22 0200 23 | 2C 0200 0200 23 0300 24";
     let sum = 18;
     let mut cases = vec![];

@@ -259,7 +259,7 @@ fn random(call: Call) -> Vec<Case> {
 }
 
 /// Cases with exactly the scratch and the output that are wanted.
-fn exact(call: Call, lines: &[&str]) -> Vec<Case> {
+pub fn exact(call: Call, lines: &[&str]) -> Vec<Case> {
     let case = |line: &&str| around(call, bytes(line), 0, 0);
     lines.iter().map(case).collect()
 }
@@ -285,7 +285,7 @@ fn around(call: Call, v: Vec<u8>, scratch: isize, room: isize) -> Case {
 
 /// Scratch and output at their need, one less, one more and none; beside them a value that is no
 /// data.
-fn buffers(call: Call) -> Vec<Case> {
+pub fn buffers(call: Call) -> Vec<Case> {
     let mut cases = vec![];
     for line in [
         "01 01",

@@ -55,6 +55,11 @@ pub enum Call {
     IsBuiltInTypeName,
     NameNew,
     Trim,
+    StrictIsConformant,
+    StrictCommonSupertype,
+    StrictCommonSubtype,
+    StrictValueIsConformant,
+    StrictValueLeastType,
 }
 
 impl Call {
@@ -109,6 +114,11 @@ impl Call {
             Call::IsBuiltInTypeName => "names_is_built_in_type_name",
             Call::NameNew => "names_name_new",
             Call::Trim => "names_trim",
+            Call::StrictIsConformant => "strict_type_is_conformant",
+            Call::StrictCommonSupertype => "strict_type_common_supertype",
+            Call::StrictCommonSubtype => "strict_type_common_subtype",
+            Call::StrictValueIsConformant => "strict_value_is_conformant",
+            Call::StrictValueLeastType => "strict_value_least_type",
         }
     }
 
@@ -193,6 +203,19 @@ impl Call {
             (Call::IsBuiltInTypeName, [s], []) => number(Ok(names::is_built_in_type_name(s))),
             (Call::NameNew, [parts], [room]) => bytes_or_refusal(names::name_new(parts, *room)),
             (Call::Trim, [s], [room]) => bytes_or_refusal(names::trim(s, *room)),
+            (Call::StrictIsConformant, [a, b], []) => number(calls::strict_is_conformant(a, b)),
+            (Call::StrictCommonSupertype, [a, b], [scratch, room]) => {
+                bytes_or_refusal(calls::strict_common_supertype(a, b, *scratch, *room))
+            }
+            (Call::StrictCommonSubtype, [a, b], [scratch, room]) => {
+                bytes_or_refusal(calls::strict_common_subtype(a, b, *scratch, *room))
+            }
+            (Call::StrictValueIsConformant, [v, t], []) => {
+                number(calls::strict_value_is_conformant(v, t))
+            }
+            (Call::StrictValueLeastType, [v], [scratch, room]) => {
+                bytes_or_refusal(calls::strict_value_least_type(v, *scratch, *room))
+            }
             _ => panic!("no case of {self:?}: {case:?}"),
         }
     }

@@ -13,6 +13,7 @@ mod pairs;
 mod questions;
 mod retrieval;
 mod shared;
+mod strict;
 mod types;
 mod values;
 
@@ -21,8 +22,9 @@ use list::Group;
 use std::path::Path;
 use std::{env, fs, io, process};
 
+/// All groups, in the order of their calls.
 fn groups() -> Vec<Group> {
-    values::groups()
+    let mut groups: Vec<Group> = values::groups()
         .into_iter()
         .chain(types::groups())
         .chain(pairs::groups())
@@ -34,7 +36,10 @@ fn groups() -> Vec<Group> {
         .chain(questions::groups())
         .chain(contexts::groups())
         .chain(names::groups())
-        .collect()
+        .chain(strict::groups())
+        .collect();
+    groups.sort_by_key(|group| group.call);
+    groups
 }
 
 /// What stands in a folder.
@@ -79,7 +84,7 @@ mod tests {
     #[test]
     fn groups_have_distinct_plain_titles() {
         let groups = groups();
-        assert!((270..=310).contains(&groups.len()), "{}", groups.len());
+        assert!((290..=330).contains(&groups.len()), "{}", groups.len());
         let titles: BTreeSet<&str> = groups.iter().map(|group| &group.title[..]).collect();
         assert_eq!(titles.len(), groups.len());
         for title in titles {
@@ -137,15 +142,16 @@ mod tests {
         }
         // A function definition with 255 parameters, or nearly 256 items, or 256 entries; 255 parts.
         assert!(rather_long <= 11, "{rather_long}");
-        assert_eq!(answers.len(), 47);
+        assert_eq!(answers.len(), 52);
         for (call, answers) in answers {
             let counts = match call {
                 Call::GetValueChecked | Call::GetConformantValue | Call::Coerced => 100..=210,
                 Call::IsInvalidCoercion | Call::IsValidRange => 20..=80,
+                _ if call > Call::Trim => 15..=90,
                 _ if call > Call::BifFeelType => 60..=140,
                 _ if call > Call::IsValidRange => 5..=20,
                 _ if call >= Call::ValueIsConformant => 150..=310,
-                _ => 25..=60,
+                _ => 25..=65,
             };
             assert!(
                 counts.contains(&answers.len()),
@@ -153,9 +159,13 @@ mod tests {
                 answers.len()
             );
             let (own, least): (&[u8], _) = match call {
-                Call::CommonSupertype | Call::CommonSubtype | Call::ValueTypeOf => (&[14, 18], 3),
+                Call::CommonSupertype
+                | Call::CommonSubtype
+                | Call::ValueTypeOf
+                | Call::StrictCommonSupertype
+                | Call::StrictCommonSubtype => (&[14, 18], 3),
                 Call::Reduced | Call::GetConformantValue | Call::BifFeelType => (&[18], 3),
-                Call::ValueLeastType => (&[13, 14, 18], 3),
+                Call::ValueLeastType | Call::StrictValueLeastType => (&[13, 14, 18], 3),
                 Call::GetValueChecked => (&[15, 18], 3),
                 Call::Coerced => (&[17, 18], 3),
                 Call::GetEntry | Call::GetFirst => (&[12], 3),
@@ -199,10 +209,15 @@ mod tests {
             }
             let of_reading: &[u8] = match call {
                 Call::ValueIsConformant
+                | Call::StrictValueIsConformant
                 | Call::GetValueChecked
                 | Call::GetConformantValue
                 | Call::Coerced => &[1, 2, 3, 4, 5, 6, 7, 8, 9, 10],
-                Call::Display => &[6, 7, 8, 9, 10],
+                Call::Display
+                | Call::StrictIsConformant
+                | Call::StrictCommonSupertype
+                | Call::StrictCommonSubtype => &[6, 7, 8, 9, 10],
+                Call::StrictValueLeastType => &[1, 2, 3, 4, 5],
                 _ if call > Call::Display => &[],
                 _ if call > Call::BifFeelType => &[1, 2, 3, 4, 5],
                 _ if call >= Call::IntervalOpened => &[2],

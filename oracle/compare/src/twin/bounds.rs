@@ -1,4 +1,5 @@
-//! The reduced form and both bounds over the bytes of accepted types. One walk serves both sides.
+//! The reduced form and both bounds over the bytes of accepted types. One walk serves both sides, and
+//! both readings: strictly, nothing is reduced.
 
 use super::parts::parts;
 
@@ -48,14 +49,40 @@ pub fn put_reduced(t: &[u8], out: &mut [u8], at: usize) -> usize {
     at
 }
 
+/// Writes a type that only one side has: as it is, or reduced.
+fn put_alone(t: &[u8], strict: bool, out: &mut [u8], at: usize) -> usize {
+    if strict {
+        put(t, out, at)
+    } else {
+        put_reduced(t, out, at)
+    }
+}
+
+/// Where a bound stands, and whether it is the strict one.
+#[derive(Clone, Copy)]
+pub struct Bound {
+    pub side: Side,
+    pub strict: bool,
+}
+
+impl Bound {
+    fn turned(self) -> Bound {
+        Bound {
+            side: self.side.other(),
+            ..self
+        }
+    }
+}
+
 /// Writes the bound of two types at `at`; answers where it ends.
-pub fn put_bound(a: &[u8], b: &[u8], side: Side, out: &mut [u8], at: usize) -> usize {
+pub fn put_bound(a: &[u8], b: &[u8], bound: Bound, out: &mut [u8], at: usize) -> usize {
+    let Bound { side, strict } = bound;
     let neutral = side.other().end();
     if a[0] == neutral {
-        return put_reduced(b, out, at);
+        return put_alone(b, strict, out, at);
     }
     if b[0] == neutral {
-        return put_reduced(a, out, at);
+        return put_alone(a, strict, out, at);
     }
     // Lists, ranges and functions match when the heads with their counts are equal.
     let head = if a[0] == 0x2D { 2 } else { 1 };
@@ -63,27 +90,28 @@ pub fn put_bound(a: &[u8], b: &[u8], side: Side, out: &mut [u8], at: usize) -> u
         return put(&[side.end()], out, at);
     }
     match a[0] {
-        0x2C => put_contexts(a, b, side, out, at),
-        0x2D if a[1] == 0 => put(&[0x2D, 0, 0x20], out, at),
+        0x2C => put_contexts(a, b, bound, out, at),
+        0x2D if a[1] == 0 && !strict => put(&[0x2D, 0, 0x20], out, at),
         0x2D => {
             let mut at = put(&a[..2], out, at);
             for (place, ((_, of_a), (_, of_b))) in parts(a).iter().zip(parts(b)).enumerate() {
                 let is_result = place == usize::from(a[1]);
-                let side = if is_result { side } else { side.other() };
-                at = put_bound(of_a, of_b, side, out, at);
+                let bound = if is_result { bound } else { bound.turned() };
+                at = put_bound(of_a, of_b, bound, out, at);
             }
             at
         }
         0x2A | 0x2B => {
             let at = put(&a[..1], out, at);
-            put_bound(&a[1..], &b[1..], side, out, at)
+            put_bound(&a[1..], &b[1..], bound, out, at)
         }
         _ => put(&a[..1], out, at),
     }
 }
 
 /// Goes through both lists of ascending names in step; the count is written last.
-fn put_contexts(a: &[u8], b: &[u8], side: Side, out: &mut [u8], at: usize) -> usize {
+fn put_contexts(a: &[u8], b: &[u8], bound: Bound, out: &mut [u8], at: usize) -> usize {
+    let Bound { side, strict } = bound;
     let (parts_a, parts_b) = (parts(a), parts(b));
     let (mut next_a, mut next_b) = (0, 0);
     let count_at = at + 1;
@@ -100,9 +128,9 @@ fn put_contexts(a: &[u8], b: &[u8], side: Side, out: &mut [u8], at: usize) -> us
             count += 1;
             at = put(&name.to_le_bytes(), out, at);
             at = match (in_a, in_b) {
-                (true, true) => put_bound(parts_a[next_a].1, parts_b[next_b].1, side, out, at),
-                (true, false) => put_reduced(parts_a[next_a].1, out, at),
-                _ => put_reduced(parts_b[next_b].1, out, at),
+                (true, true) => put_bound(parts_a[next_a].1, parts_b[next_b].1, bound, out, at),
+                (true, false) => put_alone(parts_a[next_a].1, strict, out, at),
+                _ => put_alone(parts_b[next_b].1, strict, out, at),
             };
         }
         next_a += usize::from(in_a);

@@ -1,10 +1,11 @@
 //! Conformance and instance over the bytes of accepted types. Conformance keeps a list of pairs that
-//! are still owed; two contexts are gone through in step by their ascending names.
+//! are still owed; two contexts are gone through in step by their ascending names. Strictly, the
+//! result of a parameterless function is owed too.
 
 use super::parts::{Part, parts};
 
 /// Whether `a` conforms to `b`.
-pub fn conforms(a: &[u8], b: &[u8]) -> bool {
+pub fn conforms(a: &[u8], b: &[u8], strict: bool) -> bool {
     let mut owed = vec![(a, b)];
     while let Some((a, b)) = owed.pop() {
         if a[0] == 0x29 || b[0] == 0x20 {
@@ -25,7 +26,7 @@ pub fn conforms(a: &[u8], b: &[u8]) -> bool {
             return false;
         }
         let is_function = a[0] == 0x2D;
-        if is_function && parts_a.len() == 1 {
+        if is_function && parts_a.len() == 1 && !strict {
             continue;
         }
         let result = parts_a.len().saturating_sub(1);

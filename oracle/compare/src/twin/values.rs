@@ -1,7 +1,7 @@
 //! Conformance of a value, its least type and its inferred type, over the bytes of accepted
 //! records.
 
-use super::bounds::{Side, put_bound};
+use super::bounds::{Bound, Side, put_bound};
 use super::conformance::conforms;
 use super::parts::{Part, end, parts};
 
@@ -89,8 +89,13 @@ fn signature(v: &[u8]) -> Vec<&[u8]> {
     types
 }
 
+/// The function type of a function definition.
+fn function_type(v: &[u8]) -> Vec<u8> {
+    [&[0x2D, v[1]], &signature(v).concat()[..]].concat()
+}
+
 /// Whether the value `v` conforms to the type `t`.
-pub fn value_conforms(v: &[u8], t: &[u8]) -> bool {
+pub fn value_conforms(v: &[u8], t: &[u8], strict: bool) -> bool {
     let mut owed = vec![(v, t)];
     while let Some((v, t)) = owed.pop() {
         if t[0] == 0x20 || v[0] == 0x00 {
@@ -111,9 +116,14 @@ pub fn value_conforms(v: &[u8], t: &[u8]) -> bool {
                 }
             }
             (0x0C, 0x2D) if v[1] == t[1] => {
-                let mut types = signature(v).into_iter().zip(parts(t));
-                if !types.all(|(own, (_, wanted))| conforms(own, wanted)) {
-                    return false;
+                let result = usize::from(v[1]);
+                let types = signature(v).into_iter().zip(parts(t)).enumerate();
+                for (place, (own, (_, wanted))) in types {
+                    let turned = strict && place < result;
+                    let (a, b) = if turned { (wanted, own) } else { (own, wanted) };
+                    if !conforms(a, b, strict) {
+                        return false;
+                    }
                 }
             }
             _ => return false,
@@ -122,17 +132,21 @@ pub fn value_conforms(v: &[u8], t: &[u8]) -> bool {
     true
 }
 
-/// The least type of a value, or none where a part of it is no data. The items of a list are taken
-/// from the last to the first.
-pub fn least(v: &[u8]) -> Option<Vec<u8>> {
+/// The least type of a value, or none where a part of it is no data; strictly, a function definition
+/// has its function type. The items of a list are taken from the last to the first.
+pub fn least(v: &[u8], strict: bool) -> Option<Vec<u8>> {
+    let above = Bound {
+        side: Side::Above,
+        strict,
+    };
     match v[0] {
         leaf @ (0x00..=0x08 | 0x10) => Some(vec![LEAVES[usize::from(leaf)]]),
         0x09 | 0x0A => {
             let mut inner = vec![0x29];
             for (_, child) in children(v).into_iter().rev() {
-                let of_child = least(child)?;
+                let of_child = least(child, strict)?;
                 let mut bound = vec![0; inner.len() + of_child.len()];
-                let end = put_bound(&of_child, &inner, Side::Above, &mut bound, 0);
+                let end = put_bound(&of_child, &inner, above, &mut bound, 0);
                 bound.truncate(end);
                 inner = bound;
             }
@@ -142,10 +156,11 @@ pub fn least(v: &[u8]) -> Option<Vec<u8>> {
             let mut out = vec![0x2C, v[1], v[2]];
             for (name, child) in children(v) {
                 out.extend(name.to_le_bytes());
-                out.extend(least(child)?);
+                out.extend(least(child, strict)?);
             }
             Some(out)
         }
+        0x0C if strict => Some(function_type(v)),
         _ => None,
     }
 }
@@ -165,7 +180,7 @@ pub fn inferred(v: &[u8]) -> Vec<u8> {
             let Some(first) = types.first() else {
                 return vec![0x2A, 0x29];
             };
-            let all = types.iter().all(|t| conforms(t, first));
+            let all = types.iter().all(|t| conforms(t, first, false));
             over(v, if all { first } else { &[0x20] })
         }
         0x0B => {
@@ -176,7 +191,7 @@ pub fn inferred(v: &[u8]) -> Vec<u8> {
             }
             out
         }
-        0x0C => [&[0x2D, v[1]], &signature(v).concat()[..]].concat(),
+        0x0C => function_type(v),
         0x0E => v[1..].to_vec(),
         _ => vec![0x20],
     }

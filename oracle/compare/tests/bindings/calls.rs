@@ -35,7 +35,7 @@ const fn writes(name: &'static str, call: Ask, into: AskInto) -> Bound {
     }
 }
 
-pub const BOUND: [Bound; 49] = [
+pub const BOUND: [Bound; 54] = [
     asks("check_value", |a| level(values::check_value(a[0]))),
     asks("check_type", |a| level(types::check_type(a[0]))),
     asks("type_is_conformant", |a| {
@@ -194,6 +194,27 @@ pub const BOUND: [Bound; 49] = [
         "names_trim",
         |a| bytes(names::trim(a[0])),
         |a, out| length(names::trim_into(a[0], out)),
+    ),
+    asks("strict_type_is_conformant", |a| {
+        yes(types::strict_is_conformant(a[0], a[1]))
+    }),
+    writes(
+        "strict_type_common_supertype",
+        |a| bytes(types::strict_common_supertype(a[0], a[1])),
+        |a, out| length(types::strict_common_supertype_into(a[0], a[1], out)),
+    ),
+    writes(
+        "strict_type_common_subtype",
+        |a| bytes(types::strict_common_subtype(a[0], a[1])),
+        |a, out| length(types::strict_common_subtype_into(a[0], a[1], out)),
+    ),
+    asks("strict_value_is_conformant", |a| {
+        yes(values::strict_is_conformant(a[0], a[1]))
+    }),
+    writes(
+        "strict_value_least_type",
+        |a| bytes(values::strict_least_type(a[0])),
+        |a, out| length(values::strict_least_type_into(a[0], out)),
     ),
 ];
 

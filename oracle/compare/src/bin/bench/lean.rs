@@ -1,5 +1,5 @@
 //! Lean Rust on the same bytes, nothing proved: what a call costs that reads slices, allocates
-//! nothing and has no strings. It is plain code by document 01 and answers as the calls do, refusals
+//! nothing and has no strings. It is plain code by documents 01 and 02 and answers as the calls do, refusals
 //! too; the tests hold it to the published Rust. The arguments are read in turn, then comes the
 //! answer.
 
@@ -29,14 +29,28 @@ pub fn check_type(t: &[u8]) -> Result<usize, u8> {
 pub fn type_is_conformant(a: &[u8], b: &[u8]) -> Result<bool, u8> {
     read_type(a)?;
     read_type(b)?;
-    Ok(conformance::of_type(a, b))
+    Ok(conformance::of_type(a, b, false))
+}
+
+#[inline(never)]
+pub fn strict_type_is_conformant(a: &[u8], b: &[u8]) -> Result<bool, u8> {
+    read_type(a)?;
+    read_type(b)?;
+    Ok(conformance::of_type(a, b, true))
 }
 
 #[inline(never)]
 pub fn value_is_conformant(v: &[u8], t: &[u8]) -> Result<bool, u8> {
     read_value(v)?;
     read_type(t)?;
-    Ok(conformance::of_value(v, t))
+    Ok(conformance::of_value(v, t, false))
+}
+
+#[inline(never)]
+pub fn strict_value_is_conformant(v: &[u8], t: &[u8]) -> Result<bool, u8> {
+    read_value(v)?;
+    read_type(t)?;
+    Ok(conformance::of_value(v, t, true))
 }
 
 /// Whether a range is valid.

@@ -15,6 +15,7 @@ mod others;
 mod ours;
 mod refused;
 mod stock;
+mod strict;
 mod table;
 mod texts;
 mod types;
@@ -57,6 +58,7 @@ fn main() -> ExitCode {
         contexts::run,
         updates::run,
         texts::run,
+        strict::run,
     ] {
         calls(&stocks, &mut table);
     }
@@ -65,6 +67,7 @@ fn main() -> ExitCode {
     refused::run(&stocks, &mut table);
     table.section("other records");
     others::run(&stocks, &mut table);
+    strict::run_others(&stocks, &mut table);
     table.section("updates near level 31");
     deep::run(&mut table);
     table.section("records of the sample week");

@@ -149,7 +149,7 @@ fn nulls(stock: &Stock) -> Vec<ValueAndType> {
 }
 
 /// Function definitions of the size.
-fn definitions(Size { least, most, .. }: Size) -> Vec<Record<Value>> {
+pub fn definitions(Size { least, most, .. }: Size) -> Vec<Record<Value>> {
     let mut random = Random::new(7);
     let mut all = vec![];
     let mut bytes = 0;

@@ -33,6 +33,32 @@ macro_rules! earlier {
 }
 pub(crate) use earlier;
 
+/// The same as `both!` for a strict function, which an earlier library may not have.
+macro_rules! both_strict {
+    ($name:ident as $shape:ty) => {
+        crate::ours::Both::<$shape> {
+            now: compare::library::$name,
+            before: crate::ours::earlier_strict!($name),
+        }
+    };
+}
+pub(crate) use both_strict;
+
+#[cfg(feel_before_strict)]
+macro_rules! earlier_strict {
+    ($name:ident) => {
+        Some(compare::library::before::$name)
+    };
+}
+
+#[cfg(not(feel_before_strict))]
+macro_rules! earlier_strict {
+    ($name:ident) => {
+        None
+    };
+}
+pub(crate) use earlier_strict;
+
 /// The room of an output, and of a record.
 pub const ROOM: usize = 16_384;
 

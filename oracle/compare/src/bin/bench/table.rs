@@ -8,7 +8,7 @@ use std::cmp::Ordering;
 const LINEAR: f64 = 1.5;
 
 /// The places in a record, and the kinds of records, that a row may be of.
-pub const PLACES: [&str; 19] = [
+pub const PLACES: [&str; 20] = [
     "first",
     "last",
     "front",
@@ -23,6 +23,7 @@ pub const PLACES: [&str; 19] = [
     "definitions",
     "type-values",
     "decimals",
+    "parameterless",
     "deep-30",
     "last-30",
     "new-10",
@@ -115,7 +116,7 @@ fn print_columns(columns: [&str; 10]) {
         false => String::new(),
     };
     let line = format!(
-        "{label:<34} {size:<8} {bytes:>6} {a_call:>10} {a_byte:>10} {rust:>11} {ready:>8} {lean:>8} \
+        "{label:<42} {size:<8} {bytes:>6} {a_call:>10} {a_byte:>10} {rust:>11} {ready:>8} {lean:>8} \
          {before}{growth:>8}"
     );
     println!("{}", line.trim_end());

@@ -10,7 +10,7 @@ use crate::stock::{Pair, Record, Stock};
 use crate::table::Table;
 use dsntk_feel::FeelType;
 use dsntk_feel::values::Value;
-use feel_form::{calls, common_subtype, common_supertype, read_type, read_value, reduced};
+use feel_form::{Reading, calls, common_subtype, common_supertype, read_type, read_value, reduced};
 
 /// A pair of types.
 pub type Types = Pair<FeelType, FeelType>;
@@ -46,7 +46,9 @@ pub fn run(stocks: &[Stock], table: &mut Table) {
     table.each("type_common_subtype", stocks, |stock| {
         let function = both!(feel_type_common_subtype as TwoScratch);
         let rust = calls::common_subtype;
-        bound(stock.near_types(), function, rust, common_subtype)
+        bound(stock.near_types(), function, rust, |a, b| {
+            common_subtype(a, b, Reading::Ported)
+        })
     });
     let mut out = vec![0; ROOM];
     table.each("type_reduced", stocks, |stock| {
@@ -119,7 +121,7 @@ pub fn conformance(pairs: &[Types]) -> Measured {
 type Question = fn(&[u8], &[u8]) -> Result<bool, u8>;
 
 /// A question on two types.
-fn question(
+pub fn question(
     pairs: &[Types],
     function: Both<Two>,
     rust: Question,
@@ -139,11 +141,13 @@ fn question(
 /// `type_common_supertype`.
 pub fn supertypes(pairs: &[Types]) -> Measured {
     let function = both!(feel_type_common_supertype as TwoScratch);
-    bound(pairs, function, calls::common_supertype, common_supertype)
+    bound(pairs, function, calls::common_supertype, |a, b| {
+        common_supertype(a, b, Reading::Ported)
+    })
 }
 
 /// A bound of two types.
-fn bound(
+pub fn bound(
     pairs: &[Types],
     function: Both<TwoScratch>,
     rust: fn(&[u8], &[u8], usize, usize) -> Bytes,

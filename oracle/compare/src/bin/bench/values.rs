@@ -13,7 +13,7 @@ use dsntk_feel::FeelType;
 use dsntk_feel::bif::Bif;
 use dsntk_feel::ranges::IntervalType;
 use dsntk_feel::values::Value;
-use feel_form::{BIFS, calls, least_type};
+use feel_form::{BIFS, Reading, calls, least_type};
 
 /// A value and a type.
 pub type ValueAndType = Pair<Value, FeelType>;
@@ -59,7 +59,7 @@ pub fn run(stocks: &[Stock], table: &mut Table) {
 }
 
 /// Data of the size.
-fn data(stock: &Stock) -> Vec<Record<Value>> {
+pub fn data(stock: &Stock) -> Vec<Record<Value>> {
     records(stock.data().iter().cloned(), value)
 }
 
@@ -83,20 +83,42 @@ fn with_lists_of_own_types(stock: &Stock) -> Vec<ValueAndType> {
 
 /// `value_is_conformant`.
 pub fn conformance(pairs: &[ValueAndType]) -> Measured {
-    contest(
+    judgement(
         pairs,
         both!(feel_value_is_conformant as Two),
+        calls::value_is_conformant,
+        lean::value_is_conformant,
+        Value::is_conformant,
+    )
+}
+
+/// A question on a value and a type from their bytes.
+type Judge = fn(&[u8], &[u8]) -> Result<bool, u8>;
+
+/// A question on a value and a type.
+pub fn judgement(
+    pairs: &[ValueAndType],
+    function: Both<Two>,
+    rust: Judge,
+    lean: Judge,
+    ready: fn(&Value, &FeelType) -> bool,
+) -> Measured {
+    contest(
+        pairs,
+        function,
         |f, Pair { a, b }| two(f, &a.bytes, &b.bytes),
-        |Pair { a, b }| calls::value_is_conformant(&a.bytes, &b.bytes),
-        Some(|pair: &ValueAndType| lean::value_is_conformant(&pair.a.bytes, &pair.b.bytes)),
-        Some(|pair: &ValueAndType| pair.a.tree.is_conformant(&pair.b.tree)),
+        |Pair { a, b }| rust(&a.bytes, &b.bytes),
+        Some(|pair: &ValueAndType| lean(&pair.a.bytes, &pair.b.bytes)),
+        Some(|pair: &ValueAndType| ready(&pair.a.tree, &pair.b.tree)),
     )
 }
 
 /// `value_least_type`.
 pub fn least_types(values: &[Record<Value>]) -> Measured {
     let function = both!(feel_value_least_type as OneScratch);
-    of_values(values, function, calls::value_least_type, least_type)
+    of_values(values, function, calls::value_least_type, |v| {
+        least_type(v, Reading::Ported)
+    })
 }
 
 /// `value_type_of`.
@@ -106,7 +128,7 @@ pub fn types_of(values: &[Record<Value>]) -> Measured {
 }
 
 /// A type of values, with scratch.
-fn of_values<T>(
+pub fn of_values<T>(
     values: &[Record<Value>],
     function: Both<OneScratch>,
     rust: fn(&[u8], usize, usize) -> Bytes,

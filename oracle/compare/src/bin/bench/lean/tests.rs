@@ -2,8 +2,9 @@
 //! among them.
 
 use super::{
-    check_type, check_value, context_get_entry, context_search_deep, type_instance_of,
-    type_is_conformant, value_is_conformant, value_is_valid_range,
+    check_type, check_value, context_get_entry, context_search_deep, strict_type_is_conformant,
+    strict_value_is_conformant, type_instance_of, type_is_conformant, value_is_conformant,
+    value_is_valid_range,
 };
 use compare::answer::Answer;
 use compare::call::{Case, Options};
@@ -96,6 +97,20 @@ fn types_conform() {
 fn values_conform() {
     agree("value_is_conformant", |args| {
         yes_or_no(value_is_conformant(args[0], args[1]))
+    });
+}
+
+#[test]
+fn types_strictly_conform() {
+    agree("strict_type_is_conformant", |args| {
+        yes_or_no(strict_type_is_conformant(args[0], args[1]))
+    });
+}
+
+#[test]
+fn values_strictly_conform() {
+    agree("strict_value_is_conformant", |args| {
+        yes_or_no(strict_value_is_conformant(args[0], args[1]))
     });
 }
 
