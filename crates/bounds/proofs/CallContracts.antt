@@ -25,7 +25,7 @@ use Rattle.order.specs.Order.{Dir, up, Order, fixed}
 use Rattle.order.specs.Types.{reduce, bound}
 use Rattle.order.specs.Ascending.{Asc}
 use Rattle.order.specs.Size.{size}
-use Rattle.order.proofs.Simple.{fixed-laws}
+use Rattle.order.proofs.Ends.{reading-ends}
 use Rattle.order.proofs.Size.{length-enc, size-bound, size-reduce}
 use Rattle.types.specs.At.{typeAt, Ok}
 use Rattle.types.proofs.Reading.{got-seen, is-ok, t-good}
@@ -150,7 +150,7 @@ module _ (s old : List ℕ) where
 
         pub reduced-ready : Ready (ofTypes fixed up) (typeAt typeLevels s) (typeAt typeLevels s) (length old)
         reduced-ready =
-            let e = ap size (self fixed-laws up (A .t) (A .asc)) in
+            let e = ap size (self (reading-ends 0) up (A .t) (A .asc)) in
             let k = size-reduce fixed (A .t) in
             ready (ofTypes fixed up) (typeAt typeLevels s) (typeAt typeLevels s) (A .t) (A .t) (length old) (A .there) (A .there) (omega (arith, room, e)) (omega (arith, e, k, A .sized, A .short))
 
@@ -158,7 +158,7 @@ module _ (s old : List ℕ) where
             → Built (reducedCall s (length old)) old new (written-is.Bytes n)
         reduced-done new i j n c =
             let g = combined-is (ofTypes fixed up) (typeAt typeLevels s) (typeAt typeLevels s) (A .t) (A .t) old new i j n (A .there) (A .there) c in
-            let e = self fixed-laws up (A .t) (A .asc) in
+            let e = self (reading-ends 0) up (A .t) (A .asc) in
             let le = length-enc (reduce fixed (A .t)) in
             built-wrote (reducedCall s (length old)) (enc (reduce fixed (A .t))) old new n reduced-is (g .long ∙ ap size e ∙ sym le) (omega (arith, le, room))
             (g .out ∙ ap (λ (z : Ty). onto (enc z) old) e)

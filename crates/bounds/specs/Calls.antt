@@ -8,9 +8,10 @@ use Rattle.form.specs.Outcome.{Outcome, _>>=_, _>>_, check, fits}
 use Rattle.form.specs.Trees.{Ty}
 use Rattle.form.specs.Form.{enc}
 use Rattle.form.specs.Read.{readType}
-use Rattle.order.specs.Order.{strictOrder}
+use Rattle.order.specs.Order.{Order, strictOrder}
 use Rattle.order.specs.Types.{sup, sub}
 use Rattle.order.specs.Document.{reducedForm, supertype, subtype}
+use Rattle.tables.specs.Calls.{loadTable}
 
 -- of two types; 14: the scratch is shorter than both together
 abbrev pub combined : (Ty → Ty → Ty) → List ℕ → List ℕ → ℕ → ℕ → Outcome (List ℕ)
@@ -32,6 +33,18 @@ strictCommonSupertype a b scratch room = combined (sup strictOrder) a b scratch 
 
 abbrev pub strictCommonSubtype : List ℕ → List ℕ → ℕ → ℕ → Outcome (List ℕ)
 strictCommonSubtype a b scratch room = combined (sub strictOrder) a b scratch room
+
+-- K9: over a members' table, which is refused before all else
+abbrev pub tableCombined : (Order → Ty → Ty → Ty) → List ℕ → List ℕ → List ℕ → ℕ → ℕ → Outcome (List ℕ)
+tableCombined of table a b scratch room = do
+  order ← loadTable table
+  combined (of order) a b scratch room
+
+abbrev pub tableCommonSupertype : List ℕ → List ℕ → List ℕ → ℕ → ℕ → Outcome (List ℕ)
+tableCommonSupertype table a b scratch room = tableCombined sup table a b scratch room
+
+abbrev pub tableCommonSubtype : List ℕ → List ℕ → List ℕ → ℕ → ℕ → Outcome (List ℕ)
+tableCommonSubtype table a b scratch room = tableCombined sub table a b scratch room
 
 abbrev pub reducedCall : List ℕ → ℕ → Outcome (List ℕ)
 reducedCall t room = do

@@ -2,9 +2,9 @@
 ghost use Prim.Native.Nat.{_+_, _<_, _/_};
 ghost use lib.ListN.{length};
 ghost use Rattle.form.specs.Answers.{Built};
-ghost use Rattle.order.specs.Order.{up, orderOf};
-ghost use Rattle.lattice.specs.Writing.{answer, toward};
-ghost use Rattle.bounds.specs.Calls.{combined, commonSupertype, commonSubtype, strictCommonSupertype, strictCommonSubtype, reducedCall};
+ghost use Rattle.order.specs.Order.{up, toward, orderOf};
+ghost use Rattle.lattice.specs.Writing.{answer};
+ghost use Rattle.bounds.specs.Calls.{combined, commonSupertype, commonSubtype, strictCommonSupertype, strictCommonSubtype, tableCombined, tableCommonSupertype, tableCommonSubtype, reducedCall};
 
 mod sizes;
 
@@ -12,7 +12,9 @@ use form::Checked;
 use form::Written;
 use form::limits::TYPE_LEVELS;
 use form::refusals;
-use types::readings;
+use tables::load;
+use tables::load::Loaded;
+use tables::readings;
 
 // All four calls: the answer is built in the scratch, and copied where it fits. Refusals: 6 to 10 of a, then of b, 14, 18.
 fn combine(
@@ -71,6 +73,49 @@ pub fn strict_common_subtype(a: &[u8], b: &[u8], scratch: &mut [u8], out: &mut [
     ensures { λ r. ⌜ Built (strictCommonSubtype (now (a .entry)) (now (b .entry)) (length (now (scratch .entry))) (length (now (out .entry)))) (now (out .entry)) (now (out .exit)) r ⌝ }
 {
     combine(false, a, b, scratch, out, readings::STRICT)
+}
+
+// Both calls over a members' table, which is refused first: 26, 27, 28; then as `combine`.
+fn combine_over(
+    up: bool,
+    table: &[u8],
+    a: &[u8],
+    b: &[u8],
+    scratch: &mut [u8],
+    out: &mut [u8],
+) -> Written
+    ensures { λ r. ⌜ Built (tableCombined (λ order. answer order (toward up)) (now (table .entry)) (now (a .entry)) (now (b .entry)) (length (now (scratch .entry))) (length (now (out .entry)))) (now (out .entry)) (now (out .exit)) r ⌝ }
+{
+    match load::load(table) {
+        Loaded::Refused(n) => Written::Refused(n),
+        Loaded::Reading(reading) => combine(up, a, b, scratch, out, reading),
+    }
+}
+
+// The common supertype over a table: of two simple types their least common one.
+pub fn table_common_supertype(
+    table: &[u8],
+    a: &[u8],
+    b: &[u8],
+    scratch: &mut [u8],
+    out: &mut [u8],
+) -> Written
+    ensures { λ r. ⌜ Built (tableCommonSupertype (now (table .entry)) (now (a .entry)) (now (b .entry)) (length (now (scratch .entry))) (length (now (out .entry)))) (now (out .entry)) (now (out .exit)) r ⌝ }
+{
+    combine_over(true, table, a, b, scratch, out)
+}
+
+// The common subtype over a table: of two simple types their greatest common one.
+pub fn table_common_subtype(
+    table: &[u8],
+    a: &[u8],
+    b: &[u8],
+    scratch: &mut [u8],
+    out: &mut [u8],
+) -> Written
+    ensures { λ r. ⌜ Built (tableCommonSubtype (now (table .entry)) (now (a .entry)) (now (b .entry)) (length (now (scratch .entry))) (length (now (out .entry)))) (now (out .entry)) (now (out .exit)) r ⌝ }
+{
+    combine_over(false, table, a, b, scratch, out)
 }
 
 // The reduced form: the result of every function type without parameters becomes Any. Refusals 6 to 10 and 18.

@@ -17,7 +17,7 @@ use form::limits::MOST_BYTES;
 use form::limits::TYPE_LEVELS;
 use form::limits::VALUE_LEVELS;
 use form::refusals;
-use types::readings;
+use tables::readings;
 
 // Whether a value stands at the front of `v`, a type at the front of `t`, and the value conforms.
 fn conforms(v: &[u8], t: &[u8]) -> bool

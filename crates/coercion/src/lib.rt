@@ -8,7 +8,7 @@ mod conversion;
 
 use form::Checked;
 use form::Written;
-use types::readings;
+use tables::readings;
 
 // `Value::coerced`. Refusals 1 to 5 of the value, 6 to 10 of the type, 17, 18.
 pub fn coerced(v: &[u8], t: &[u8], out: &mut [u8]) -> Written

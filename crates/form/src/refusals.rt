@@ -37,3 +37,10 @@ pub const TEXTS: u8 = 19;
 
 // A name's number is not in the table.
 pub const NO_SUCH_NAME: u8 = 20;
+
+// A table of simple types: its length or a byte is wrong; it is no order; two types lack a least common supertype.
+pub const TABLE: u8 = 26;
+
+pub const NOT_ORDERED: u8 = 27;
+
+pub const NO_JOIN: u8 = 28;

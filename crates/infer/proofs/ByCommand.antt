@@ -20,10 +20,11 @@ use Rattle.form.specs.Layout.{kindOf, operandsV, operands, widthOf, isLeafComma
 use Rattle.form.specs.Answers.{onto}
 use Rattle.form.proofs.Exact.{bytes-drop}
 use Rattle.form.proofs.Runs.{rest, length-rest}
-use Rattle.order.specs.Order.{Order, Laws}
+use Rattle.order.specs.Order.{Order}
 use Rattle.order.specs.Size.{size, sizeVal, sizeVals, sizeEntries}
 use Rattle.order.specs.Values.{leafType, isDataBy, areData, holdData}
 use Rattle.order.proofs.Bools.{and-true}
+use Rattle.order.proofs.Ends.{Ends}
 use Rattle.order.proofs.Size.{length-enc, size-positive}
 use Rattle.order.proofs.LeastSize.{count-types-of}
 use Rattle.types.specs.At.{typeAt, sizeAt}
@@ -195,7 +196,7 @@ module _ (O : Order) (m : Bool) (l : ℕ) (s old : List ℕ) (spare : ℕ) (bs :
   abbrev Lists : ℕ → Type 0
   Lists n = Part O m l s old spare WfVals (areData O) (λ vs. sizeVals vs + 1) sizeVals (innerText O m false) (itemsAt (l - 1) n (behind 3 s)) 3 1 (set old 0 42)
 
-  list-of : Laws O → (n : ℕ) → n ≡ numAt 2 1 s → (v : Val) → Given v → IsVal l s kList v → Lists n
+  list-of : Ends O → (n : ℕ) → n ≡ numAt 2 1 s → (v : Val) → Given v → IsVal l s kList v → Lists n
   unfolding enc sizeVal WfV isDataBy
   list-of L n w v G (is-list vs c k e) =
       record {
@@ -385,7 +386,7 @@ module _ (O : Order) (m : Bool) (l : ℕ) (s old spare : List ℕ) (p : FitVal O
   pub in-range : getD s 0 0 ≡ 9 → Ranges O m l s old (length spare) bs
   in-range c = range-of O m l s old (length spare) bs (G .x) given (as-range l s (G .x) (G .read) c)
 
-  pub in-list : Laws O → (n : ℕ) → n ≡ numAt 2 1 s → getD s 0 0 ≡ 10 → Lists O m l s old (length spare) bs n
+  pub in-list : Ends O → (n : ℕ) → n ≡ numAt 2 1 s → getD s 0 0 ≡ 10 → Lists O m l s old (length spare) bs n
   in-list L n e c = list-of O m l s old (length spare) bs L n e (G .x) given (as-list l s (G .x) (G .read) c)
 
   pub in-context : (n : ℕ) → n ≡ numAt 2 1 s → getD s 0 0 ≡ 11 → Contexts O m l s old (length spare) bs n

@@ -17,11 +17,12 @@ use Rattle.form.specs.Form.{Bytes, enc, Wf}
 use Rattle.form.specs.Answers.{onto}
 use Rattle.form.proofs.Types.{enc-same}
 use Rattle.form.proofs.Runs.{rest}
-use Rattle.order.specs.Order.{up, Order, Laws, fixed}
+use Rattle.order.specs.Order.{up, Order, fixed}
 use Rattle.order.specs.Types.{reduce, sup}
 use Rattle.order.specs.Size.{size}
 use Rattle.order.specs.Document.{conformsTo, eqTy}
 use Rattle.order.proofs.Simple.{fixed-laws}
+use Rattle.order.proofs.Ends.{Ends}
 use Rattle.order.proofs.Laws.{le-refl}
 use Rattle.order.proofs.Equal.{eq-ty-same, eq-ty-self}
 use Rattle.order.proofs.Size.{length-enc, size-positive, size-sup}
@@ -66,7 +67,7 @@ two (some t) none s n m spare h = absurd h
 two none y s n m spare h = absurd h
 
 -- a type with itself: its sup O is its reduced form, and it conforms to itself
-joined-twice : {O : Order} → Laws O → (a b : Bool) (t : Ty) → Wf t → (a ≡ true → reduce O t ≡ t) → joined O a b t t ≡ t
+joined-twice : {O : Order} → Ends O → (a b : Bool) (t : Ty) → Wf t → (a ≡ true → reduce O t ≡ t) → joined O a b t t ≡ t
 joined-twice {O} L true b t w h = self L up t (asc-of t w) ∙ h refl
 joined-twice {O} L false true t w h = ap (λ x. cond x t (leaf any)) (eq-ty-self t)
 joined-twice {O} L false false t w h = ap (λ x. cond x t (leaf any)) (le-refl fixed fixed-laws t (asc-of t w))
@@ -197,7 +198,7 @@ module _ (s : List ℕ) (n m spare : ℕ) (h : Sides (typeAt typeLevels s) (type
     joined-first bs a b r e k y = stays bs a b (joined-by a b r e k ∙ ap (λ x. cond x (T .t) (leaf any)) y)
 
     -- equal types stay as they are
-    pub joined-same : Laws O → Bytes s → (a b r : Bool) → Reduced O a (typeAt typeLevels s) → Kept true (typeAt typeLevels s) (typeAt typeLevels (drop n s)) r → r ≡ true
+    pub joined-same : Ends O → Bytes s → (a b r : Bool) → Reduced O a (typeAt typeLevels s) → Kept true (typeAt typeLevels s) (typeAt typeLevels (drop n s)) r → r ≡ true
         → Joined O a b (typeAt typeLevels s) (typeAt typeLevels (drop n s)) s s n
     joined-same L bs a b r h k y =
         let same : T .t ≡ T .u = eq-ty-same (T .t) (T .u) (sym (kept-is (typeAt typeLevels s) (typeAt typeLevels (drop n s)) (T .t) (T .u) true r (T .read-t) (T .read-u) k) ∙ y) in

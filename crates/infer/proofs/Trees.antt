@@ -11,13 +11,14 @@ use mathlib.Core.Bool.{Bool, true, false, cond, _&&_, false≢true}
 use Rattle.form.specs.Trees.{any, null, Ty, leaf, built, list, range, context, function, no-fields, field, Leaf, Params, Val, v-leaf, v-range, v-list, v-context, v-function}
 use Rattle.form.specs.Trees.{v-built-in, v-type, v-irrelevant, Vals, no-items, item, Entries, no-entries, entry}
 use Rattle.form.specs.Form.{level, levelV, Wf, WfV, WfVals, countFields, countEntries}
-use Rattle.order.specs.Order.{up, Order, Laws, fixed}
+use Rattle.order.specs.Order.{up, Order, fixed}
 use Rattle.order.specs.Types.{reduce, bound, sup}
 use Rattle.order.specs.Size.{size, sizeVal}
 use Rattle.order.specs.Values.{leafType, typesOf, isDataBy, areData, holdData, least, leastItems}
 use Rattle.order.specs.Document.{conformsTo}
 use Rattle.order.specs.Inferred.{listType, typeOf, firstType, itemsBelow}
 use Rattle.order.proofs.Simple.{fixed-laws, and-left, and-right}
+use Rattle.order.proofs.Ends.{Ends}
 use Rattle.order.proofs.Conform.{reduce-reduce, reduce-strict}
 use Rattle.order.proofs.Laws.{le-refl}
 use Rattle.order.proofs.Size.{size-positive, level-positive, size-sup, level-sup}
@@ -63,7 +64,7 @@ joined-reduced O true equal t u e = reduce-reduce O (bound O up t u)
 joined-reduced O false equal t u e = absurd (false≢true e)
 
 -- ---- a list
-null-first : {O : Order} → Laws O → (t : Ty) → reduce O t ≡ t → sup O (leaf null) t ≡ t
+null-first : {O : Order} → Ends O → (t : Ty) → reduce O t ≡ t → sup O (leaf null) t ≡ t
 null-first {O} L t h = bounds.least L up (leaf null) t refl .1 ∙ h
 
 taken-least : (O : Order) (equal : Bool) (t : Ty) (vs : Vals) → leastItems O vs t ≡ taken O true equal t vs
@@ -72,7 +73,7 @@ taken-least O equal t no-items = refl
 taken-least O equal t (item v vs) = taken-least O equal (sup O t (least O v)) vs
 
 -- the fold may start at the first item
-least-list : {O : Order} → Laws O → (vs : Vals) → leastItems O vs (leaf null) ≡ inner O true false vs
+least-list : {O : Order} → Ends O → (vs : Vals) → leastItems O vs (leaf null) ≡ inner O true false vs
 unfolding least inner
 least-list {O} L no-items = refl
 least-list {O} L (item v vs) = ap (leastItems O vs) (null-first L (least O v) (least-reduced O v)) ∙ taken-least O false (least O v) vs
@@ -104,7 +105,7 @@ inferred-list O (item v vs) w =
     ap (λ q. built (list (cond (q && itemsBelow vs (some t)) t (leaf any)))) (le-refl fixed fixed-laws t (asc-type-of v (w .0)))
     ∙ ap (λ x. built (list x)) (taken-below O t vs)
 
-pub list-is : {O : Order} → Laws O → (m : Bool) (vs : Vals) → WfVals vs → typeBy O m (v-list vs) ≡ built (list (inner O m false vs))
+pub list-is : {O : Order} → Ends O → (m : Bool) (vs : Vals) → WfVals vs → typeBy O m (v-list vs) ≡ built (list (inner O m false vs))
 unfolding least typeOf
 list-is {O} L true vs w = ap (λ x. built (list x)) (least-list L vs)
 list-is {O} L false vs w = inferred-list O vs w

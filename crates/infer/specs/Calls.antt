@@ -14,6 +14,7 @@ use Rattle.order.specs.Order.{Order, fixed, strictOrder}
 use Rattle.order.specs.Values.{isDataBy}
 use Rattle.order.specs.Values as values
 use Rattle.order.specs.Inferred.{typeOf}
+use Rattle.tables.specs.Calls.{loadTable}
 use Rattle.infer.specs.Typing.{typeBy}
 
 -- the scratch wanted of a value: four times its length
@@ -35,6 +36,12 @@ leastTypeCall v scratch room = leastTypeBy fixed v scratch room
 -- K8: as DMN has it; 13: the value holds 0D, 0E or 0F
 abbrev pub strictLeastTypeCall : List ℕ → ℕ → ℕ → Outcome (List ℕ)
 strictLeastTypeCall v scratch room = leastTypeBy strictOrder v scratch room
+
+-- K9: over a members' table, which is refused before all else
+abbrev pub tableLeastTypeCall : List ℕ → List ℕ → ℕ → ℕ → Outcome (List ℕ)
+tableLeastTypeCall table v scratch room = do
+  order ← loadTable table
+  leastTypeBy order v scratch room
 
 -- Value::type_of
 unfoldable pub typeOfCall : List ℕ → ℕ → ℕ → Outcome (List ℕ)

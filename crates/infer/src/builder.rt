@@ -19,7 +19,7 @@ use form::limits::NAME_WIDTH;
 use form::limits::TYPE_LEVELS;
 use form::limits::VALUE_LEVELS;
 use form::refusals;
-use types::readings;
+use tables::readings;
 
 // How many bytes of the value were read, and how many of the type written.
 struct Ends {

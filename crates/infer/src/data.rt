@@ -10,7 +10,7 @@ ghost use Rattle.values.specs.At.{valueAt, itemsAt, entriesAt};
 ghost use Rattle.infer.specs.Typing.{dataBy, addSize, Plain};
 use form::commands;
 use form::limits::NAME_WIDTH;
-use types::readings;
+use tables::readings;
 
 // Whether what was walked is data, with its size.
 pub(crate) enum Data {

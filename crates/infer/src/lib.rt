@@ -3,7 +3,7 @@ ghost use mathlib.Core.Bool.{true};
 ghost use lib.ListN.{length};
 ghost use Rattle.form.specs.Answers.{Built};
 ghost use Rattle.order.specs.Order.{orderOf};
-ghost use Rattle.infer.specs.Calls.{leastTypeBy, leastTypeCall, strictLeastTypeCall, typeOfCall};
+ghost use Rattle.infer.specs.Calls.{leastTypeBy, leastTypeCall, strictLeastTypeCall, tableLeastTypeCall, typeOfCall};
 
 mod builder;
 mod data;
@@ -13,7 +13,9 @@ use form::Checked;
 use form::Written;
 use form::limits::VALUE_LEVELS;
 use form::refusals;
-use types::readings;
+use tables::load;
+use tables::load::Loaded;
+use tables::readings;
 
 // The least type. Refusals 1 to 5, 13, 14, 18.
 pub fn least_type(v: &[u8], scratch: &mut [u8], out: &mut [u8]) -> Written
@@ -29,7 +31,17 @@ pub fn strict_least_type(v: &[u8], scratch: &mut [u8], out: &mut [u8]) -> Writte
     build_least(v, scratch, out, readings::STRICT)
 }
 
-// Both calls.
+// The least type over a members' table, which is refused first: 26, 27, 28; then as document 01's own call.
+pub fn table_least_type(table: &[u8], v: &[u8], scratch: &mut [u8], out: &mut [u8]) -> Written
+    ensures { λ r. ⌜ Built (tableLeastTypeCall (now (table .entry)) (now (v .entry)) (length (now (scratch .entry))) (length (now (out .entry)))) (now (out .entry)) (now (out .exit)) r ⌝ }
+{
+    match load::load(table) {
+        Loaded::Refused(n) => Written::Refused(n),
+        Loaded::Reading(reading) => build_least(v, scratch, out, reading),
+    }
+}
+
+// All three calls.
 fn build_least(v: &[u8], scratch: &mut [u8], out: &mut [u8], reading: u64) -> Written
     ensures { λ r. ⌜ Built (leastTypeBy (orderOf reading) (now (v .entry)) (length (now (scratch .entry))) (length (now (out .entry)))) (now (out .entry)) (now (out .exit)) r ⌝ }
 {

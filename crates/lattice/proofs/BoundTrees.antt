@@ -2,25 +2,25 @@
 -- Index: `least`, `least-right`, `other`, `leaves`, `self` (by the commands); `lists`, `ranges`, `contexts`, `functions`, `functions-none`, `functions-other` (built types);
 -- `fields-none`, `fields-both`, `answer-cons`, `answer-result`, `count-answer` (entries and parameters); `enc-ctx`, `enc-fun`, `enc-cons`, `enc-result`, `length-sig` (bytes).
 -- Assumes nothing.
-use Prim.Native.Nat.{ℕ, suc, _+_, _/_, _%_, _<_}
-use mathlib.Core.Path.{_≡_, refl, sym, ap, _∙_}
+use Prim.Native.Nat.{ℕ, suc, _+_, _-_, _/_, _%_, _<_}
+use mathlib.Core.Path.{_≡_, refl, sym, ap, ap₂, _∙_}
 use mathlib.Core.Bool.{Bool, true, false, not, cond, _&&_, false≢true}
 use mathlib.Core.List.{_∷_, _++_, append-assoc}
 use native.Mathlib.Omega.{arith}
 use lib.ListN.{length, length-append}
+use lib.Dec.{ltb}
 use borrow.Author.Tests.{ne-eqb}
-use Rattle.form.specs.Trees.{Simple, any, code, Ty, leaf, built, Built, list, range, context, function, Fields, no-fields, field, Tys, no-params, param}
+use Rattle.form.specs.Trees.{Simple, any, null, code, decode, Ty, leaf, built, Built, list, range, context, function, Fields, no-fields, field, Tys, no-params, param}
 use Rattle.form.specs.Form.{bytes, enc, encFields, encTys, countFields, countTys}
-use Rattle.order.specs.Order.{Dir, up, down, flip, Order, top, bottom, scmp, sbound, Laws, flatOrder}
-use Rattle.order.specs.Types.{sameCount, ignores, reduce, reduceTys, bound, bounds, sup, sub, supTys, subTys}
-use Rattle.order.specs.Ascending.{Asc, AscFields}
+use Rattle.form.proofs.ExactTypes.{decode-code}
+use Rattle.order.specs.Order.{same, Dir, up, down, flip, Order, top, bottom, scmp, sbound, isInner, closer, narrowed, nearest, orderOf}
+use Rattle.order.specs.Types.{sameCount, kind, ignores, reduce, reduceFields, reduceTys, bound, bounds, sup, sub, supTys, subTys}
+use Rattle.order.specs.Ascending.{Asc, AscBuilt, AscFields, AscTys}
 use Rattle.order.specs.Size.{size}
 use Rattle.order.proofs.Bools.{and-false}
-use Rattle.order.proofs.Simple.{and-left, and-right, and-both, scmp-refl, scmp-bottom, scmp-bound}
-use Rattle.order.proofs.Sentences.{sup-simple-built, sup-built-simple, sub-simple-built, sub-built-simple, sup-functions, sub-functions, sup-functions-other, sub-functions-other}
-use Rattle.order.proofs.Sentences.{sup-fields-both, sub-fields-both}
-use Rattle.order.proofs.Laws.{le-refl, mutual-reduce, sup-left, sup-least, sup-reduced, sub-left, sub-greatest, sub-reduced}
-use Rattle.order.proofs.Answers.{asc-sup, asc-sub}
+use Rattle.order.proofs.Bound.{bound-other}
+use Rattle.order.proofs.Ends.{Ends, reading-ends}
+use Rattle.order.proofs.Sentences.{sup-functions, sub-functions, sup-functions-other, sub-functions-other, sup-fields-both, sub-fields-both}
 use Rattle.order.proofs.Size.{length-enc, length-tys}
 use Rattle.types.specs.At.{Sig, sig, cons, funOf, sizeSig}
 use Rattle.types.specs.Conform.{ignoresAt}
@@ -138,53 +138,63 @@ low-bottom : (d : Dir) → code (bottom d) < 10
 low-bottom up = omega arith
 low-bottom down = omega arith
 
-simple-asc : (s : Simple) → Asc (leaf s)
-unfolding Asc
-simple-asc s = tt
+-- ---- over an order with its ends
+module _ {O : Order} (L : Ends O) where
+  simple-self : (d : Dir) (s : Simple) → sbound O d s s ≡ s
+  simple-self up s = L .join-same s
+  simple-self down s = L .meet-same s
 
--- ---- over an order with its laws
-module _ {O : Order} (L : Laws O) where
   -- a type with itself is its reduced form
-  pub self : (d : Dir) (t : Ty) → Asc t → answer O d t t ≡ reduce O t
-  self up t w =
-      let v = asc-sup O t t w w in
-      sym (sup-reduced O L t t) ∙ mutual-reduce O L (sup O t t) t v w .0
-      (sup-least O L t t t (le-refl O L t w) (le-refl O L t w), sup-left O L t t v)
-  self down t w =
-      let v = asc-sub O t t w w in
-      sym (sub-reduced O L t t) ∙ mutual-reduce O L (sub O t t) t v w .0
-      (sub-left O L t t v, sub-greatest O L t t t (le-refl O L t w) (le-refl O L t w))
+  mutual
+    unfolding bound reduce Asc
+
+    pub self : (d : Dir) (t : Ty) → Asc t → answer O d t t ≡ reduce O t
+    self d (leaf s) w = ap leaf (simple-self d s)
+    self d (built x) w = self-built d x w
+
+    self-built : (d : Dir) (x : Built) → AscBuilt x → answer O d (built x) (built x) ≡ reduce O (built x)
+    self-built d (list t) w = ap (λ z. built (list z)) (self d t w)
+    self-built d (range t) w = ap (λ z. built (range z)) (self d t w)
+    self-built d (context fs) w = ap (λ z. built (context z)) (self-fields d fs 0 w)
+    self-built up (function ps r) w =
+        sup-functions O ps ps r r (equal-counts ps ps refl)
+        ∙ ap₂ (λ (x : Tys) (y : Ty). built (function x (cond (ignores O ps) (leaf any) y))) (self-tys down ps (w .0)) (self up r (w .1))
+    self-built down (function ps r) w =
+        sub-functions O ps ps r r (equal-counts ps ps refl)
+        ∙ ap₂ (λ (x : Tys) (y : Ty). built (function x (cond (ignores O ps) (leaf any) y))) (self-tys up ps (w .0)) (self down r (w .1))
+
+    self-fields : (d : Dir) (fs : Fields) (k : ℕ) → AscFields fs k → answerFields O d fs fs ≡ reduceFields O fs
+    self-fields d no-fields k w = fields-none O d
+    self-fields d (field n t fs) k w = fields-both O d n t t fs fs (w .2) ∙ ap₂ (field n) (self d t (w .1)) (self-fields d fs (suc n) (w .2))
+
+    self-tys : (d : Dir) (ps : Tys) → AscTys ps → reduceTys O (bounds O d ps ps) ≡ reduceTys O ps
+    self-tys d no-params w = refl
+    self-tys d (param t ps) w = ap₂ param (self d t (w .0)) (self-tys d ps (w .1))
 
   -- equal simple types
   pub leaves : (d : Dir) (s t : Simple) → s ≡ t → answer O d (leaf s) (leaf t) ≡ leaf s
-  unfolding reduce
-  leaves d s t e = ap (λ (x : Simple). answer O d (leaf s) (leaf x)) (sym e) ∙ self d (leaf s) (simple-asc s)
+  unfolding bound reduce
+  leaves d s t e = ap (λ (x : Simple). leaf (sbound O d s x)) (sym e) ∙ ap leaf (simple-self d s)
 
   -- the least in the direction with u: the reduced u
-  antisym : (d : Dir) (s t : Simple) → scmp O d s t ≡ true → scmp O d t s ≡ true → s ≡ t
-  antisym up s t p q = L .antisymmetric s t p q
-  antisym down s t p q = L .antisymmetric s t q p
-
-  below-bound : (d : Dir) (s t : Simple) → scmp O d s (sbound O d s t) && scmp O d t (sbound O d s t) ≡ true
-  below-bound d s t = sym (scmp-bound O L d s t (sbound O d s t)) ∙ scmp-refl O L d (sbound O d s t)
-
   least-simple : (d : Dir) (t : Simple) → sbound O d (bottom d) t ≡ t
-  least-simple d t =
-      antisym d (sbound O d (bottom d) t) t
-      (scmp-bound O L d (bottom d) t t ∙ and-both (scmp O d (bottom d) t) (scmp O d t t) (scmp-bottom O L d t) (scmp-refl O L d t))
-      (and-right (scmp O d (bottom d) (sbound O d (bottom d) t)) (scmp O d t (sbound O d (bottom d) t)) (below-bound d (bottom d) t))
+  least-simple up t = L .null-join t
+  least-simple down t = L .any-meet t
 
   least-simple-right : (d : Dir) (s : Simple) → sbound O d s (bottom d) ≡ s
-  least-simple-right d s =
-      antisym d (sbound O d s (bottom d)) s
-      (scmp-bound O L d s (bottom d) s ∙ and-both (scmp O d s s) (scmp O d (bottom d) s) (scmp-refl O L d s) (scmp-bottom O L d s))
-      (and-left (scmp O d s (sbound O d s (bottom d))) (scmp O d (bottom d) (sbound O d s (bottom d))) (below-bound d s (bottom d)))
+  least-simple-right up s = L .join-null s
+  least-simple-right down s = L .meet-any s
+
+  -- the least is below itself
+  least-least : (d : Dir) → scmp O d (bottom d) (bottom d) ≡ true
+  least-least up = L .reflexive null
+  least-least down = L .reflexive any
 
   pub least : (d : Dir) (t u : Ty) → cmd t ≡ 32 + code (bottom d) → (size t ≡ 1) × (answer O d t u ≡ reduce O u)
   unfolding bound reduce size
   least d (leaf s) (leaf t) e = (refl, ap (λ (x : Simple). leaf (sbound O d x t)) (same-simple s (bottom d) e) ∙ ap leaf (least-simple d t))
   least d (leaf s) (built y) e =
-      (refl, ap (λ (x : Simple). answer O d (leaf x) (built y)) (same-simple s (bottom d) e) ∙ ap (λ q. reduce O (cond q (built y) (leaf (top d)))) (scmp-refl O L d (bottom d)))
+      (refl, ap (λ (x : Simple). answer O d (leaf x) (built y)) (same-simple s (bottom d) e) ∙ ap (λ q. reduce O (cond q (built y) (leaf (top d)))) (least-least d))
   least d (built (list t)) u e = absurd (omega (arith, low-bottom d))
   least d (built (range t)) u e = absurd (omega (arith, low-bottom d))
   least d (built (context fs)) u e = absurd (omega (arith, low-bottom d))
@@ -194,46 +204,73 @@ module _ {O : Order} (L : Laws O) where
   unfolding bound reduce size
   least-right d (leaf s) (leaf t) e = (refl, ap (λ (x : Simple). leaf (sbound O d s x)) (same-simple t (bottom d) e) ∙ ap leaf (least-simple-right d s))
   least-right d (built x) (leaf t) e =
-      (refl, ap (λ (z : Simple). answer O d (built x) (leaf z)) (same-simple t (bottom d) e) ∙ ap (λ q. reduce O (cond q (built x) (leaf (top d)))) (scmp-refl O L d (bottom d)))
+      (refl, ap (λ (z : Simple). answer O d (built x) (leaf z)) (same-simple t (bottom d) e) ∙ ap (λ q. reduce O (cond q (built x) (leaf (top d)))) (least-least d))
   least-right d t (built (list u)) e = absurd (omega (arith, low-bottom d))
   least-right d t (built (range u)) e = absurd (omega (arith, low-bottom d))
   least-right d t (built (context fs)) e = absurd (omega (arith, low-bottom d))
   least-right d t (built (function ps r)) e = absurd (omega (arith, low-bottom d))
 
--- ---- other commands that are not equal, where simple types conform only to themselves: the greatest in the direction
-module _ (strict : Bool) where
+-- ---- other commands that are not equal: what a table says of two of 21 to 28, otherwise the greatest in the direction
+cond-same : (q : Bool) (x : ℕ) → cond q x x ≡ x
+cond-same true x = refl
+cond-same false x = refl
+
+built-outer : (x : Built) → isInner (cmd (built x) - 32) ≡ false
+built-outer (list t) = refl
+built-outer (range t) = refl
+built-outer (context fs) = refl
+built-outer (function ps r) = refl
+
+cmd-kind : (x : Built) → cmd (built x) ≡ 42 + kind x
+cmd-kind (list t) = refl
+cmd-kind (range t) = refl
+cmd-kind (context fs) = refl
+cmd-kind (function ps r) = refl
+
+module _ (reading : ℕ) (d : Dir) where
+  greatest : (k : ℕ) → k ≡ code (top d) → leaf (top d) ≡ leaf (decode k)
+  greatest k e = sym (ap (λ (x : ℕ). leaf (decode x)) e ∙ ap leaf (decode-code (top d)))
+
+  -- of all but the eight, as the first or as the second
+  outer-nearest : (i j : ℕ) → isInner i && isInner j ≡ false → leaf (top d) ≡ leaf (decode (nearest reading d i j))
+  outer-nearest i j e = greatest (nearest reading d i j)
+      (ap (λ q. cond (ltb reading 2) (code (top d)) (cond q (narrowed (closer reading d i j) (code (top d)) 1 8) (code (top d)))) e ∙ cond-same (ltb reading 2) (code (top d)))
+
+  built-nearest : (x : Built) (j : ℕ) → leaf (top d) ≡ leaf (decode (nearest reading d (cmd (built x) - 32) j))
+  built-nearest x j = outer-nearest (cmd (built x) - 32) j (ap (λ q. q && isInner j) (built-outer x))
+
+  nearest-built : (i : ℕ) (y : Built) → leaf (top d) ≡ leaf (decode (nearest reading d i (cmd (built y) - 32)))
+  nearest-built i y = outer-nearest i (cmd (built y) - 32) (ap (λ q. isInner i && q) (built-outer y) ∙ and-false (isInner i))
+
+module _ (reading : ℕ) where
   other-simple : (d : Dir) (s t : Simple) → (32 + code s ≡ 32 + code t → ⊥) → (32 + code s ≡ 32 + code (bottom d) → ⊥) → (32 + code t ≡ 32 + code (bottom d) → ⊥)
-      → answer (flatOrder strict) d (leaf s) (leaf t) ≡ leaf (top d)
+      → sbound (orderOf reading) d s t ≡ decode (nearest reading d (code s) (code t))
+  other-simple up s t h n x =
+      let far = decode (nearest reading up (code s) (code t)) in
+      ap (λ q. cond q t (cond (same t null) s (cond (same s t) s far))) (ne-eqb (code s) 9 (λ e. n (omega arith)))
+      ∙ ap (λ q. cond q s (cond (same s t) s far)) (ne-eqb (code t) 9 (λ e. x (omega arith)))
+      ∙ ap (λ q. cond q s far) (ne-eqb (code s) (code t) (λ e. h (omega arith)))
+  other-simple down s t h n x =
+      let far = decode (nearest reading down (code s) (code t)) in
+      ap (λ q. cond q t (cond (same t any) s (cond (same s t) s far))) (ne-eqb (code s) 0 (λ e. n (omega arith)))
+      ∙ ap (λ q. cond q s (cond (same s t) s far)) (ne-eqb (code t) 0 (λ e. x (omega arith)))
+      ∙ ap (λ q. cond q s far) (ne-eqb (code s) (code t) (λ e. h (omega arith)))
+
+  not-least : (d : Dir) (s : Simple) → (32 + code s ≡ 32 + code (bottom d) → ⊥) → scmp (orderOf reading) d s (bottom d) ≡ false
+  not-least up s n = reading-ends reading .to-null s ∙ ne-eqb (code s) 9 (λ e. n (omega arith))
+  not-least down s n = reading-ends reading .from-any s ∙ ne-eqb (code s) 0 (λ e. n (omega arith))
+
+  pub other : (d : Dir) (t u : Ty) → (cmd t ≡ cmd u → ⊥) → (cmd t ≡ 32 + code (bottom d) → ⊥) → (cmd u ≡ 32 + code (bottom d) → ⊥)
+      → answer (orderOf reading) d t u ≡ leaf (decode (nearest reading d (cmd t - 32) (cmd u - 32)))
   unfolding bound reduce
-  other-simple up s t d n a = ap leaf (simp (ne-eqb (code s) 9 (λ e. n (omega arith)), ne-eqb (code t) 9 (λ e. a (omega arith)), ne-eqb (code s) (code t) (λ e. d (omega arith))))
-  other-simple down s t d n a = ap leaf (simp (ne-eqb (code s) 0 (λ e. n (omega arith)), ne-eqb (code t) 0 (λ e. a (omega arith)), ne-eqb (code s) (code t) (λ e. d (omega arith))))
-
-  other-built : (d : Dir) (s : Simple) (y : Built) → (32 + code s ≡ 32 + code (bottom d) → ⊥) → answer (flatOrder strict) d (leaf s) (built y) ≡ leaf (top d)
-  other-built up s y n = sup-simple-built (flatOrder strict) s y ∙ simp (ne-eqb (code s) 9 (λ e. n (omega arith)))
-  other-built down s y n = sub-simple-built (flatOrder strict) s y ∙ simp (ne-eqb (code s) 0 (λ e. n (omega arith)), ne-eqb 0 (code s) (λ e. n (omega arith)))
-
-  other-built-right : (d : Dir) (x : Built) (t : Simple) → (32 + code t ≡ 32 + code (bottom d) → ⊥) → answer (flatOrder strict) d (built x) (leaf t) ≡ leaf (top d)
-  other-built-right up x t n = sup-built-simple (flatOrder strict) x t ∙ simp (ne-eqb (code t) 9 (λ e. n (omega arith)))
-  other-built-right down x t n = sub-built-simple (flatOrder strict) x t ∙ simp (ne-eqb (code t) 0 (λ e. n (omega arith)), ne-eqb 0 (code t) (λ e. n (omega arith)))
-
-  pub other : (d : Dir) (t u : Ty) → (cmd t ≡ cmd u → ⊥) → (cmd t ≡ 32 + code (bottom d) → ⊥) → (cmd u ≡ 32 + code (bottom d) → ⊥) → answer (flatOrder strict) d t u ≡ leaf (top d)
-  unfolding bound reduce
-  other d (leaf s) (leaf t) h n x = other-simple d s t h n x
-  other d (leaf s) (built y) h n x = other-built d s y n
-  other d (built z) (leaf t) h n x = other-built-right d z t x
-  other d (built (list a)) (built (list b)) h n x = absurd (h refl)
-  other d (built (list a)) (built (range b)) h n x = refl
-  other d (built (list a)) (built (context b)) h n x = refl
-  other d (built (list a)) (built (function q b)) h n x = refl
-  other d (built (range a)) (built (list b)) h n x = refl
-  other d (built (range a)) (built (range b)) h n x = absurd (h refl)
-  other d (built (range a)) (built (context b)) h n x = refl
-  other d (built (range a)) (built (function q b)) h n x = refl
-  other d (built (context a)) (built (list b)) h n x = refl
-  other d (built (context a)) (built (range b)) h n x = refl
-  other d (built (context a)) (built (context b)) h n x = absurd (h refl)
-  other d (built (context a)) (built (function q b)) h n x = refl
-  other d (built (function p a)) (built (list b)) h n x = refl
-  other d (built (function p a)) (built (range b)) h n x = refl
-  other d (built (function p a)) (built (context b)) h n x = refl
-  other d (built (function p a)) (built (function q b)) h n x = absurd (h refl)
+  other d (leaf s) (leaf t) h n x =
+      let i : 32 + code s - 32 ≡ code s = omega arith in
+      let j : 32 + code t - 32 ≡ code t = omega arith in
+      ap leaf (other-simple d s t h n x ∙ sym (ap₂ (λ (a b : ℕ). decode (nearest reading d a b)) i j))
+  other d (leaf s) (built y) h n x =
+      ap (λ q. reduce (orderOf reading) (cond q (built y) (leaf (top d)))) (not-least d s n) ∙ nearest-built reading d (cmd (leaf s) - 32) y
+  other d (built z) (leaf t) h n x =
+      ap (λ q. reduce (orderOf reading) (cond q (built z) (leaf (top d)))) (not-least d t x) ∙ built-nearest reading d z (cmd (leaf t) - 32)
+  other d (built z) (built y) h n x =
+      ap (reduce (orderOf reading)) (bound-other (orderOf reading) d z y (ne-eqb (kind z) (kind y) (λ e. h (cmd-kind z ∙ ap (λ (k : ℕ). 42 + k) e ∙ sym (cmd-kind y)))))
+      ∙ built-nearest reading d z (cmd (built y) - 32)

@@ -1,6 +1,6 @@
 -- Laws of the builders: what each branch asks of its callee, and what it leaves behind, under every order and in either direction.
 -- Idea: a list, a range, a context and a function are one case: two parts k bytes behind the starts, joined and wrapped again (`Inner`).
--- Index: `ready`, `both`, `is-combined`, `combined-is` (the predicates of the contracts); `left-ready`, `left-done`, `right-ready`, `right-done`, `top-done`, `other-done` (any two types);
+-- Index: `ready`, `both`, `is-combined`, `combined-is` (the predicates of the contracts); `left-ready`, `left-done`, `right-ready`, `right-done`, `simple-done`, `other-done` (any two types);
 -- `Inner`, `inner-ready`, `inner-ends`, `inner-done` (the one case); `leaf-done`, `wrapped`, `wrapped-done`, `in-contexts`, `ctx-done`, `in-functions`, `ignored`, `in-sigs`, `fun-done`,
 -- `fun-none`, `fun-other` (equal commands); `ready-up`, `ready-down`, `from-up`, `from-down` (the direction as a flag).
 -- Assumes nothing.
@@ -14,13 +14,15 @@ use lib.ListN.{length, getD, take, drop, set}
 use lib.Dec.{eqb}
 use borrow.Rule.Slice.PartMut.{putMid}
 use borrow.Author.Tests.{eqb-true, eq-eqb}
-use Rattle.form.specs.Trees.{Simple, any, code, Ty, leaf, built, list, range, context, function, Fields, no-params}
+use Rattle.form.specs.Trees.{Simple, any, code, decode, Ty, leaf, built, list, range, context, function, Fields, no-params}
 use Rattle.form.specs.Form.{numAt, enc, encFields, countFields, countTys}
 use Rattle.form.specs.Answers.{onto}
 use Rattle.form.proofs.Runs.{rest, length-rest, behind}
-use Rattle.order.specs.Order.{Dir, Order, Laws, top, bottom, up, down, flatOrder}
+use Rattle.form.proofs.ExactTypes.{code-decode}
+use Rattle.order.specs.Order.{Dir, Order, top, bottom, up, down, toward, nearest, orderOf}
 use Rattle.order.specs.Size.{size}
 use Rattle.order.proofs.Simple.{and-right}
+use Rattle.order.proofs.Ends.{Ends}
 use Rattle.order.proofs.Size.{size-positive}
 use Rattle.order.proofs.WellFormed.{count-size}
 use Rattle.types.proofs.ByCommand.{same-simple, count-sig, sig-count}
@@ -28,7 +30,7 @@ use Rattle.types.specs.At.{typeAt, fieldsAt, Sig, funOf, sigAt, sizeAt}
 use Rattle.types.specs.Conform.{ignoresAt}
 use Rattle.types.proofs.Reading.{cmd, cmd-is, some-byte, some-level, is-list, is-range, is-ctx, is-fun, t-good, size-fun, last-cmd, size-list, size-range, size-ctx}
 use Rattle.types.proofs.Entries.{size-got}
-use Rattle.lattice.specs.Writing.{answer, answerFields, answerSig, encSig, Joining, ofTypes, ofFields, ofSigs, mostAnswer, Ready, Wrote, Combined, Counted, toward}
+use Rattle.lattice.specs.Writing.{answer, answerFields, answerSig, encSig, Joining, ofTypes, ofFields, ofSigs, mostAnswer, Ready, Wrote, Combined, Counted}
 use Rattle.output.proofs.OntoLaws.{onto-first, onto-two, onto-three, late-three, back}
 use Rattle.lattice.proofs.BoundTrees.{enc-ctx, enc-fun, count-answer, functions, functions-none, functions-other, lists, ranges, contexts}
 use Rattle.lattice.proofs.BoundTrees.{self, least}
@@ -104,16 +106,16 @@ module _ (O : Order) (d : Dir) (l : ℕ) (a b : List ℕ) (n : ℕ) (p : Ready (
   unfolding enc size
   leaf-bytes s = (refl, refl)
 
-  -- the answer is the greatest
-  pub top-done : answer O d (K .t) (K .u) ≡ leaf (top d) → (old : List ℕ) → n ≡ length old → (x y : ℕ) → x ≡ sizeAt (typeAt l a) → y ≡ sizeAt (typeAt l b)
-      → Combined (ofTypes O d) (typeAt l a) (typeAt l b) old (set old 0 (32 + code (top d))) x y 1
-  top-done s old en x y ex ey =
+  -- the answer is a simple type
+  pub simple-done : (s : Simple) → answer O d (K .t) (K .u) ≡ leaf s → (r : ℕ) → r ≡ 32 + code s → (old : List ℕ) → n ≡ length old → (x y : ℕ) → x ≡ sizeAt (typeAt l a)
+      → y ≡ sizeAt (typeAt l b) → Combined (ofTypes O d) (typeAt l a) (typeAt l b) old (set old 0 r) x y 1
+  simple-done s e r er old en x y ex ey =
       let o = one in
-      let g = leaf-bytes (top d) in
-      known (leaf (top d)) s old (set old 0 (32 + code (top d))) (onto-first old (32 + code (top d)) (omega arith) ∙ ap (λ (z : List ℕ). onto z old) (sym (g .0))) x y 1 ex ey (sym (g .1))
+      let g = leaf-bytes s in
+      known (leaf s) e old (set old 0 r) (onto-first old r (omega arith) ∙ ap (λ (z : ℕ). onto (z ∷ []) old) er ∙ ap (λ (z : List ℕ). onto z old) (sym (g .0))) x y 1 ex ey (sym (g .1))
 
   -- the least and b: the answer is that of b and b
-  module _ (L : Laws O) where
+  module _ (L : Ends O) where
     left-least : getD a 0 0 ≡ 32 + code (bottom d) → (size (K .t) ≡ 1) × (answer O d (K .u) (K .u) ≡ answer O d (K .t) (K .u))
     left-least c =
         let g = least L d (K .t) (K .u) (cmd-is l a (K .t) (K .read-a) ∙ c) in
@@ -146,15 +148,23 @@ module _ (O : Order) (d : Dir) (l : ℕ) (a b : List ℕ) (n : ℕ) (p : Ready (
         is-combined (ofTypes O d) (typeAt l a) (typeAt l b) (K .t) (K .u) old new i 1 w (K .read-a) (K .read-b)
         (record { one = g .one; two = sym (right-least c .0); long = g .long ∙ ap size (right-least c .1); out = g .out ∙ ap (λ (z : Ty). onto (enc z) old) (right-least c .1) })
 
--- other commands, where simple types conform only to themselves
-pub other-done : (strict : Bool) (d : Dir) (l : ℕ) (a b : List ℕ) (n : ℕ) → Ready (ofTypes (flatOrder strict) d) (typeAt l a) (typeAt l b) n → (getD a 0 0 ≡ getD b 0 0 → ⊥)
-    → (getD a 0 0 ≡ 32 + code (bottom d) → ⊥) → (getD b 0 0 ≡ 32 + code (bottom d) → ⊥) → (old : List ℕ) → n ≡ length old → (x y : ℕ) → x ≡ sizeAt (typeAt l a) → y ≡ sizeAt (typeAt l b)
-    → Combined (ofTypes (flatOrder strict) d) (typeAt l a) (typeAt l b) old (set old 0 (32 + code (top d))) x y 1
-other-done strict d l a b n p h ca cb =
-    let B = both (ofTypes (flatOrder strict) d) (typeAt l a) (typeAt l b) n p in
+-- other commands: r is the command of what a table says, otherwise of the greatest
+pub other-done : (reading : ℕ) (d : Dir) (l : ℕ) (a b : List ℕ) (n : ℕ) → Ready (ofTypes (orderOf reading) d) (typeAt l a) (typeAt l b) n → (getD a 0 0 ≡ getD b 0 0 → ⊥)
+    → (getD a 0 0 ≡ 32 + code (bottom d) → ⊥) → (getD b 0 0 ≡ 32 + code (bottom d) → ⊥)
+    → (r : ℕ) → (32 ≤ r) × (r ≤ 41) × (r - 32 ≡ nearest reading d (getD a 0 0 - 32) (getD b 0 0 - 32))
+    → (old : List ℕ) → n ≡ length old → (x y : ℕ) → x ≡ sizeAt (typeAt l a) → y ≡ sizeAt (typeAt l b)
+    → Combined (ofTypes (orderOf reading) d) (typeAt l a) (typeAt l b) old (set old 0 r) x y 1
+other-done reading d l a b n p h ca cb r g =
+    let B = both (ofTypes (orderOf reading) d) (typeAt l a) (typeAt l b) n p in
     let ea = cmd-is l a (B .t) (B .read-a) in
     let eb = cmd-is l b (B .u) (B .read-b) in
-    top-done (flatOrder strict) d l a b n p (other strict d (B .t) (B .u) (λ z. h (sym ea ∙ z ∙ eb)) (λ z. ca (sym ea ∙ z)) (λ z. cb (sym eb ∙ z)))
+    let lo = g .0 in
+    let hi = g .1 in
+    let c = code-decode (r - 32) (omega arith) in
+    simple-done (orderOf reading) d l a b n p (decode (r - 32))
+    (other reading d (B .t) (B .u) (λ z. h (sym ea ∙ z ∙ eb)) (λ z. ca (sym ea ∙ z)) (λ z. cb (sym eb ∙ z))
+    ∙ ap₂ (λ (i j : ℕ). leaf (decode (nearest reading d (i - 32) (j - 32)))) ea eb ∙ ap (λ (k : ℕ). leaf (decode k)) (sym (g .2)))
+    r (omega arith)
 
 -- ---- two things inside the two types, k bytes behind their starts
 pub record Inner (O : Order) (d : Dir) (l : ℕ) (a b : List ℕ) (n : ℕ) {X : Type 0} (J : Joining X) (k : ℕ) (ga gb : Option X) : Type 0 where
@@ -231,7 +241,7 @@ module _ (O : Order) (d : Dir) (l : ℕ) (a b : List ℕ) (n : ℕ) (p : Ready (
   abbrev B : Both (ofTypes O d) (typeAt l a) (typeAt l b) n
   B = both (ofTypes O d) (typeAt l a) (typeAt l b) n p
 
-  pub leaf-done : Laws O → getD a 0 0 < 42 → (old : List ℕ) → n ≡ length old → Combined (ofTypes O d) (typeAt l a) (typeAt l b) old (set old 0 (getD a 0 0)) 1 1 1
+  pub leaf-done : Ends O → getD a 0 0 < 42 → (old : List ℕ) → n ≡ length old → Combined (ofTypes O d) (typeAt l a) (typeAt l b) old (set old 0 (getD a 0 0)) 1 1 1
   unfolding enc size
   leaf-done L c old en =
       let ca = cmd-is l a (B .t) (B .read-a) in

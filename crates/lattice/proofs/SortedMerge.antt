@@ -18,7 +18,8 @@ use Rattle.form.specs.Form.{bytes, numAt, enc, encFields, countFields}
 use Rattle.form.specs.Answers.{onto}
 use Rattle.form.proofs.Numbers.{length-bytes}
 use Rattle.form.proofs.Runs.{rest, length-rest, behind}
-use Rattle.order.specs.Order.{Dir, up, down, Order, Laws}
+use Rattle.order.specs.Order.{Dir, up, down, Order}
+use Rattle.order.proofs.Ends.{Ends}
 use Rattle.order.specs.Ascending.{AscFields}
 use Rattle.order.specs.Size.{size, sizeFields}
 use Rattle.order.proofs.Size.{length-enc, length-fields}
@@ -36,7 +37,7 @@ use Rattle.output.specs.Output.{over}
 
 pub record FieldsInv (O : Order) (d : Dir) (l : ℕ) (a : List ℕ) (n : ℕ) (b : List ℕ) (m : ℕ) (old out : List ℕ) (at i bt j to k : ℕ) : Type 0 where
   -- those of the order
-  pub laws : Laws O
+  pub ends : Ends O
   -- the entries of both, and those that are left
   pub all-a : Fields
   pub all-b : Fields
@@ -71,7 +72,7 @@ pub record Peeked (a : List ℕ) (n : ℕ) (b : List ℕ) (m at i bt j x y : ℕ
   pub low : x ≤ nameEnd
   pub low2 : y ≤ nameEnd
 
-pub fields-start : {O : Order} → Laws O → (d : Dir) (l : ℕ) (a : List ℕ) (n : ℕ) (b : List ℕ) (m : ℕ) (old : List ℕ) → Ready (ofFields O d) (fieldsAt l n 0 a) (fieldsAt l m 0 b) (length old)
+pub fields-start : {O : Order} → Ends O → (d : Dir) (l : ℕ) (a : List ℕ) (n : ℕ) (b : List ℕ) (m : ℕ) (old : List ℕ) → Ready (ofFields O d) (fieldsAt l n 0 a) (fieldsAt l m 0 b) (length old)
     → FieldsInv O d l a n b m old old 0 0 0 0 0 0
 fields-start {O} L d l a n b m old p = go (both (ofFields O d) (fieldsAt l n 0 a) (fieldsAt l m 0 b) (length old) p)
   where
@@ -80,7 +81,7 @@ fields-start {O} L d l a n b m old p = go (both (ofFields O d) (fieldsAt l n 0 a
         let en : n - 0 ≡ n = omega arith in
         let em : m - 0 ≡ m = omega arith in
         record {
-          laws = L;
+          ends = L;
           all-a = K .t;
           all-b = K .u;
           fs = K .t;
@@ -185,7 +186,7 @@ module _ {O : Order} {d : Dir} {l : ℕ} {a : List ℕ} {n : ℕ} {b : List ℕ}
   pass : {at′ i′ bt′ j′ : ℕ} {fs′ gs′ : Fields} → Rest at′ i′ bt′ j′ fs′ gs′ → answerFields O d (v .fs) (v .gs) ≡ answerFields O d fs′ gs′ → FieldsInv O d l a n b m old out at′ i′ bt′ j′ to k
   pass {at′} {i′} {bt′} {j′} {fs′} {gs′} R s =
       record {
-        laws = v .laws;
+        ends = v .ends;
         all-a = v .all-a;
         all-b = v .all-b;
         fs = fs′;
@@ -257,7 +258,7 @@ module _ {O : Order} {d : Dir} {l : ℕ} {a : List ℕ} {n : ℕ} {b : List ℕ}
           let o2 : putMid (to + nameWidth) (length T - (to + nameWidth)) T ns ≡ onto (p ++ W) old = back p W old T ns (to + nameWidth) o1 lp (omega arith) en in
           let assoc : (p ++ W) ++ encFields X ≡ v .done ++ (N ++ (W ++ encFields X)) = simp append-assoc in
           record {
-            laws = v .laws;
+            ends = v .ends;
             all-a = v .all-a;
             all-b = v .all-b;
             fs = fs′;
@@ -417,7 +418,7 @@ module _ {O : Order} {l : ℕ} {a : List ℕ} {n : ℕ} {b : List ℕ} {m : ℕ}
     only-a A =
         let w : AscFields (v .gs) (suc (A .name)) = ahead l j m bt (v .least-b) b (v .gs) (v .read-b) (A .name) y (pk .second) (omega (arith, A .named, name-a v pk (omega arith) .1)) in
         ap (λ (f : Fields). answerFields O down f (v .gs)) (A .is) ∙ sub-fields-first O (A .name) (A .x) (A .more) (v .gs) (A .asc) w
-        ∙ ap (λ (z : Ty). field (A .name) z (answerFields O down (A .more) (v .gs))) (sym (self (v .laws) down (A .x) (t-good l (drop (at + nameWidth) a) (A .x) (A .first) .0)))
+        ∙ ap (λ (z : Ty). field (A .name) z (answerFields O down (A .more) (v .gs))) (sym (self (v .ends) down (A .x) (t-good l (drop (at + nameWidth) a) (A .x) (A .first) .0)))
 
     pub a-room : to + nameWidth ≤ length out
     a-room = omega (arith, entry-room v (OA .name) (answer O down (OA .x) (OA .x)) (OA .more) (v .gs) (only-a OA))
@@ -452,7 +453,7 @@ module _ {O : Order} {l : ℕ} {a : List ℕ} {n : ℕ} {b : List ℕ} {m : ℕ}
     only-b B =
         let w : AscFields (v .fs) (suc (B .name)) = ahead l i n at (v .least-a) a (v .fs) (v .read-a) (B .name) x (pk .first) (omega (arith, B .named, name-b v pk (omega arith) .1)) in
         ap (λ (f : Fields). answerFields O down (v .fs) f) (B .is) ∙ sub-fields-second O (v .fs) (B .name) (suc (B .name)) (B .x) (B .more) w (omega arith)
-        ∙ ap (λ (z : Ty). field (B .name) z (answerFields O down (v .fs) (B .more))) (sym (self (v .laws) down (B .x) (t-good l (drop (bt + nameWidth) b) (B .x) (B .first) .0)))
+        ∙ ap (λ (z : Ty). field (B .name) z (answerFields O down (v .fs) (B .more))) (sym (self (v .ends) down (B .x) (t-good l (drop (bt + nameWidth) b) (B .x) (B .first) .0)))
 
     pub b-room : to + nameWidth ≤ length out
     b-room = omega (arith, entry-room v (OB .name) (answer O down (OB .x) (OB .x)) (v .fs) (OB .more) (only-b OB))

@@ -2,7 +2,6 @@
 -- of two functions.
 -- Assumes nothing.
 use mathlib.Core.Path.{_≡_}
-use mathlib.Core.Bool.{Bool, true, false}
 use mathlib.Core.Option.{Option}
 use mathlib.Core.List.{List, _++_}
 use Prim.Native.Nat.{ℕ, _≤_}
@@ -10,15 +9,10 @@ use Rattle.form.specs.Trees.{Ty, Fields}
 use Rattle.form.specs.Form.{enc, encFields, encTys, countFields}
 use Rattle.form.specs.Answers.{onto}
 use Rattle.form.specs.Options.{WhereBoth}
-use Rattle.order.specs.Order.{Dir, up, down, flip, pick, Order}
+use Rattle.order.specs.Order.{Dir, flip, pick, Order}
 use Rattle.order.specs.Types.{reduce, reduceFields, reduceTys, bound, bounds, intersectWith, merge}
 use Rattle.order.specs.Size.{size, sizeFields}
 use Rattle.types.specs.At.{Sig, sig, sizeSig}
-
--- the direction of a call
-abbrev pub toward : Bool → Dir
-toward true = up
-toward false = down
 
 -- ---- the answers under an order
 abbrev pub answer : Order → Dir → Ty → Ty → Ty

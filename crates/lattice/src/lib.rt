@@ -3,13 +3,13 @@ ghost use mathlib.Core.Path.{_≡_};
 ghost use Prim.Native.Nat.{_+_, _<_, _/_};
 ghost use lib.ListN.{length, getD};
 ghost use Rattle.form.specs.Form.{bytes};
-ghost use Rattle.order.specs.Order.{up, down, orderOf};
+ghost use Rattle.order.specs.Order.{up, down, toward, orderOf};
 ghost use Rattle.types.specs.At.{typeAt, fieldsAt, sigAt};
-ghost use Rattle.lattice.specs.Writing.{toward, ofTypes, ofFields, ofSigs, Ready, Combined, Counted};
+ghost use Rattle.lattice.specs.Writing.{ofTypes, ofFields, ofSigs, Ready, Combined, Counted};
 use form::commands;
 use form::limits::NAME_END;
 use form::limits::NAME_WIDTH;
-use types::readings;
+use tables::readings;
 
 // How many bytes of each were read, and how many written.
 pub struct Ends {
@@ -62,7 +62,7 @@ pub fn write_super(a: &[u8], b: &[u8], out: &mut [u8], left: usize, reading: u64
             wrote: e.wrote,
         };
     }
-    out[0] = commands::ANY_TYPE;
+    out[0] = readings::nearest(true, c, d, reading);
     Ends {
         first: types::walk::skip(a, left),
         second: types::walk::skip(b, left),
@@ -259,7 +259,7 @@ fn write_sub(a: &[u8], b: &[u8], out: &mut [u8], left: usize, reading: u64) -> E
             wrote: e.wrote,
         };
     }
-    out[0] = commands::NULL_TYPE;
+    out[0] = readings::nearest(false, c, d, reading);
     Ends {
         first: types::walk::skip(a, left),
         second: types::walk::skip(b, left),

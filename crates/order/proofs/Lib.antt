@@ -1,6 +1,9 @@
 pub mod Alone
 pub mod Simple
 pub mod Bools
+pub mod Ends
+pub mod Table
+pub mod Packed
 pub mod Conform
 pub mod Bound
 pub mod Answers

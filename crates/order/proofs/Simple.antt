@@ -1,26 +1,23 @@
 -- The laws of an order among the ten simple types, from tests that are computed over them.
 -- Idea: a law over one, two or three simple types is a test at all of them (`every-at`, `every₂-at`, `every₃-at`).
--- Index: `Tested`, `laws-of`, `flat-laws`, `fixed-laws`, `reading-laws` (the laws of an order); `scmp-refl`, `scmp-trans`, `scmp-bottom`, `scmp-top`, `scmp-bound`, `top-bottom` (in a direction);
+-- Index: `Tested`, `laws-of`, `flat-laws`, `fixed-laws` (the laws of an order); `scmp-refl`, `scmp-trans`, `scmp-bottom`, `scmp-top`, `scmp-bound`, `top-bottom` (in a direction);
 -- `same-eq`; `temporal-code`; `and-left`, `and-right`, `and-both`, `imp-use`, `beq-use` (tests).
 -- Assumes nothing.
-use Prim.Native.Nat.{_+_, ℕ, _%_}
+use Prim.Native.Nat.{_+_}
 use mathlib.Core.Path.{_≡_, refl, sym, _∙_, ap}
-use mathlib.Core.Bool.{Bool, true, false, not, _&&_, _||_, Bool·beq, false≢true, true≢false}
+use mathlib.Core.Bool.{Bool, true, false, cond, _&&_, _||_, Bool·beq, false≢true, true≢false}
 use mathlib.Core.List.{List, [], _∷_}
 use lib.Dec.{eqb}
 use borrow.Author.Tests.{eqb-true}
 use Rattle.form.specs.Trees.{Simple, any, boolean, number, string, date, time, dateTime, daysAndTime, yearsAndMonths, null, code, decode, Temporal, on-date, at-time, at-dateTime, for-daysAndTime}
 use Rattle.form.specs.Trees.{for-yearsAndMonths, codeTemporal}
 use Rattle.form.proofs.ExactTypes.{decode-code}
-use Rattle.order.specs.Order.{same, Dir, up, down, Order, top, bottom, scmp, sbound, Laws, flatOrder, fixed, orderOf}
+use Rattle.order.specs.Order.{same, Dir, up, down, Order, top, bottom, scmp, sbound, Laws, flatOrder, fixed}
+use Rattle.order.specs.Table.{simples, allOf, anyOf, first, every, exists, imp}
 use Rattle.order.specs.Values.{temporalType}
 
 pub same-eq : (s t : Simple) → same s t ≡ true → s ≡ t
 same-eq s t e = sym (decode-code s) ∙ ap decode (eqb-true (code s) (code t) e) ∙ decode-code t
-
--- The laws as a test that is computed over the ten types.
-abbrev pub simples : List Simple
-simples = any ∷ boolean ∷ number ∷ string ∷ date ∷ time ∷ dateTime ∷ daysAndTime ∷ yearsAndMonths ∷ null ∷ []
 
 pub data In (s : Simple) : List Simple → Type 0 where
   here : {xs : List Simple} → In s (s ∷ xs)
@@ -38,13 +35,6 @@ in-simples daysAndTime = there (there (there (there (there (there (there here)))
 in-simples yearsAndMonths = there (there (there (there (there (there (there (there here)))))))
 in-simples null = there (there (there (there (there (there (there (there (there here))))))))
 
-abbrev pub all-of : (Simple → Bool) → List Simple → Bool
-all-of f [] = true
-all-of f (s ∷ xs) = f s && all-of f xs
-
-abbrev pub every : (Simple → Bool) → Bool
-every f = all-of f simples
-
 pub and-left : (a b : Bool) → a && b ≡ true → a ≡ true
 and-left true b e = refl
 and-left false b e = e
@@ -57,9 +47,36 @@ pub and-both : (a b : Bool) → a ≡ true → b ≡ true → a && b ≡ true
 and-both true b p q = q
 and-both false b p q = p
 
-all-at : (f : Simple → Bool) (s : Simple) (xs : List Simple) → In s xs → all-of f xs ≡ true → f s ≡ true
-all-at f s (x ∷ xs) here e = and-left (f s) (all-of f xs) e
-all-at f s (x ∷ xs) (there i) e = all-at f s xs i (and-right (f x) (all-of f xs) e)
+all-at : (f : Simple → Bool) (s : Simple) (xs : List Simple) → In s xs → allOf f xs ≡ true → f s ≡ true
+all-at f s (x ∷ xs) here e = and-left (f s) (allOf f xs) e
+all-at f s (x ∷ xs) (there i) e = all-at f s xs i (and-right (f x) (allOf f xs) e)
+
+all-from : (f : Simple → Bool) → ((s : Simple) → f s ≡ true) → (xs : List Simple) → allOf f xs ≡ true
+all-from f h [] = refl
+all-from f h (x ∷ xs) = and-both (f x) (allOf f xs) (h x) (all-from f h xs)
+
+pub every-from : (f : Simple → Bool) → ((s : Simple) → f s ≡ true) → every f ≡ true
+every-from f h = all-from f h simples
+
+-- one that passes is found
+pub first-finds : (f : Simple → Bool) (xs : List Simple) → anyOf f xs ≡ true → f (first f xs) ≡ true
+first-finds f [] e = absurd (false≢true e)
+first-finds f (s ∷ xs) e = step (f s) refl (λ h. first-finds f xs h) e
+  where
+    step : (q : Bool) → f s ≡ q → (anyOf f xs ≡ true → f (first f xs) ≡ true) → q || anyOf f xs ≡ true → f (cond q s (first f xs)) ≡ true
+    step true h ih p = h
+    step false h ih p = ih p
+
+any-from : (f : Simple → Bool) (s : Simple) (xs : List Simple) → In s xs → f s ≡ true → anyOf f xs ≡ true
+any-from f s (x ∷ xs) here e = ap (λ q. q || anyOf f xs) e
+any-from f s (x ∷ xs) (there i) e = step (f x) (any-from f s xs i e)
+  where
+    step : (q : Bool) → anyOf f xs ≡ true → q || anyOf f xs ≡ true
+    step true h = refl
+    step false h = h
+
+pub exists-from : (f : Simple → Bool) (s : Simple) → f s ≡ true → exists f ≡ true
+exists-from f s e = any-from f s simples (in-simples s) e
 
 pub every-at : (f : Simple → Bool) → every f ≡ true → (s : Simple) → f s ≡ true
 every-at f e s = all-at f s simples (in-simples s) e
@@ -69,10 +86,6 @@ every₂-at f e s t = every-at (f s) (every-at (λ x. every (λ y. f x y)) e s) 
 
 pub every₃-at : (f : Simple → Simple → Simple → Bool) → every (λ s. every (λ t. every (λ u. f s t u))) ≡ true → (s t u : Simple) → f s t u ≡ true
 every₃-at f e s t u = every-at (f s t) (every₂-at (λ x y. every (λ z. f x y z)) e s t) u
-
--- an implication between tests
-abbrev pub imp : Bool → Bool → Bool
-imp a b = not a || b
 
 pub imp-use : (a b : Bool) → imp a b ≡ true → a ≡ true → b ≡ true
 imp-use true b e p = e
@@ -133,10 +146,6 @@ flat-laws b =
 
 pub fixed-laws : Laws fixed
 fixed-laws = flat-laws false
-
--- those of a reading's order
-pub reading-laws : (reading : ℕ) → Laws (orderOf reading)
-reading-laws reading = flat-laws (eqb (reading % 2) 1)
 
 -- The laws in a direction, as the theory uses them.
 module _ (O : Order) (L : Laws O) where

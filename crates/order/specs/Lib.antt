@@ -1,4 +1,5 @@
 pub mod Order
+pub mod Table
 pub mod Types
 pub mod Ascending
 pub mod Size

@@ -1,12 +1,13 @@
 -- An order among the ten simple types, and what it must obey.
 -- Everything about types is stated over an `Order`. Two stand here: `fixed`, document 01's relation, and `strictOrder`, which has the same simple types and
--- judges every function by its result, as DMN does (document 02, K8). The code has either as a number, its reading (`orderOf`).
+-- judges every function by its result, as DMN does (document 02, K8). A members' table gives others (K9, Table.antt). The code has each as a number, its reading
+-- (`orderOf`).
 -- Assumes nothing.
 use mathlib.Core.Path.{_≡_}
 use mathlib.Core.Bool.{Bool, true, false, cond, _&&_, _||_}
-use lib.Dec.{eqb}
-use Prim.Native.Nat.{ℕ, _%_}
-use Rattle.form.specs.Trees.{Simple, any, null, code}
+use lib.Dec.{eqb, ltb, leb}
+use Prim.Native.Nat.{ℕ, zero, suc, _+_, _-_, _*_, _/_, _%_, _^_}
+use Rattle.form.specs.Trees.{Simple, any, null, code, decode}
 
 -- equal simple types, as a test
 abbrev pub same : Simple → Simple → Bool
@@ -23,6 +24,11 @@ flip down = up
 abbrev pub pick {ℓ} : {A : Type ℓ} → Dir → A → A → A
 pick up x y = x
 pick down x y = y
+
+-- the direction of a call: the supertype, or the subtype
+abbrev pub toward : Bool → Dir
+toward true = up
+toward false = down
 
 -- conformance of simple types, their common supertype and their common subtype
 pub record Order : Type 0 where
@@ -82,6 +88,47 @@ fixed = flatOrder false
 abbrev pub strictOrder : Order
 strictOrder = flatOrder true
 
--- A reading as the number that the walks and builders are handed: bit 0 says whether it is strict. 0 is document 01's, 1 the strict one.
+-- ---- A reading is the number that the walks and builders are handed. Bit 0 says whether it is strict: 0 is document 01's reading, 1 the strict one. A table (K9) has
+-- a bit for each two of the eight types between Null and Any, 21 to 28; all else is the same for every table that loads. Simple types go by their codes, 0 to 9.
+
+-- bit k of a number
+abbrev pub bit : ℕ → ℕ → Bool
+bit n k = eqb (n / 2 ^ k % 2) 1
+
+-- one of the eight types between Null and Any
+abbrev pub isInner : ℕ → Bool
+isInner i = leb 1 i && leb i 8
+
+-- a table has i below j: row i, column j, both counted from 21, at bit 8 row + column
+abbrev pub related : ℕ → ℕ → ℕ → Bool
+related reading i j = cond (ltb reading 2) false (isInner i && (isInner j && bit reading (8 * (i - 1) + (j - 1))))
+
+-- i conforms to j: by the table, or i is Null, or j is Any, or they are equal
+abbrev pub below : ℕ → ℕ → ℕ → Bool
+below reading i j = related reading i j || (eqb i 9 || (eqb j 0 || eqb i j))
+
+abbrev pub belowIn : ℕ → Dir → ℕ → ℕ → Bool
+belowIn reading d i j = pick d (below reading i j) (below reading j i)
+
+-- of the k numbers from u on, each that is better than the best before it takes its place
+unfoldable pub narrowed : (ℕ → ℕ → Bool) → ℕ → ℕ → ℕ → ℕ
+narrowed better best u zero = best
+narrowed better best u (suc k) = narrowed better (cond (better u best) u best) (suc u) k
+
+-- u is a common bound of i and j, and below the best so far
+abbrev pub closer : ℕ → Dir → ℕ → ℕ → ℕ → ℕ → Bool
+closer reading d i j u best = belowIn reading d i u && (belowIn reading d j u && belowIn reading d u best)
+
+-- the common bound of two of the eight types that a table gives; without a table, and of all others, the greatest type in the direction
+abbrev pub nearest : ℕ → Dir → ℕ → ℕ → ℕ
+nearest reading d i j = cond (ltb reading 2) (code (top d)) (cond (isInner i && isInner j) (narrowed (closer reading d i j) (code (top d)) 1 8) (code (top d)))
+
+-- the order of a reading; `orderOf 0` is `fixed`, `orderOf 1` is `strictOrder`, and that of a table that loads is the table's (Table.antt)
 abbrev pub orderOf : ℕ → Order
-orderOf reading = flatOrder (eqb (reading % 2) 1)
+orderOf reading =
+    record {
+      strict = eqb (reading % 2) 1;
+      sle = λ s t. below reading (code s) (code t);
+      sjoin = λ s t. cond (same s null) t (cond (same t null) s (cond (same s t) s (decode (nearest reading up (code s) (code t)))));
+      smeet = λ s t. cond (same s any) t (cond (same t any) s (cond (same s t) s (decode (nearest reading down (code s) (code t)))));
+    }

@@ -8,7 +8,7 @@ mod builder;
 
 use form::Checked;
 use form::Written;
-use types::readings;
+use tables::readings;
 
 // `FeelType::get_value_checked`. Refusals 6 to 10 of the type, 1 to 5 of the value, 15, 17, 18; 17 is never met.
 pub fn get_value_checked(t: &[u8], v: &[u8], out: &mut [u8]) -> Written

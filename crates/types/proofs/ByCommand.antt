@@ -2,8 +2,8 @@
 -- Index: `le-null`, `le-any`, `le-other`, `le-leaves` (by the commands); `simple-leaf`, `simple-small`, `same-simple` (a simple type); `le-funs`, `le-counts`, `le-cons`, `sig-count` (functions);
 -- `eq-false`.
 -- Assumes nothing.
-use Prim.Native.Nat.{ℕ, zero, suc, _+_, _≤_}
-use mathlib.Core.Path.{_≡_, refl, sym, ap, _∙_}
+use Prim.Native.Nat.{ℕ, zero, suc, _+_, _-_, _≤_}
+use mathlib.Core.Path.{_≡_, refl, sym, ap, ap₂, _∙_}
 use mathlib.Core.Bool.{Bool, true, false, not, _&&_, _||_, true≢false}
 use mathlib.Core.List.{List}
 use native.Mathlib.Omega.{arith}
@@ -14,13 +14,14 @@ use mathlib.Core.Option.{some}
 use Rattle.form.specs.Trees.{Simple, any, null, Ty, leaf, built, list, range, context, function, Tys, no-params, param, code, decode, simple}
 use Rattle.form.specs.Form.{countTys}
 use Rattle.form.proofs.ExactTypes.{decode-code, code-small}
-use Rattle.order.specs.Order.{Order, Laws, flatOrder}
+use Rattle.order.specs.Order.{Order, orderOf, related}
 use Rattle.order.specs.Types.{le, les, cmp, empty, ignores}
 use Rattle.order.specs.Size.{size}
 use Rattle.order.specs.Document.{eqTy}
 use Rattle.order.proofs.Bools.{and-assoc}
 use Rattle.order.proofs.Equal.{eq-ty-same}
 use Rattle.order.proofs.Simple.{and-right}
+use Rattle.order.proofs.Ends.{Ends, reading-ends, related-end, end-related}
 use Rattle.order.proofs.Sentences.{le-functions}
 use Rattle.types.specs.At.{Sig, sig, cons, funOf, sigAt}
 use Rattle.types.specs.Conform.{ignoresAt, leSig}
@@ -48,7 +49,7 @@ eq-false t u h = go (eqTy t u) refl
     go false e = refl
 
 -- Null and Any, and a simple type with itself, under every order
-module _ {O : Order} (L : Laws O) where
+module _ {O : Order} (L : Ends O) where
   pub le-null : (t u : Ty) → cmd t ≡ 41 → (size t ≡ 1) × (le O t u ≡ true)
   unfolding cmp size
   le-null (leaf s) (leaf t) e = (refl, ap (λ x. O .sle x t) (same-simple s null e) ∙ L .null-least t)
@@ -71,28 +72,44 @@ module _ {O : Order} (L : Laws O) where
   unfolding cmp
   le-leaves s t e = ap (λ x. O .sle x t) e ∙ L .reflexive t
 
--- two other commands, where simple types conform only to themselves
-pub le-other : (strict : Bool) (t u : Ty) → (cmd t ≡ cmd u → ⊥) → (cmd t ≡ 41 → ⊥) → (cmd u ≡ 32 → ⊥) → le (flatOrder strict) t u ≡ false
+-- two other commands: what a table says of two of 21 to 28, otherwise no
+or-false : (q : Bool) → q || false ≡ q
+or-false true = refl
+or-false false = refl
+
+pub le-other : (reading : ℕ) (t u : Ty) → (cmd t ≡ cmd u → ⊥) → (cmd t ≡ 41 → ⊥) → (cmd u ≡ 32 → ⊥) → le (orderOf reading) t u ≡ related reading (cmd t - 32) (cmd u - 32)
 unfolding cmp
-le-other g (leaf s) (leaf t) d n a = simp (ne-eqb (code s) 9 (λ e. n (omega arith)), ne-eqb (code t) 0 (λ e. a (omega arith)), ne-eqb (code s) (code t) (λ e. d (omega arith)))
-le-other g (leaf s) (built y) d n a = simp (ne-eqb (code s) 9 (λ e. n (omega arith)))
-le-other g (built x) (leaf t) d n a = simp (ne-eqb (code t) 0 (λ e. a (omega arith)), ne-eqb 0 (code t) (λ e. a (omega arith)))
+le-other g (leaf s) (leaf t) d n a =
+    let i : 32 + code s - 32 ≡ code s = omega arith in
+    let j : 32 + code t - 32 ≡ code t = omega arith in
+    ap (λ q. related g (code s) (code t) || (q || (eqb (code t) 0 || eqb (code s) (code t)))) (ne-eqb (code s) 9 (λ e. n (omega arith)))
+    ∙ ap (λ q. related g (code s) (code t) || (q || eqb (code s) (code t))) (ne-eqb (code t) 0 (λ e. a (omega arith)))
+    ∙ ap (λ q. related g (code s) (code t) || q) (ne-eqb (code s) (code t) (λ e. d (omega arith)))
+    ∙ or-false (related g (code s) (code t)) ∙ sym (ap₂ (related g) i j)
+le-other g (leaf s) (built (list b)) d n a = reading-ends g .to-null s ∙ ne-eqb (code s) 9 (λ e. n (omega arith)) ∙ sym (related-end g (32 + code s - 32) 10 refl)
+le-other g (leaf s) (built (range b)) d n a = reading-ends g .to-null s ∙ ne-eqb (code s) 9 (λ e. n (omega arith)) ∙ sym (related-end g (32 + code s - 32) 11 refl)
+le-other g (leaf s) (built (context b)) d n a = reading-ends g .to-null s ∙ ne-eqb (code s) 9 (λ e. n (omega arith)) ∙ sym (related-end g (32 + code s - 32) 12 refl)
+le-other g (leaf s) (built (function pb b)) d n a = reading-ends g .to-null s ∙ ne-eqb (code s) 9 (λ e. n (omega arith)) ∙ sym (related-end g (32 + code s - 32) 13 refl)
+le-other g (built (list a)) (leaf t) d n x = reading-ends g .from-any t ∙ ne-eqb (code t) 0 (λ e. x (omega arith)) ∙ sym (end-related g 10 (32 + code t - 32) refl)
+le-other g (built (range a)) (leaf t) d n x = reading-ends g .from-any t ∙ ne-eqb (code t) 0 (λ e. x (omega arith)) ∙ sym (end-related g 11 (32 + code t - 32) refl)
+le-other g (built (context a)) (leaf t) d n x = reading-ends g .from-any t ∙ ne-eqb (code t) 0 (λ e. x (omega arith)) ∙ sym (end-related g 12 (32 + code t - 32) refl)
+le-other g (built (function pa a)) (leaf t) d n x = reading-ends g .from-any t ∙ ne-eqb (code t) 0 (λ e. x (omega arith)) ∙ sym (end-related g 13 (32 + code t - 32) refl)
 le-other g (built (list a)) (built (list b)) d n x = absurd (d refl)
-le-other g (built (list a)) (built (range b)) d n x = refl
-le-other g (built (list a)) (built (context b)) d n x = refl
-le-other g (built (list a)) (built (function q b)) d n x = refl
-le-other g (built (range a)) (built (list b)) d n x = refl
+le-other g (built (list a)) (built (range b)) d n x = sym (end-related g 10 11 refl)
+le-other g (built (list a)) (built (context b)) d n x = sym (end-related g 10 12 refl)
+le-other g (built (list a)) (built (function pb b)) d n x = sym (end-related g 10 13 refl)
+le-other g (built (range a)) (built (list b)) d n x = sym (end-related g 11 10 refl)
 le-other g (built (range a)) (built (range b)) d n x = absurd (d refl)
-le-other g (built (range a)) (built (context b)) d n x = refl
-le-other g (built (range a)) (built (function q b)) d n x = refl
-le-other g (built (context a)) (built (list b)) d n x = refl
-le-other g (built (context a)) (built (range b)) d n x = refl
+le-other g (built (range a)) (built (context b)) d n x = sym (end-related g 11 12 refl)
+le-other g (built (range a)) (built (function pb b)) d n x = sym (end-related g 11 13 refl)
+le-other g (built (context a)) (built (list b)) d n x = sym (end-related g 12 10 refl)
+le-other g (built (context a)) (built (range b)) d n x = sym (end-related g 12 11 refl)
 le-other g (built (context a)) (built (context b)) d n x = absurd (d refl)
-le-other g (built (context a)) (built (function q b)) d n x = refl
-le-other g (built (function p a)) (built (list b)) d n x = refl
-le-other g (built (function p a)) (built (range b)) d n x = refl
-le-other g (built (function p a)) (built (context b)) d n x = refl
-le-other g (built (function p a)) (built (function q b)) d n x = absurd (d refl)
+le-other g (built (context a)) (built (function pb b)) d n x = sym (end-related g 12 13 refl)
+le-other g (built (function pa a)) (built (list b)) d n x = sym (end-related g 13 10 refl)
+le-other g (built (function pa a)) (built (range b)) d n x = sym (end-related g 13 11 refl)
+le-other g (built (function pa a)) (built (context b)) d n x = sym (end-related g 13 12 refl)
+le-other g (built (function pa a)) (built (function pb b)) d n x = absurd (d refl)
 
 -- ---- functions
 abbrev pub count-sig : Sig → ℕ

@@ -23,7 +23,8 @@ use Rattle.order.specs.Types.{allFields}
 use Rattle.order.specs.Ascending.{Asc, AscFields}
 use Rattle.order.specs.Size.{size, sizeFields}
 use Rattle.order.specs.Document.{eqTy, eqFields, nullOrSame, instanceBuilt, isInstanceOf}
-use Rattle.order.proofs.Simple.{fixed-laws, and-both}
+use Rattle.order.proofs.Simple.{and-both}
+use Rattle.order.proofs.Ends.{reading-ends}
 use Rattle.order.proofs.Size.{size-positive}
 use Rattle.order.proofs.Equal.{eq-ty-self, eq-fields-same}
 use Rattle.types.specs.At.{typeAt, fieldsAt, sizeAt}
@@ -215,7 +216,7 @@ module _ (a b : List ℕ) (c : getD a 0 0 ≡ 0x2A) where
     unfolding size
     list-over h n = no-answer (λ t u e f.
         let L = both-lists t u e f in
-        let z = le-any fixed-laws (L .y) (L .y) (L .inner ∙ h) .0 in
+        let z = le-any (reading-ends 0) (L .y) (L .y) (L .inner ∙ h) .0 in
         let g = whole-type .fills b u f in
         absurd (n (omega (arith, g .0, ap size (L .is-b)))))
 

@@ -1,6 +1,6 @@
 -- Two types read and compared at once: what each return of the walks owes. What is left of both decides, whether it is read or not.
 -- Index: `sized`, `unsized`, `two-read` (`skip_both`); `simple-none`, `simple-both`, `simple-apart`, `simple-pair` (`same_simple`); `never`, `fails`, `no-level`, `no-a`, `no-b`, `no-command`
--- (no, by any test); `met-simple`, `met-null`, `met-any`, `met-list`, `met-range`, `met-context`, `met-function`, `no-other`, `no-counts` (`conforms`);
+-- (no, by any test); `met-simple`, `met-null`, `met-any`, `met-list`, `met-range`, `met-context`, `met-function`, `met-table`, `no-other`, `no-counts` (`conforms`);
 -- `behind-yes`, `behind-no` (`conform_inner`); `SigGo`, `sig-start`, `sig-turn`, `sig-apart`, `sig-done`, `compared-strict`, `compared-some`, `passed-over` (`conform_sig`).
 -- Assumes nothing.
 use Prim.Native.Nat.{ℕ, _+_, _-_, _<_, _≤_}
@@ -19,7 +19,7 @@ use Rattle.form.specs.Read.{readT}
 use Rattle.form.specs.Walks.{Short}
 use Rattle.form.proofs.Runs.{rest, first-at}
 use Rattle.form.proofs.ExactTypes.{code-small}
-use Rattle.order.specs.Order.{Order, Laws, flatOrder}
+use Rattle.order.specs.Order.{Order, orderOf, related}
 use Rattle.order.specs.Types.{le, cmp}
 use Rattle.order.specs.Ascending.{AscFields}
 use Rattle.order.specs.Size.{size, sizeFields}
@@ -29,6 +29,8 @@ use Rattle.order.proofs.Simple.{and-left, and-right}
 use Rattle.order.proofs.Bools.{and-false}
 use Rattle.order.proofs.Equal.{eq-ty-same, eq-ty-self}
 use Rattle.order.proofs.Size.{size-positive}
+use Rattle.order.proofs.Ends.{Ends}
+use Rattle.tables.proofs.Related.{related-inner}
 use Rattle.types.specs.At.{typeAt, fieldsAt, sig, cons, funOf, sizeSig, sigAt, sizeAt}
 use Rattle.types.specs.Conform.{Conform, judge, conformBy, typesBy, conformOf, entries, ignoresAt, leSig, anyTwo, sameSimple, addSizes, Met}
 use Rattle.types.proofs.Reading.{type-told, cmd, cmd-is, some-byte, some-level, is-ctx, is-fun, fields-good, size-cons, size-fun}
@@ -142,7 +144,7 @@ module _ (l : ℕ) (a : List ℕ) (at : ℕ) (b : List ℕ) (bt n room : ℕ) (h
       ∙ ap (λ q. judge q (size (P .x)) (size (leaf d))) (ap₂ _&&_ (P .leafy) (ap (eqTy (P .x)) (sym same) ∙ eq-ty-self (P .x)))) (P .is) (P .is ∙ ap size same)
 
 -- they conform to each other
-pub simple-pair : {O : Order} → Laws O → (l : ℕ) (a : List ℕ) (at : ℕ) (b : List ℕ) (bt n : ℕ) → Met (typesBy sameSimple (typeAt l (drop at a)) (typeAt l (drop bt b))) n n → (n ≡ 0 → ⊥)
+pub simple-pair : {O : Order} → Ends O → (l : ℕ) (a : List ℕ) (at : ℕ) (b : List ℕ) (bt n : ℕ) → Met (typesBy sameSimple (typeAt l (drop at a)) (typeAt l (drop bt b))) n n → (n ≡ 0 → ⊥)
     → Pair (readable-type l) (readable-type l) (le O) a at b bt n n
 simple-pair {O} L l a at b bt n w z =
     let B = taken size size sameSimple (typeAt l (drop at a)) (typeAt l (drop bt b)) n n (yes-of (typesBy sameSimple (typeAt l (drop at a)) (typeAt l (drop bt b))) n n w z) in
@@ -160,9 +162,28 @@ simple-pair {O} L l a at b bt n w z =
 
 -- ---- the returns of `conforms`
 module _ (l : ℕ) (a b : List ℕ) (t : ℕ) where
-  pub no-other : (strict : Bool) → (getD a 0 0 ≡ getD b 0 0 → ⊥) → (getD a 0 0 ≡ 41 → ⊥) → (getD b 0 0 ≡ 32 → ⊥) → Met (conformOf (flatOrder strict) (typeAt l a) (typeAt l b)) 0 t
-  no-other strict d n o = fails (le (flatOrder strict)) l a b t (λ x y e f. le-other strict x y (λ z. d (sym (cmd-is l a x e) ∙ z ∙ cmd-is l b y f)) (λ z. n (sym (cmd-is l a x e) ∙ z))
-      (λ z. o (sym (cmd-is l b y f) ∙ z)))
+  by-table : (reading : ℕ) → (getD a 0 0 ≡ getD b 0 0 → ⊥) → (getD a 0 0 ≡ 41 → ⊥) → (getD b 0 0 ≡ 32 → ⊥) → (x y : Ty) → typeAt l a ≡ some x → typeAt l b ≡ some y
+      → le (orderOf reading) x y ≡ related reading (getD a 0 0 - 32) (getD b 0 0 - 32)
+  by-table reading d n o x y e f =
+      le-other reading x y (λ z. d (sym (cmd-is l a x e) ∙ z ∙ cmd-is l b y f)) (λ z. n (sym (cmd-is l a x e) ∙ z)) (λ z. o (sym (cmd-is l b y f) ∙ z))
+      ∙ ap₂ (λ (i j : ℕ). related reading (i - 32) (j - 32)) (cmd-is l a x e) (cmd-is l b y f)
+
+  pub no-other : (reading : ℕ) → (getD a 0 0 ≡ getD b 0 0 → ⊥) → (getD a 0 0 ≡ 41 → ⊥) → (getD b 0 0 ≡ 32 → ⊥) → (q : Bool)
+      → q ≡ related reading (getD a 0 0 - 32) (getD b 0 0 - 32) → q ≡ false → Met (conformOf (orderOf reading) (typeAt l a) (typeAt l b)) 0 t
+  no-other reading d n o q r h = fails (le (orderOf reading)) l a b t (λ x y e f. by-table reading d n o x y e f ∙ sym r ∙ h)
+
+  -- a table has one below the other: both are simple
+  pub met-table : (reading : ℕ) → 0 < l → 0 < length a → 0 < length b → (getD a 0 0 ≡ getD b 0 0 → ⊥) → (getD a 0 0 ≡ 41 → ⊥) → (getD b 0 0 ≡ 32 → ⊥) → (q : Bool)
+      → q ≡ related reading (getD a 0 0 - 32) (getD b 0 0 - 32) → q ≡ true → Met (conformOf (orderOf reading) (typeAt l a) (typeAt l b)) 1 1
+  unfolding size
+  met-table reading p ha hb d n o q r h =
+      let i = related-inner reading (getD a 0 0) (getD b 0 0) (sym r ∙ h) in
+      let x = decode (getD a 0 0 - 32) in
+      let y = decode (getD b 0 0 - 32) in
+      let ea = read-simple l a p ha (omega (arith, i .0 .0)) (omega (arith, i .0 .1)) in
+      let eb = read-simple l b p hb (omega (arith, i .1 .0)) (omega (arith, i .1 .1)) in
+      met-yes (both size size (le (orderOf reading)) (typeAt l a) (typeAt l b) (leaf x) (leaf y) ea eb
+      ∙ ap (λ z. judge z 1 1) (by-table reading d n o (leaf x) (leaf y) ea eb ∙ sym r ∙ h)) refl refl
 
   pub no-counts : (O : Order) → getD a 0 0 ≡ 45 → getD b 0 0 ≡ 45 → (getD a 1 0 ≡ getD b 1 0 → ⊥) → Met (conformOf O (typeAt l a) (typeAt l b)) 0 t
   no-counts O c d n = fails (le O) l a b t (λ x y e f.
@@ -172,7 +193,7 @@ module _ (l : ℕ) (a b : List ℕ) (t : ℕ) where
       ∙ le-counts O (g .f) (h .f) (λ z. n (sym (sig-count (l - 1) (getD a 1 0) (drop 2 a) (g .f) (g .read)) ∙ z ∙ sig-count (l - 1) (getD b 1 0) (drop 2 b) (h .f) (h .read))))
 
 -- one is Null, or the other Any: both are only passed over
-module _ {O : Order} (L : Laws O) (l : ℕ) (a b : List ℕ) (r t : ℕ) (m : MetAt (readable-type l) (readable-type l) anyTwo a 0 b 0 r t) where
+module _ {O : Order} (L : Ends O) (l : ℕ) (a b : List ℕ) (r t : ℕ) (m : MetAt (readable-type l) (readable-type l) anyTwo a 0 b 0 r t) where
   met-ends : ((x y : Ty) → typeAt l a ≡ some x → typeAt l b ≡ some y → le O x y ≡ true) → Met (conformOf O (typeAt l a) (typeAt l b)) r t
   met-ends f = met-as (typesBy anyTwo (typeAt l a) (typeAt l b)) r t (same-test size size (le O) anyTwo (typeAt l a) (typeAt l b) f)
       (met-here (readable-type l) (readable-type l) anyTwo a 0 b 0 r t m)
@@ -183,7 +204,7 @@ module _ {O : Order} (L : Laws O) (l : ℕ) (a b : List ℕ) (r t : ℕ) (m : Me
   pub met-any : getD b 0 0 ≡ 32 → Met (conformOf O (typeAt l a) (typeAt l b)) r t
   met-any c = met-ends (λ x y e f. le-any L x y (cmd-is l b y f ∙ c) .1)
 
-pub met-simple : {O : Order} → Laws O → (l : ℕ) (a b : List ℕ) → 0 < l → 0 < length a → 0 < length b → getD a 0 0 ≡ getD b 0 0 → 32 ≤ getD a 0 0 → getD a 0 0 ≤ 41
+pub met-simple : {O : Order} → Ends O → (l : ℕ) (a b : List ℕ) → 0 < l → 0 < length a → 0 < length b → getD a 0 0 ≡ getD b 0 0 → 32 ≤ getD a 0 0 → getD a 0 0 ≤ 41
     → Met (conformOf O (typeAt l a) (typeAt l b)) 1 1
 unfolding size
 met-simple {O} L l a b p ha hb e i j =

@@ -9,6 +9,7 @@ use Rattle.form.specs.Read.{readType}
 use Rattle.order.specs.Order.{Order, fixed, strictOrder, same}
 use Rattle.order.specs.Types.{le}
 use Rattle.order.specs.Document.{isInstanceOf}
+use Rattle.tables.specs.Calls.{loadTable}
 
 -- conformance of two types under an order: self, then the target
 unfoldable pub isConformantBy : Order → List ℕ → List ℕ → Outcome Bool
@@ -24,6 +25,12 @@ isConformant a b = isConformantBy fixed a b
 -- K8: as DMN has it
 abbrev pub strictIsConformant : List ℕ → List ℕ → Outcome Bool
 strictIsConformant a b = isConformantBy strictOrder a b
+
+-- K9: over a members' table, which is refused before all else
+abbrev pub tableIsConformant : List ℕ → List ℕ → List ℕ → Outcome Bool
+tableIsConformant table a b = do
+  order ← loadTable table
+  isConformantBy order a b
 
 -- both are read, and the answer is no: what is left to say where they do not conform
 unfoldable pub readThenNo : List ℕ → List ℕ → Outcome Bool

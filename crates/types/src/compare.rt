@@ -8,12 +8,12 @@ ghost use Rattle.order.specs.Size.{sizeFields};
 ghost use Rattle.types.specs.At.{typeAt, fieldsAt, sigAt, sizeSig};
 ghost use Rattle.types.specs.Conform.{conformOf, conformBy, typesBy, entries, ignoresAt, leSig, anyTwo, sameSimple, addSizes, Met};
 ghost use Rattle.types.specs.Calls.{isYes, isConformantBy};
-use crate::readings;
 use crate::walk;
 use form::commands;
 use form::limits::MOST_BYTES;
 use form::limits::NAME_WIDTH;
 use form::limits::TYPE_LEVELS;
+use tables::readings;
 
 // ---- conformance: both are read and compared at once. The answer is the size of the first, with that of the second left in `other`,
 // where both are read and the first conforms to the second, and 0 where not.
@@ -73,6 +73,10 @@ pub fn conforms(a: &[u8], b: &[u8], left: usize, other: &mut usize, reading: u64
         }
         if f == commands::ANY_TYPE {
             return skip_both(&a[0..], &b[0..], left, other);
+        }
+        if readings::is_related(e, f, reading) {
+            *other = 1;
+            return 1;
         }
         return 0;
     }

@@ -2,16 +2,18 @@
 ghost use mathlib.Core.Path.{_≡_};
 ghost use Prim.Native.Nat.{_<_};
 ghost use Rattle.form.specs.Answers.{verdict};
-ghost use Rattle.types.specs.Calls.{isConformant, strictIsConformant, readThenNo, instanceOf, isSimpleBuiltInType, isNull};
+ghost use Rattle.types.specs.Calls.{isConformant, strictIsConformant, tableIsConformant, readThenNo, instanceOf, isSimpleBuiltInType, isNull};
 
 pub mod compare;
 mod instance;
-pub mod readings;
 pub mod walk;
 
 use form::Checked;
 use form::Verdict;
 use form::commands;
+use tables::load;
+use tables::load::Loaded;
+use tables::readings;
 
 // `FeelType::is_conformant`.
 pub fn is_conformant(a: &[u8], b: &[u8]) -> Verdict
@@ -31,6 +33,21 @@ pub fn strict_is_conformant(a: &[u8], b: &[u8]) -> Verdict
         return Verdict::Yes;
     }
     refuse(a, b)
+}
+
+// Conformance of types over a members' table, which is refused first: 26, 27, 28.
+pub fn table_is_conformant(table: &[u8], a: &[u8], b: &[u8]) -> Verdict
+    ensures { λ r. ⌜ verdict r ≡ tableIsConformant (now (table .entry)) (now (a .entry)) (now (b .entry)) ⌝ }
+{
+    match load::load(table) {
+        Loaded::Refused(n) => Verdict::Refused(n),
+        Loaded::Reading(reading) => {
+            if compare::passes(a, b, reading) {
+                return Verdict::Yes;
+            }
+            refuse(a, b)
+        }
+    }
 }
 
 // Where the walk does not say yes: the readers' refusals, then no.

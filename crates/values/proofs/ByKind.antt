@@ -1,4 +1,4 @@
--- A value against a type by their commands: a value of one kind conforms to no other kind's types but Any, and a null to all.
+-- A value against a type by their commands: a null conforms to all; of another kind's types a value conforms to Any, and a leaf to those that a table has above its own.
 -- Index: `kind`, `kind-is`, `kind-leaf`, `kind-other`, `leaf-is`, `small-is`, `long-is`, `definition-is` (a value that was read, by its command); `kinds-differ`, `to-any` (conformance by kinds);
 -- `short-data`, `leaf-null`, `leaf-same`, `leaf-alike`, `simple-is`, `simple-cmd` (leaves); `held-function`, `counts-differ` (definitions).
 -- Assumes nothing.
@@ -11,18 +11,19 @@ use native.Mathlib.Omega.{arith}
 use lib.ListN.{length, getD, drop}
 use lib.Dec.{eqb}
 use borrow.Author.Tests.{ne-eqb}
-use Rattle.form.specs.Trees.{Simple, any, Ty, leaf, built, list, range, context, function, Tys, no-params, param, code, simple, Leaf, Params, Val, v-leaf, v-range, v-list, v-context, v-function}
+use Rattle.form.specs.Trees.{Simple, any, null, Ty, leaf, built, list, range, context, function, Tys, no-params, param, code, simple, Leaf, Params, Val, v-leaf, v-range, v-list, v-context, v-function}
 use Rattle.form.specs.Trees.{v-built-in, v-type, v-irrelevant, isDataLeaf, isShortLeaf, decodeTemporal}
 use Rattle.form.specs.Limits.{nameWidth}
 use Rattle.form.specs.Form.{countTys}
 use Rattle.form.specs.Outcome.{pick}
 use Rattle.form.proofs.ExactTypes.{code-small}
 use Rattle.form.proofs.ExactValues.{code-decode}
-use Rattle.order.specs.Order.{Dir, up, down, Order, Laws, flat, flatOrder, fixed}
+use Rattle.order.specs.Order.{same, Dir, up, down, Order, flat, fixed, isInner, related, orderOf}
 use Rattle.order.specs.Types.{empty, cmp, cmps}
 use Rattle.order.specs.Size.{size}
-use Rattle.order.specs.Values.{leafType, typesOf, conformsDefinition, conforms}
-use Rattle.order.proofs.Simple.{temporal-code}
+use Rattle.order.specs.Values.{leafType, typesOf, toFunction, conformsDefinition, conforms}
+use Rattle.order.proofs.Simple.{same-eq, temporal-code}
+use Rattle.order.proofs.Ends.{Ends, reading-ends, end-related}
 use Rattle.order.proofs.Alone.{le-functions-down}
 use Rattle.order.proofs.Bools.{and-false}
 use Rattle.types.specs.At.{Sig, sig, funOf}
@@ -130,44 +131,57 @@ module _ (l : ℕ) (s : List ℕ) (x : Val) (e : valueAt l s ≡ some x) where
   definition-is d = definition-of (as-definition l s x e d)
 
 -- ---- conformance by kinds
--- only Any
-not-any : (s : Simple) → (cmd (leaf s) ≡ 32 → ⊥) → flat any s ≡ false
-not-any s a = simp (ne-eqb (code s) 0 (λ e. a (omega arith)), ne-eqb 0 (code s) (λ e. a (omega arith)))
+-- by `related`: a table has a bit for two of 21 to 28 only, so this is no for all but a leaf
+module _ (reading : ℕ) where
+  -- only Any, for what is none of the eight
+  not-any : (i : ℕ) (s : Simple) → isInner i ≡ false → (cmd (leaf s) ≡ 32 → ⊥) → orderOf reading .sle any s ≡ related reading i (cmd (leaf s) - 32)
+  not-any i s h a = reading-ends reading .from-any s ∙ ne-eqb (code s) 0 (λ e. a (omega arith)) ∙ sym (end-related reading i (cmd (leaf s) - 32) h)
 
--- a definition, strict as its function type
-definition-other : (strict : Bool) (ps : Tys) (r u : Ty) → (cmd u ≡ 32 → ⊥) → (cmd (built (function ps r)) ≡ cmd u → ⊥) → conformsDefinition (flatOrder strict) ps r u ≡ false
-definition-other true ps r u a d = le-other true (built (function ps r)) u d (λ e. omega arith) a
-definition-other false ps r (leaf s) a d = not-any s a
-definition-other false ps r (built (list t)) a d = refl
-definition-other false ps r (built (range t)) a d = refl
-definition-other false ps r (built (context fs)) a d = refl
-definition-other false ps r (built (function qs s)) a d = absurd (d refl)
+  -- a definition, strict as its function type
+  definition-other : (ps : Tys) (r u : Ty) → (cmd u ≡ 32 → ⊥) → (cmd (built (function ps r)) ≡ cmd u → ⊥)
+      → conformsDefinition (orderOf reading) ps r u ≡ related reading 13 (cmd u - 32)
+  definition-other ps r u a d = go (orderOf reading .strict)
+    where
+      plain : (w : Ty) → (cmd w ≡ 32 → ⊥) → (45 ≡ cmd w → ⊥) → (f : Tys → Ty → Bool) → toFunction (orderOf reading) w f ≡ related reading 13 (cmd w - 32)
+      plain (leaf s) a d f = not-any 13 s refl a
+      plain (built (list t)) a d f = sym (end-related reading 13 10 refl)
+      plain (built (range t)) a d f = sym (end-related reading 13 11 refl)
+      plain (built (context fs)) a d f = sym (end-related reading 13 12 refl)
+      plain (built (function qs s)) a d f = absurd (d refl)
 
-pub kinds-differ : (strict : Bool) (x : Val) (u : Ty) → (kind x ≡ 41 → ⊥) → (cmd u ≡ 32 → ⊥) → (kind x ≡ cmd u → ⊥) → conforms (flatOrder strict) x u ≡ false
-unfolding conforms
-kinds-differ g (v-leaf f) u n a d = le-other g (leaf (leafType f)) u d n a
-kinds-differ g (v-range i j x y) (leaf s) n a d = not-any s a
-kinds-differ g (v-range i j x y) (built (list t)) n a d = refl
-kinds-differ g (v-range i j x y) (built (range t)) n a d = absurd (d refl)
-kinds-differ g (v-range i j x y) (built (context fs)) n a d = refl
-kinds-differ g (v-range i j x y) (built (function ps r)) n a d = refl
-kinds-differ g (v-list vs) (leaf s) n a d = not-any s a
-kinds-differ g (v-list vs) (built (list t)) n a d = absurd (d refl)
-kinds-differ g (v-list vs) (built (range t)) n a d = refl
-kinds-differ g (v-list vs) (built (context fs)) n a d = refl
-kinds-differ g (v-list vs) (built (function ps r)) n a d = refl
-kinds-differ g (v-context es) (leaf s) n a d = not-any s a
-kinds-differ g (v-context es) (built (list t)) n a d = refl
-kinds-differ g (v-context es) (built (range t)) n a d = refl
-kinds-differ g (v-context es) (built (context fs)) n a d = absurd (d refl)
-kinds-differ g (v-context es) (built (function ps r)) n a d = refl
-kinds-differ g (v-function ps b r) u n a d = definition-other g (typesOf ps) r u a d
-kinds-differ g (v-built-in y) (leaf s) n a d = not-any s a
-kinds-differ g (v-built-in y) (built t) n a d = refl
-kinds-differ g (v-type t) (leaf s) n a d = not-any s a
-kinds-differ g (v-type t) (built u) n a d = refl
-kinds-differ g v-irrelevant (leaf s) n a d = not-any s a
-kinds-differ g v-irrelevant (built t) n a d = refl
+      own : Tys → Ty → Bool
+      own qs s = cmps (orderOf reading) up ps qs && cmp (orderOf reading) up r s
+
+      go : (q : Bool) → cond q (cmp (orderOf reading) up (built (function ps r)) u) (toFunction (orderOf reading) u own) ≡ related reading 13 (cmd u - 32)
+      go true = le-other reading (built (function ps r)) u d (λ e. omega arith) a
+      go false = plain u a d own
+
+  pub kinds-differ : (x : Val) (u : Ty) → (kind x ≡ 41 → ⊥) → (cmd u ≡ 32 → ⊥) → (kind x ≡ cmd u → ⊥)
+      → conforms (orderOf reading) x u ≡ related reading (kind x - 32) (cmd u - 32)
+  unfolding conforms
+  kinds-differ (v-leaf f) u n a d = le-other reading (leaf (leafType f)) u d n a
+  kinds-differ (v-range i j x y) (leaf s) n a d = not-any 11 s refl a
+  kinds-differ (v-range i j x y) (built (list t)) n a d = sym (end-related reading 11 10 refl)
+  kinds-differ (v-range i j x y) (built (range t)) n a d = absurd (d refl)
+  kinds-differ (v-range i j x y) (built (context fs)) n a d = sym (end-related reading 11 12 refl)
+  kinds-differ (v-range i j x y) (built (function ps r)) n a d = sym (end-related reading 11 13 refl)
+  kinds-differ (v-list vs) (leaf s) n a d = not-any 10 s refl a
+  kinds-differ (v-list vs) (built (list t)) n a d = absurd (d refl)
+  kinds-differ (v-list vs) (built (range t)) n a d = sym (end-related reading 10 11 refl)
+  kinds-differ (v-list vs) (built (context fs)) n a d = sym (end-related reading 10 12 refl)
+  kinds-differ (v-list vs) (built (function ps r)) n a d = sym (end-related reading 10 13 refl)
+  kinds-differ (v-context es) (leaf s) n a d = not-any 12 s refl a
+  kinds-differ (v-context es) (built (list t)) n a d = sym (end-related reading 12 10 refl)
+  kinds-differ (v-context es) (built (range t)) n a d = sym (end-related reading 12 11 refl)
+  kinds-differ (v-context es) (built (context fs)) n a d = absurd (d refl)
+  kinds-differ (v-context es) (built (function ps r)) n a d = sym (end-related reading 12 13 refl)
+  kinds-differ (v-function ps b r) u n a d = definition-other (typesOf ps) r u a d
+  kinds-differ (v-built-in y) (leaf s) n a d = not-any 0 s refl a
+  kinds-differ (v-built-in y) (built t) n a d = sym (end-related reading 0 (cmd (built t) - 32) refl)
+  kinds-differ (v-type t) (leaf s) n a d = not-any 0 s refl a
+  kinds-differ (v-type t) (built u) n a d = sym (end-related reading 0 (cmd (built u) - 32) refl)
+  kinds-differ v-irrelevant (leaf s) n a d = not-any 0 s refl a
+  kinds-differ v-irrelevant (built t) n a d = sym (end-related reading 0 (cmd (built t) - 32) refl)
 
 any-type : (u : Ty) → cmd u ≡ 32 → u ≡ leaf any
 any-type (leaf s) e = ap leaf (same-simple s any e)
@@ -176,7 +190,7 @@ any-type (built (range t)) e = absurd (omega arith)
 any-type (built (context fs)) e = absurd (omega arith)
 any-type (built (function ps r)) e = absurd (omega arith)
 
-module _ {O : Order} (L : Laws O) where
+module _ {O : Order} (L : Ends O) where
   either-way : (q : Bool) → cond q (O .sle any any) (O .sle any any) ≡ true
   either-way true = L .reflexive any
   either-way false = L .reflexive any
@@ -216,7 +230,7 @@ leaf-tree (v-built-in x) e = absurd (true≢false (sym e))
 leaf-tree (v-type t) e = absurd (true≢false (sym e))
 leaf-tree v-irrelevant e = absurd (true≢false (sym e))
 
-module _ {O : Order} (L : Laws O) where
+module _ {O : Order} (L : Ends O) where
   pub leaf-null : (x : Val) (u : Ty) → isDataLeaf x ≡ true → kind x ≡ 41 → conforms O x u ≡ true
   unfolding conforms
   leaf-null x u h e = let g = leaf-tree x h in ap (λ y. conforms O y u) (g .1) ∙ le-null L (leaf (leafType (g .0))) u (sym (ap kind (g .1)) ∙ e) .1
@@ -228,11 +242,22 @@ module _ {O : Order} (L : Laws O) where
       ap (λ y. conforms O y (leaf s)) (g .1) ∙ le-leaves L (leafType (g .0)) s (same-simple (leafType (g .0)) s (sym (ap kind (g .1)) ∙ e))
   leaf-same x (built y) h k e = absurd (true≢false (sym k))
 
--- against a simple type a leaf conforms alike, strict or not
-pub leaf-alike : (strict : Bool) (x : Val) (u : Ty) → isDataLeaf x ≡ true → simple u ≡ true → conforms (flatOrder strict) x u ≡ conforms fixed x u
-unfolding conforms cmp
-leaf-alike g x (leaf s) h k = let l = leaf-tree x h in ap (λ y. conforms (flatOrder g) y (leaf s)) (l .1) ∙ sym (ap (λ y. conforms fixed y (leaf s)) (l .1))
-leaf-alike g x (built y) h k = absurd (true≢false (sym k))
+  -- document 01's order has no more than the ends, and each type with itself
+  flat-holds : (s t : Simple) → flat s t ≡ true → O .sle s t ≡ true
+  flat-holds s t = go (same s null) (same t any) refl refl
+    where
+      go : (p q : Bool) → same s null ≡ p → same t any ≡ q → p || (q || same s t) ≡ true → O .sle s t ≡ true
+      go true q e f h = ap (λ x. O .sle x t) (same-eq s null e) ∙ L .null-least t
+      go false true e f h = ap (O .sle s) (same-eq t any f) ∙ L .any-greatest s
+      go false false e f h = ap (λ x. O .sle x t) (same-eq s t h) ∙ L .reflexive t
+
+  -- so a leaf that conforms to a simple type under it does so here
+  pub leaf-alike : (x : Val) (u : Ty) → isDataLeaf x ≡ true → simple u ≡ true → conforms fixed x u ≡ true → conforms O x u ≡ true
+  unfolding conforms cmp
+  leaf-alike x (leaf s) h k e =
+      let l = leaf-tree x h in
+      ap (λ y. conforms O y (leaf s)) (l .1) ∙ flat-holds (leafType (l .0)) s (sym (ap (λ y. conforms fixed y (leaf s)) (l .1)) ∙ e)
+  leaf-alike x (built y) h k e = absurd (true≢false (sym k))
 
 pub simple-is : (u : Ty) → cmd u ≤ 41 → simple u ≡ true
 simple-is (leaf s) h = refl

@@ -1,6 +1,6 @@
 -- A value and a type read and held to each other at once: what each return of the walks owes. What is left of both decides, whether it is read or not.
 -- Index: `readable-value`, `sized-value`, `unsized-value` (a value at a place); `fails`, `never`, `no-level`, `no-value`, `no-type` (no, by any test); `leaf-none`, `leaf-is-null`, `leaf-to-any`,
--- `leaf-to-own`, `leaf-to-none`, `leaf-pair` (`leaf`); `met-any`, `met-null`, `met-plain`, `range-apart`, `list-apart`, `context-apart`, `function-apart`, `plain-apart`, `rest-apart`
+-- `leaf-to-own`, `leaf-to-none`, `leaf-pair` (`leaf`); `met-any`, `met-null`, `met-plain`, `met-table`, `range-apart`, `list-apart`, `context-apart`, `function-apart`, `plain-apart`, `rest-apart`
 -- (`conform_other`); `met-range`, `met-list`, `met-context`, `told-other`, `no-interval` (`conforms`).
 -- Assumes nothing.
 use Prim.Native.Nat.{ℕ, _+_, _-_, _<_, _≤_}
@@ -20,12 +20,13 @@ use Rattle.form.specs.Walks.{Short}
 use Rattle.form.proofs.Options.{none-some}
 use Rattle.form.proofs.CommandKinds.{leaf-low, leaf-type-in, plain-type-in, no-leaf-high}
 use Rattle.form.proofs.Runs.{rest, first-at}
-use Rattle.order.specs.Order.{Order, Laws, flatOrder, fixed}
+use Rattle.order.specs.Order.{Order, fixed, isInner, related, orderOf}
 use Rattle.order.specs.Size.{size, sizeFields, sizeVal, sizeVals, sizeEntries}
 use Rattle.order.specs.Values.{conforms, allConform}
-use Rattle.order.proofs.Simple.{fixed-laws}
+use Rattle.order.proofs.Ends.{Ends, reading-ends, end-related}
 use Rattle.order.proofs.Size.{size-val-positive}
 use Rattle.order.proofs.Bools.{and-true, and-false}
+use Rattle.tables.proofs.Related.{related-inner}
 use Rattle.types.specs.At.{typeAt, fieldsAt}
 use Rattle.types.specs.Conform.{judge, addSizes, Met}
 use Rattle.types.proofs.Reading as types
@@ -126,7 +127,7 @@ module _ (l m : ℕ) (v : List ℕ) (at : ℕ) (t : List ℕ) (bt : ℕ) where
       leaf-to-none c a d u = fails leafConforms l m (drop at v) (drop bt t) u (λ x y e f.
           let k : kind x ≡ leafTypeCommand (getD v at 0) = kind-is l (drop at v) x e ∙ ap kindAt (first-at v at) ∙ kind-leaf (getD v at 0) leafy in
           let g = cmd-there y f in
-          ap (λ q. isShortLeaf x && (simple y && q)) (kinds-differ false x y (λ w. omega (arith, plain-type-in (getD v at 0) leafy c)) (λ w. a (sym g ∙ w)) (λ w. d (sym g ∙ sym w ∙ k)))
+          ap (λ q. isShortLeaf x && (simple y && q)) (kinds-differ 0 x y (λ w. omega (arith, plain-type-in (getD v at 0) leafy c)) (λ w. a (sym g ∙ w)) (λ w. d (sym g ∙ sym w ∙ k)))
           ∙ ap (λ q. isShortLeaf x && q) (and-false (simple y)) ∙ and-false (isShortLeaf x))
 
       module _ (ml : 0 < m) (there : bt < length t) where
@@ -146,14 +147,14 @@ module _ (l m : ℕ) (v : List ℕ) (at : ℕ) (t : List ℕ) (bt : ℕ) where
 
           pub leaf-is-null : getD v at 0 ≡ 0 → Met (heldBy leafConforms (valueAt l (drop at v)) (typeAt m (drop bt t))) n 1
           unfolding kindAt leafTypeCommand
-          leaf-is-null c = tests (leaf-null fixed-laws (P .x) (T .x) (short-data (P .x) (P .leafy)) (leaf-kind ∙ ap kindAt c))
+          leaf-is-null c = tests (leaf-null (reading-ends 0) (P .x) (T .x) (short-data (P .x) (P .leafy)) (leaf-kind ∙ ap kindAt c))
 
         pub leaf-to-any : getD t bt 0 ≡ 32 → Met (heldBy leafConforms (valueAt l (drop at v)) (typeAt m (drop bt t))) n 1
         leaf-to-any d =
             let lo : 32 ≤ getD t bt 0 = omega arith in
             let hi : getD t bt 0 ≤ 41 = omega arith in
             let S = T lo hi in
-            tests lo hi (to-any fixed-laws (P .x) (S .x) (cmd-there (S .x) (S .read) ∙ d))
+            tests lo hi (to-any (reading-ends 0) (P .x) (S .x) (cmd-there (S .x) (S .read) ∙ d))
 
         pub leaf-to-own : getD t bt 0 ≡ leafTypeCommand (getD v at 0) → Met (heldBy leafConforms (valueAt l (drop at v)) (typeAt m (drop bt t))) n 1
         leaf-to-own d =
@@ -161,20 +162,20 @@ module _ (l m : ℕ) (v : List ℕ) (at : ℕ) (t : List ℕ) (bt : ℕ) where
             let lo : 32 ≤ getD t bt 0 = omega arith in
             let hi : getD t bt 0 ≤ 41 = omega arith in
             let S = T lo hi in
-            tests lo hi (leaf-same fixed-laws (P .x) (S .x) (short-data (P .x) (P .leafy)) (simple-is (S .x) (omega (arith, cmd-there (S .x) (S .read))))
+            tests lo hi (leaf-same (reading-ends 0) (P .x) (S .x) (short-data (P .x) (P .leafy)) (simple-is (S .x) (omega (arith, cmd-there (S .x) (S .read))))
             (leaf-kind ∙ kind-leaf (getD v at 0) leafy ∙ sym d ∙ sym (cmd-there (S .x) (S .read))))
 
--- a leaf that conforms conforms as a value, strict or not
-pub leaf-pair : (strict : Bool) (l m : ℕ) (v : List ℕ) (at : ℕ) (t : List ℕ) (bt n : ℕ) → Met (heldBy leafConforms (valueAt l (drop at v)) (typeAt m (drop bt t))) n 1 → (n ≡ 0 → ⊥)
-    → Pair (readable-value l) (readable-type m) (conforms (flatOrder strict)) v at t bt n 1
-leaf-pair strict l m v at t bt n w z =
+-- a leaf that conforms conforms as a value, under every order with the ends
+pub leaf-pair : {O : Order} → Ends O → (l m : ℕ) (v : List ℕ) (at : ℕ) (t : List ℕ) (bt n : ℕ) → Met (heldBy leafConforms (valueAt l (drop at v)) (typeAt m (drop bt t))) n 1 → (n ≡ 0 → ⊥)
+    → Pair (readable-value l) (readable-type m) (conforms O) v at t bt n 1
+leaf-pair {O} L l m v at t bt n w z =
     let B = taken sizeVal size leafConforms (valueAt l (drop at v)) (typeAt m (drop bt t)) n 1 (yes-of (heldBy leafConforms (valueAt l (drop at v)) (typeAt m (drop bt t))) n 1 w z) in
     record {
       x = B .x;
       y = B .y;
       read-a = B .read-a;
       read-b = B .read-b;
-      holds = all (isShortLeaf (B .x)) (simple (B .y)) (conforms fixed (B .x) (B .y)) (B .holds) (λ p q r. leaf-alike strict (B .x) (B .y) (short-data (B .x) p) q ∙ r);
+      holds = all (isShortLeaf (B .x)) (simple (B .y)) (conforms fixed (B .x) (B .y)) (B .holds) (λ p q r. leaf-alike L (B .x) (B .y) (short-data (B .x) p) q r);
       size-a = B .size-a;
       size-b = B .size-b;
     }
@@ -201,7 +202,7 @@ module _ (O : Order) (l m : ℕ) (v t : List ℕ) (n : ℕ) (e : n ≡ sizeAtV (
       go (some x) r = met-yes (both sizeVal size (conforms O) (valueAt l v) (typeAt m t) x simple-there r T ∙ ap (λ q. judge q (sizeVal x) 1) (f x r)) (size-is ∙ ap sizeAtV r) refl
       go none r = met-no n 1 (no-when sizeVal size (conforms O) (valueAt l v) (typeAt m t) (λ x y g k. absurd (none-some (sym r ∙ g)))) (size-is ∙ ap sizeAtV r)
 
-pub met-any : {O : Order} → Laws O → (l m : ℕ) (v t : List ℕ) → 0 < m → 0 < length t → getD t 0 0 ≡ 32 → (n : ℕ) → n ≡ sizeAtV (valueAt l (take (length v - 0) (drop 0 v)))
+pub met-any : {O : Order} → Ends O → (l m : ℕ) (v t : List ℕ) → 0 < m → 0 < length t → getD t 0 0 ≡ 32 → (n : ℕ) → n ≡ sizeAtV (valueAt l (take (length v - 0) (drop 0 v)))
     → Met (held O (valueAt l v) (typeAt m t)) n 1
 met-any {O} L l m v t p h d n e =
     let y = leaf (decode (getD t 0 0 - 32)) in
@@ -209,7 +210,7 @@ met-any {O} L l m v t p h d n e =
     met-simple O l m v t n e T (λ x r. to-any L x y (cmd-is m t y T ∙ d))
 
 -- another leaf of data, and its own type
-pub met-plain : {O : Order} → Laws O → (l m : ℕ) (v t : List ℕ) → 0 < m → 0 < length t → isLeafCommand (getD v 0 0) ≡ true → getD t 0 0 ≡ leafTypeCommand (getD v 0 0) → (n : ℕ)
+pub met-plain : {O : Order} → Ends O → (l m : ℕ) (v t : List ℕ) → 0 < m → 0 < length t → isLeafCommand (getD v 0 0) ≡ true → getD t 0 0 ≡ leafTypeCommand (getD v 0 0) → (n : ℕ)
     → n ≡ sizeAtV (valueAt l (take (length v - 0) (drop 0 v))) → Met (held O (valueAt l v) (typeAt m t)) n 1
 met-plain {O} L l m v t p h k d n e =
     let b = leaf-type-in (getD v 0 0) k in
@@ -230,46 +231,63 @@ pub told-other : (O : Order) (l m : ℕ) (v t : List ℕ) (r u : ℕ) → Met (h
     → Met (held O (valueAt l v) (typeAt m t)) r u
 told-other O l m v t r u w = rw (rest v 0, rest t 0) at w
 
-module _ (strict : Bool) (l m : ℕ) (v t : List ℕ) (u : ℕ) where
-  -- of another kind
-  other-kind : (k : ℕ) → kindAt (getD v 0 0) ≡ k → (k ≡ 41 → ⊥) → (getD t 0 0 ≡ 32 → ⊥) → (getD t 0 0 ≡ k → ⊥) → Met (held (flatOrder strict) (valueAt l v) (typeAt m t)) 0 u
-  other-kind k e n a d = fails (conforms (flatOrder strict)) l m v t u (λ x y f g.
+module _ (reading l m : ℕ) (v t : List ℕ) where
+  -- of another kind: what the table says
+  by-table : (k : ℕ) → kindAt (getD v 0 0) ≡ k → (k ≡ 41 → ⊥) → (getD t 0 0 ≡ 32 → ⊥) → (getD t 0 0 ≡ k → ⊥) → (x : Val) (y : Ty) → valueAt l v ≡ some x → typeAt m t ≡ some y
+      → conforms (orderOf reading) x y ≡ related reading (k - 32) (getD t 0 0 - 32)
+  by-table k e n a d x y f g =
       let c = kind-is l v x f ∙ e in
       let b = cmd-is m t y g in
-      kinds-differ strict x y (λ w. n (sym c ∙ w)) (λ w. a (sym b ∙ w)) (λ w. d (sym b ∙ sym w ∙ c)))
+      kinds-differ reading x y (λ w. n (sym c ∙ w)) (λ w. a (sym b ∙ w)) (λ w. d (sym b ∙ sym w ∙ c)) ∙ ap₂ (λ (i j : ℕ). related reading (i - 32) (j - 32)) c b
 
-  pub range-apart : getD v 0 0 ≡ 9 → (getD t 0 0 ≡ 32 → ⊥) → (getD t 0 0 ≡ 43 → ⊥) → Met (held (flatOrder strict) (valueAt l v) (typeAt m t)) 0 u
-  unfolding kindAt
-  range-apart c a d = other-kind 43 (ap kindAt c) (λ z. omega arith) a d
+  -- a leaf of data that a table has below the type: that is simple
+  pub met-table : 0 < m → 0 < length t → isLeafCommand (getD v 0 0) ≡ true → (getD t 0 0 ≡ 32 → ⊥) → (k : ℕ) → k ≡ leafTypeCommand (getD v 0 0)
+      → (getD t 0 0 ≡ k → ⊥) → (q : Bool) → q ≡ related reading (k - 32) (getD t 0 0 - 32) → q ≡ true → (n : ℕ)
+      → n ≡ sizeAtV (valueAt l (take (length v - 0) (drop 0 v))) → Met (held (orderOf reading) (valueAt l v) (typeAt m t)) n 1
+  met-table p h i a k e d q r w n s =
+      let c = related-inner reading k (getD t 0 0) (sym r ∙ w) in
+      let y = leaf (decode (getD t 0 0 - 32)) in
+      let T = forward.read-simple m t p h (omega (arith, c .1 .0)) (omega (arith, c .1 .1)) in
+      met-simple (orderOf reading) l m v t n s T (λ x f.
+      by-table k (kind-leaf (getD v 0 0) i ∙ sym e) (λ j. omega (arith, c .0 .1)) a d x y f T ∙ sym r ∙ w)
 
-  pub list-apart : getD v 0 0 ≡ 10 → (getD t 0 0 ≡ 32 → ⊥) → (getD t 0 0 ≡ 42 → ⊥) → Met (held (flatOrder strict) (valueAt l v) (typeAt m t)) 0 u
-  unfolding kindAt
-  list-apart c a d = other-kind 42 (ap kindAt c) (λ z. omega arith) a d
+  module _ (u : ℕ) where
+    -- none of the eight, so the table has no bit
+    other-kind : (k : ℕ) → kindAt (getD v 0 0) ≡ k → isInner (k - 32) ≡ false → (k ≡ 41 → ⊥) → (getD t 0 0 ≡ 32 → ⊥) → (getD t 0 0 ≡ k → ⊥)
+        → Met (held (orderOf reading) (valueAt l v) (typeAt m t)) 0 u
+    other-kind k e i n a d = fails (conforms (orderOf reading)) l m v t u (λ x y f g. by-table k e n a d x y f g ∙ end-related reading (k - 32) (getD t 0 0 - 32) i)
 
-  pub context-apart : getD v 0 0 ≡ 11 → (getD t 0 0 ≡ 32 → ⊥) → (getD t 0 0 ≡ 44 → ⊥) → Met (held (flatOrder strict) (valueAt l v) (typeAt m t)) 0 u
-  unfolding kindAt
-  context-apart c a d = other-kind 44 (ap kindAt c) (λ z. omega arith) a d
+    pub range-apart : getD v 0 0 ≡ 9 → (getD t 0 0 ≡ 32 → ⊥) → (getD t 0 0 ≡ 43 → ⊥) → Met (held (orderOf reading) (valueAt l v) (typeAt m t)) 0 u
+    unfolding kindAt
+    range-apart c a d = other-kind 43 (ap kindAt c) refl (λ z. omega arith) a d
 
-  pub function-apart : getD v 0 0 ≡ 12 → (getD t 0 0 ≡ 32 → ⊥) → (getD t 0 0 ≡ 45 → ⊥) → Met (held (flatOrder strict) (valueAt l v) (typeAt m t)) 0 u
-  unfolding kindAt
-  function-apart c a d = other-kind 45 (ap kindAt c) (λ z. omega arith) a d
+    pub list-apart : getD v 0 0 ≡ 10 → (getD t 0 0 ≡ 32 → ⊥) → (getD t 0 0 ≡ 42 → ⊥) → Met (held (orderOf reading) (valueAt l v) (typeAt m t)) 0 u
+    unfolding kindAt
+    list-apart c a d = other-kind 42 (ap kindAt c) refl (λ z. omega arith) a d
 
-  pub plain-apart : isLeafCommand (getD v 0 0) ≡ true → (getD v 0 0 ≡ 0 → ⊥) → (getD t 0 0 ≡ 32 → ⊥) → (getD t 0 0 ≡ leafTypeCommand (getD v 0 0) → ⊥)
-      → Met (held (flatOrder strict) (valueAt l v) (typeAt m t)) 0 u
-  plain-apart h n a d = other-kind (leafTypeCommand (getD v 0 0)) (kind-leaf (getD v 0 0) h) (λ z. omega (arith, plain-type-in (getD v 0 0) h n)) a d
+    pub context-apart : getD v 0 0 ≡ 11 → (getD t 0 0 ≡ 32 → ⊥) → (getD t 0 0 ≡ 44 → ⊥) → Met (held (orderOf reading) (valueAt l v) (typeAt m t)) 0 u
+    unfolding kindAt
+    context-apart c a d = other-kind 44 (ap kindAt c) refl (λ z. omega arith) a d
 
-  -- no range, list or context that is there whole, no leaf, no definition
-  pub rest-apart : (3 ≤ length v → 9 ≤ getD v 0 0 → 11 < getD v 0 0) → (getD t 0 0 ≡ 32 → ⊥) → isLeafCommand (getD v 0 0) ≡ false → (getD v 0 0 ≡ 12 → ⊥)
-      → Met (held (flatOrder strict) (valueAt l v) (typeAt m t)) 0 u
-  rest-apart w a h n = fails (conforms (flatOrder strict)) l m v t u (λ x y f g. go x y f g (leb (getD v 0 0) 11) refl)
-    where
-      go : (x : Val) (y : Ty) → valueAt l v ≡ some x → typeAt m t ≡ some y → (q : Bool) → leb (getD v 0 0) 11 ≡ q → conforms (flatOrder strict) x y ≡ false
-      go x y f g true e = absurd (let k = leb-true (getD v 0 0) 11 e in let j = no-leaf-high (getD v 0 0) h in omega (arith, w (long-is l v x f j k) j))
-      go x y f g false e =
-          let b = cmd-is m t y g in
-          let i = leb-false (getD v 0 0) 11 e in
-          let c = kind-is l v x f ∙ kind-other (getD v 0 0) (omega arith) h in
-          kinds-differ strict x y (λ z. omega arith) (λ z. a (sym b ∙ z)) (λ z. a (sym b ∙ sym z ∙ c))
+    pub function-apart : getD v 0 0 ≡ 12 → (getD t 0 0 ≡ 32 → ⊥) → (getD t 0 0 ≡ 45 → ⊥) → Met (held (orderOf reading) (valueAt l v) (typeAt m t)) 0 u
+    unfolding kindAt
+    function-apart c a d = other-kind 45 (ap kindAt c) refl (λ z. omega arith) a d
+
+    pub plain-apart : isLeafCommand (getD v 0 0) ≡ true → (getD v 0 0 ≡ 0 → ⊥) → (getD t 0 0 ≡ 32 → ⊥) → (k : ℕ) → k ≡ leafTypeCommand (getD v 0 0) → (getD t 0 0 ≡ k → ⊥)
+        → (q : Bool) → q ≡ related reading (k - 32) (getD t 0 0 - 32) → q ≡ false → Met (held (orderOf reading) (valueAt l v) (typeAt m t)) 0 u
+    plain-apart i z a k e d q r w = fails (conforms (orderOf reading)) l m v t u (λ x y f g.
+        by-table k (kind-leaf (getD v 0 0) i ∙ sym e) (λ j. omega (arith, plain-type-in (getD v 0 0) i z)) a d x y f g ∙ sym r ∙ w)
+
+    -- no range, list or context that is there whole, no leaf, no definition
+    pub rest-apart : (3 ≤ length v → 9 ≤ getD v 0 0 → 11 < getD v 0 0) → (getD t 0 0 ≡ 32 → ⊥) → isLeafCommand (getD v 0 0) ≡ false → (getD v 0 0 ≡ 12 → ⊥)
+        → Met (held (orderOf reading) (valueAt l v) (typeAt m t)) 0 u
+    rest-apart w a h n = fails (conforms (orderOf reading)) l m v t u (λ x y f g. go x y f g (leb (getD v 0 0) 11) refl)
+      where
+        go : (x : Val) (y : Ty) → valueAt l v ≡ some x → typeAt m t ≡ some y → (q : Bool) → leb (getD v 0 0) 11 ≡ q → conforms (orderOf reading) x y ≡ false
+        go x y f g true e = absurd (let k = leb-true (getD v 0 0) 11 e in let j = no-leaf-high (getD v 0 0) h in omega (arith, w (long-is l v x f j k) j))
+        go x y f g false e =
+            let i = leb-false (getD v 0 0) 11 e in
+            by-table 32 (kind-other (getD v 0 0) (omega arith) h) (λ z. omega arith) a a x y f g ∙ end-related reading 0 (getD t 0 0 - 32) refl
 
 -- no, whatever the test is: one of the two is cut short or none
 module _ (test : Val → Ty → Bool) (l m : ℕ) (v t : List ℕ) (u : ℕ) where
@@ -288,7 +306,7 @@ module _ (test : Val → Ty → Bool) (l m : ℕ) (v t : List ℕ) (u : ℕ) whe
   pub no-null : (n room : ℕ) → Short isShortLeaf (readV l v) n room → n ≡ 0 → getD v 0 0 ≡ 0 → Met (heldBy test (valueAt l v) (typeAt m t)) 0 u
   no-null n room h z c = never test l m v t u (λ x y f g. true≢false (sym (leaf-is l v x f (omega arith)) ∙ no-leaf l v n room h z x f))
 
-pub met-null : {O : Order} → Laws O → (l m : ℕ) (v t : List ℕ) (n room : ℕ) → Short isShortLeaf (readV l v) n room → (n ≡ 0 → ⊥) → getD v 0 0 ≡ 0 → (k : ℕ) → Sized size (typeAt m) t k
+pub met-null : {O : Order} → Ends O → (l m : ℕ) (v t : List ℕ) (n room : ℕ) → Short isShortLeaf (readV l v) n room → (n ≡ 0 → ⊥) → getD v 0 0 ≡ 0 → (k : ℕ) → Sized size (typeAt m) t k
     → Met (held O (valueAt l v) (typeAt m t)) n k
 unfolding kindAt leafTypeCommand
 met-null {O} L l m v t n room h z c k T =

@@ -7,6 +7,7 @@ use Rattle.form.specs.Outcome.{Outcome, done, _>>=_}
 use Rattle.form.specs.Read.{readType, readValue}
 use Rattle.order.specs.Order.{Order, fixed, strictOrder}
 use Rattle.order.specs.Values.{conforms}
+use Rattle.tables.specs.Calls.{loadTable}
 use mathlib.Core.Path.{_≡_}
 use Rattle.form.specs.Trees.{Ty, Val}
 use Rattle.form.specs.Form.{Bytes}
@@ -25,6 +26,12 @@ isConformant v t = isConformantBy fixed v t
 -- K8: as DMN has it
 abbrev pub strictIsConformant : List ℕ → List ℕ → Outcome Bool
 strictIsConformant v t = isConformantBy strictOrder v t
+
+-- K9: over a members' table, which is refused before all else
+abbrev pub tableIsConformant : List ℕ → List ℕ → List ℕ → Outcome Bool
+tableIsConformant table v t = do
+  order ← loadTable table
+  isConformantBy order v t
 
 -- both are read, and the answer is no: what is left to say where the value does not conform
 unfoldable pub readThenNo : List ℕ → List ℕ → Outcome Bool

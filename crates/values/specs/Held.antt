@@ -20,7 +20,7 @@ heldBy test x y = conformBy sizeVal size test x y
 abbrev pub held : Order → Option Val → Option Ty → Conform
 held O x y = heldBy (conforms O) x y
 
--- a leaf of data but a decimal against a simple type, under every reading alike
+-- a leaf of data but a decimal against a simple type, by document 01's order: what conforms so does under every reading
 abbrev pub leafConforms : Val → Ty → Bool
 leafConforms x y = isShortLeaf x && (simple y && valueConformsTo x y)
 

@@ -15,12 +15,13 @@ use form::commands;
 use form::limits::MOST_BYTES;
 use form::limits::NAME_WIDTH;
 use form::limits::TYPE_LEVELS;
-use types::readings;
+use tables::readings;
 
 // ---- conformance: a value and a type are read and compared at once. The answer is the size of the value, with that of the type left in `other`, where both are
 // read and the value conforms, and 0 where not. `left` counts the levels of the type; a value has one less.
 
-// The size of the value at `at` where it is a leaf of data but a decimal and conforms to a simple type at `bt`, 0 where not: a short way past most pairs.
+// The size of the value at `at` where it is a leaf of data but a decimal and conforms, by document 01's order, to a simple type at `bt`, 0 where not: a short way past most
+// pairs. What conforms so conforms under every reading.
 fn leaf(v: &[u8], at: usize, t: &[u8], bt: usize, left: usize) -> usize
     requires { ⌜ (at ≤ length (now v)) × (bt ≤ length (now t)) × (0 < left) ⌝ }
     ensures { λ r. ⌜ Met (heldBy leafConforms (valueAt (left - 1) (drop at (now (v .entry)))) (typeAt left (drop bt (now (t .entry))))) r 1 ⌝ }
@@ -151,7 +152,12 @@ fn conform_other(v: &[u8], t: &[u8], left: usize, other: &mut usize, reading: u6
             n
         }
         commands::BOOLEAN..=commands::YEARS_AND_MONTHS | commands::DECIMAL => {
-            if d != commands::leaf_type(c) {
+            let e = commands::leaf_type(c);
+            if d != e {
+                if readings::is_related(e, d, reading) {
+                    *other = 1;
+                    return walk::skip(&v[0..], left - 1);
+                }
                 return 0;
             }
             *other = 1;

@@ -8,8 +8,7 @@ use mathlib.Core.Path.{sym, ap, _∙_}
 use lib.ListN.{length, length-take}
 use lib.Seq.{length-take-le}
 use Rattle.form.specs.Answers.{checked}
-use Rattle.order.specs.Order.{orderOf}
-use Rattle.lattice.specs.Writing.{toward}
+use Rattle.order.specs.Order.{toward, orderOf}
 use Rattle.bounds.proofs.CallContracts.{fine, first-refused, second-refused, scratch-short, call-ready, call-size, call-short, call-done}
 
 -- at `match form::check_type(a) {`

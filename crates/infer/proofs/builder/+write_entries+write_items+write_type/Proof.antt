@@ -30,7 +30,7 @@ use mathlib.Core.Logic.{⊎-elim}
 use lib.ListN.{getD, set}
 use borrow.Author.Needs.{needs}
 use Rattle.order.specs.Order.{orderOf}
-use Rattle.order.proofs.Simple.{reading-laws}
+use Rattle.order.proofs.Ends.{reading-ends}
 use native.Mathlib.Omega.{arith}
 use Rattle.form.proofs.Whole.{bytes-of}
 use Rattle.form.proofs.CommandKinds.{leaf-low, leaf-decimal}
@@ -827,7 +827,7 @@ write-type-word-at-requires t c κs =
     let c5 = c4 .before in
     under-head
     ((in-list (orderOf (c5 .args .reading)) (c5 .args .least) (c5 .args .left) (c5 .args .v .now) (c5 .args .out .now) (c5 .args .spare .now) (c5 .pre .1 .0)
-    (bytes-of (c5 .args .v .now) (c4 .shared-slice-known .given)) (reading-laws (c5 .args .reading)) _ refl (c .match .keys3)) .under)
+    (bytes-of (c5 .args .v .now) (c4 .shared-slice-known .given)) (reading-ends (c5 .args .reading)) _ refl (c .match .keys3)) .under)
 
 -- at `out[0] = commands::LIST_TYPE;`
 write-type-slice-write-out-2 : (t : ℕ) → write-type-lts.Need-slice-write-out-2 (write-type-claims t) (write-type-at t) write-type.Post
@@ -847,7 +847,7 @@ write-type-sub-write-items-4 t c =
     let c6 = c5 .before in
     under-head
     ((in-list (orderOf (c6 .args .reading)) (c6 .args .least) (c6 .args .left) (c6 .args .v .now) (c6 .args .out .now) (c6 .args .spare .now) (c6 .pre .1 .0)
-    (bytes-of (c6 .args .v .now) (c5 .shared-slice-known .given)) (reading-laws (c6 .args .reading)) _ (c .word-at .ensures .0) (c .before .match .keys3)) .under)
+    (bytes-of (c6 .args .v .now) (c5 .shared-slice-known .given)) (reading-ends (c6 .args .reading)) _ (c .word-at .ensures .0) (c .before .match .keys3)) .under)
 
 -- at `&v[3..],`
 write-type-part-write-items-start-3 : (t : ℕ) → write-type-lts.Need-part-write-items-start-3 (write-type-claims t) (write-type-at t) write-type.Post
@@ -858,7 +858,7 @@ write-type-part-write-items-start-3 t c =
           let c6 = c5 .before in
           under-head
           ((in-list (orderOf (c6 .args .reading)) (c6 .args .least) (c6 .args .left) (c6 .args .v .now) (c6 .args .out .now) (c6 .args .spare .now) (c6 .pre .1 .0)
-          (bytes-of (c6 .args .v .now) (c5 .shared-slice-known .given)) (reading-laws (c6 .args .reading)) _ (c .word-at .ensures .0) (c .before .match .keys3)) .under),
+          (bytes-of (c6 .args .v .now) (c5 .shared-slice-known .given)) (reading-ends (c6 .args .reading)) _ (c .word-at .ensures .0) (c .before .match .keys3)) .under),
     )
 
 -- at `&v[3..],`
@@ -872,7 +872,7 @@ write-type-sub-write-items-5 t c =
     let c7 = c6 .before in
     under-free
     ((in-list (orderOf (c7 .args .reading)) (c7 .args .least) (c7 .args .left) (c7 .args .v .now) (c7 .args .out .now) (c7 .args .spare .now) (c7 .pre .1 .0)
-    (bytes-of (c7 .args .v .now) (c6 .shared-slice-known .given)) (reading-laws (c7 .args .reading)) _ (c .before .word-at .ensures .0) (c .before .before .match .keys3)) .under)
+    (bytes-of (c7 .args .v .now) (c6 .shared-slice-known .given)) (reading-ends (c7 .args .reading)) _ (c .before .word-at .ensures .0) (c .before .before .match .keys3)) .under)
 
 -- at `&mut out[1..],`
 write-type-part-write-items-start-4 : (t : ℕ) → write-type-lts.Need-part-write-items-start-4 (write-type-claims t) (write-type-at t) write-type.Post
@@ -883,7 +883,7 @@ write-type-part-write-items-start-4 t c =
           let c7 = c6 .before in
           under-free
           ((in-list (orderOf (c7 .args .reading)) (c7 .args .least) (c7 .args .left) (c7 .args .v .now) (c7 .args .out .now) (c7 .args .spare .now) (c7 .pre .1 .0)
-          (bytes-of (c7 .args .v .now) (c6 .shared-slice-known .given)) (reading-laws (c7 .args .reading)) _ (c .before .word-at .ensures .0) (c .before .before .match .keys3)) .under),
+          (bytes-of (c7 .args .v .now) (c6 .shared-slice-known .given)) (reading-ends (c7 .args .reading)) _ (c .before .word-at .ensures .0) (c .before .before .match .keys3)) .under),
     )
 
 -- at `&mut out[1..],`
@@ -909,7 +909,7 @@ write-type-write-items-requires-2 t c κs =
       omega (arith, pre .0, level-left (orderOf (args .reading)) (args .least) (args .left) (args .v .now) (args .out .now) (args .spare .now) (pre .1 .0) bytes-of1),
       (
         part-fits
-            (in-list (orderOf (args .reading)) (args .least) (args .left) (args .v .now) (args .out .now) (args .spare .now) (pre .1 .0) bytes-of1 (reading-laws (args .reading)) _
+            (in-list (orderOf (args .reading)) (args .least) (args .left) (args .v .now) (args .out .now) (args .spare .now) (pre .1 .0) bytes-of1 (reading-ends (args .reading)) _
             (c3 .word-at .ensures .0)
             (c3 .before .match .keys3)),
         omega (arith, pre .1 .1),
@@ -928,7 +928,7 @@ write-type-add-t34 t c =
       let args = c14 .before .args in
           under-read
           ((in-list (orderOf (args .reading)) (args .least) (args .left) (args .v .now) (args .out .now) (args .spare .now) (c14 .before .pre .1 .0)
-          (bytes-of (args .v .now) (c14 .shared-slice-known .given)) (reading-laws (args .reading)) _ (c9 .word-at .ensures .0) (c9 .before .match .keys3)) .under)
+          (bytes-of (args .v .now) (c14 .shared-slice-known .given)) (reading-ends (args .reading)) _ (c9 .word-at .ensures .0) (c9 .before .match .keys3)) .under)
           _ _ _ (c5 .write-items2 .ensures .0),
     )
 
@@ -944,7 +944,7 @@ write-type-add-t43 t c =
       let args = c15 .before .args in
           under-wrote
           ((in-list (orderOf (args .reading)) (args .least) (args .left) (args .v .now) (args .out .now) (args .spare .now) (c15 .before .pre .1 .0)
-          (bytes-of (args .v .now) (c15 .shared-slice-known .given)) (reading-laws (args .reading)) _ (c10 .word-at .ensures .0) (c10 .before .match .keys3)) .under)
+          (bytes-of (args .v .now) (c15 .shared-slice-known .given)) (reading-ends (args .reading)) _ (c10 .word-at .ensures .0) (c10 .before .match .keys3)) .under)
           _ _ _ (c6 .write-items2 .ensures .0),
     )
 
@@ -1451,7 +1451,7 @@ write-type-same-length-3 t c =
     let args = c15 .before .args in
     under-kept
     ((in-list (orderOf (args .reading)) (args .least) (args .left) (args .v .now) (args .out .now) (args .spare .now) (c15 .before .pre .1 .0)
-    (bytes-of (args .v .now) (c15 .shared-slice-known .given)) (reading-laws (args .reading)) _ (c10 .word-at .ensures .0) (c10 .before .match .keys3)) .under)
+    (bytes-of (args .v .now) (c15 .shared-slice-known .given)) (reading-ends (args .reading)) _ (c10 .word-at .ensures .0) (c10 .before .match .keys3)) .under)
     _ _ _ (c6 .write-items2 .ensures .0)
 
 -- at the end
@@ -1467,7 +1467,7 @@ write-type-returns-2 t c =
     let args = c15 .before .args in (
       under-done
           ((in-list (orderOf (args .reading)) (args .least) (args .left) (args .v .now) (args .out .now) (args .spare .now) (c15 .before .pre .1 .0)
-          (bytes-of (args .v .now) (c15 .shared-slice-known .given)) (reading-laws (args .reading)) _ (c10 .word-at .ensures .0) (c10 .before .match .keys3)) .under)
+          (bytes-of (args .v .now) (c15 .shared-slice-known .given)) (reading-ends (args .reading)) _ (c10 .word-at .ensures .0) (c10 .before .match .keys3)) .under)
           _ _ _ (c6 .write-items2 .ensures .0),
       c6 .write-items2 .ensures .1,
     )

@@ -6,7 +6,7 @@ use Rattle.infer.proofs.builder.join.Tie as tie
 use native.Mathlib.Omega.{arith}
 use mathlib.Core.Path.{sym, refl}
 use Rattle.order.specs.Order.{orderOf}
-use Rattle.order.proofs.Simple.{reading-laws}
+use Rattle.order.proofs.Ends.{reading-ends}
 use Rattle.form.proofs.Numbers.{take-length}
 use Rattle.form.proofs.Whole.{bytes-of}
 use Rattle.infer.proofs.JoinedTypes.{both-inside, first-byte, join-ask, sup-spared, sup-inside, sup-kept, joined-super, keeps-ask}
@@ -23,7 +23,7 @@ join-spec =
     (λ c.
     let c4 = c .before .before .before .before in
     let c5 = c4 .before in (
-      joined-same (c5 .args .out .now) (c5 .args .n) (c5 .args .m) _ (c5 .pre .0) (orderOf (c5 .args .reading)) (reading-laws (c5 .args .reading))
+      joined-same (c5 .args .out .now) (c5 .args .n) (c5 .args .m) _ (c5 .pre .0) (orderOf (c5 .args .reading)) (reading-ends (c5 .args .reading))
           (bytes-of (c5 .args .out .now) (c4 .slice-known .given)) _ _ _ (c5 .pre .1)
           (c .before .keeps .ensures) (c .if1 .taken),
       refl,

@@ -17,7 +17,7 @@ use Rattle.form.proofs.bytes.word_at.Reads as word-at-reads
 use Rattle.form.proofs.commands.width.Reads as width-reads
 use Rattle.infer.proofs.data.add_size.Reads as add-size-reads
 use Rattle.infer.proofs.data.leaf.Reads as leaf-reads
-use Rattle.types.proofs.readings.is_strict.Reads as is-strict-reads
+use Rattle.tables.proofs.readings.is_strict.Reads as is-strict-reads
 use Rattle.values.proofs.walk.skip.Reads as skip-reads
 use Rattle.infer.proofs.data.+are_data+hold_data+is_data.{statement}
 use Rattle.infer.proofs.data.+are_data+hold_data+is_data.Tie.{close}

@@ -33,7 +33,8 @@ use Rattle.output.proofs.high.Reads as high-reads
 use Rattle.output.proofs.low.Reads as low-reads
 use Rattle.form.proofs.bytes.wide.Reads as wide-reads
 use Rattle.form.proofs.bytes.word_at.Reads as word-at-reads
-use Rattle.types.proofs.readings.is_strict.Reads as is-strict-reads
+use Rattle.tables.proofs.readings.is_strict.Reads as is-strict-reads
+use Rattle.tables.proofs.readings.nearest.Reads as nearest-reads
 use Rattle.types.proofs.walk.next_name.Reads as next-name-reads
 use Rattle.types.proofs.walk.skip.Reads as skip-reads
 use Rattle.order.specs.Order.{up, down, orderOf}
@@ -226,7 +227,7 @@ abbrev pub super-sig-claims : ℕ → super-sig-lts.Claims
 super-sig-claims t = (write-sub-below t, write-sub.Post, write-super-below t, write-super.Post)
 
 abbrev pub write-sub-claims : ℕ → write-sub-lts.Claims
-write-sub-claims t = (same-sub-below t, same-sub.Post, skip-reads.Asked, skip-reads.Learnt)
+write-sub-claims t = (same-sub-below t, same-sub.Post, nearest-reads.Asked, nearest-reads.Learnt, skip-reads.Asked, skip-reads.Learnt)
 
 abbrev pub write-super-claims : ℕ → write-super-lts.Claims
-write-super-claims t = (same-super-below t, same-super.Post, skip-reads.Asked, skip-reads.Learnt)
+write-super-claims t = (same-super-below t, same-super.Post, nearest-reads.Asked, nearest-reads.Learnt, skip-reads.Asked, skip-reads.Learnt)

@@ -18,7 +18,7 @@ use mathlib.Core.Logic.{⊎-elim}
 use borrow.Author.Tests.{not-true, not-false}
 use lib.ListN.{length, getD, set, length-set}
 use Rattle.order.specs.Order.{down, orderOf}
-use Rattle.order.proofs.Simple.{reading-laws}
+use Rattle.order.proofs.Ends.{reading-ends}
 use Rattle.types.specs.At.{fieldsAt, sigAt}
 use Rattle.types.specs.Conform.{ignoresAt}
 use Rattle.types.proofs.TypeConformance.{compared-strict, compared-some}
@@ -126,7 +126,7 @@ same-sub-met t =
     (λ c. simp length-set)
     (λ c.
     let c5 = c .before .before .before .before .before in
-    leaf-done _ down _ (c5 .args .a .now) (c5 .args .b .now) _ (c5 .pre .1 .0) (c5 .pre .1 .1) (reading-laws (c5 .args .reading)) (c .if1 .taken) _ refl)
+    leaf-done _ down _ (c5 .args .a .now) (c5 .args .b .now) _ (c5 .pre .1 .0) (c5 .pre .1 .1) (reading-ends (c5 .args .reading)) (c .if1 .taken) _ refl)
     (λ c.
     omega (
       arith,
@@ -399,7 +399,7 @@ same-sub-met t =
 pub sub-fields-met : {M : Type 1} (t : ℕ) → sub-fields-lts.Closed (sub-fields-claims t) (sub-fields-at t) sub-fields.Post M
 sub-fields-met t =
     sub-fields-lts.spec (sub-fields-claims t) (sub-fields-at t) sub-fields.Post sub-fields-Inv-loop sub-fields-μ-loop
-    (λ c. let c3 = c .before .before .before in fields-start (reading-laws (c3 .args .reading)) down _ _ _ _ _ _ (c3 .pre .1))
+    (λ c. let c3 = c .before .before .before in fields-start (reading-ends (c3 .args .reading)) down _ _ _ _ _ _ (c3 .pre .1))
     (λ c κs. peek-a (c .loop .inv))
     (λ c κs. peek-b (c .before .loop .inv))
     (λ c.
@@ -969,7 +969,7 @@ write-sub-met t =
     (λ c. simp length-set)
     (λ c.
     let c7 = c .before .before .before .before .before .before .before in
-    leaf-done _ down _ (c7 .args .a .now) (c7 .args .b .now) _ (c7 .pre .1) (c .before .if1 .taken) (reading-laws (c7 .args .reading)) (c .if2 .taken) _ refl)
+    leaf-done _ down _ (c7 .args .a .now) (c7 .args .b .now) _ (c7 .pre .1) (c .before .if1 .taken) (reading-ends (c7 .args .reading)) (c .if2 .taken) _ refl)
     (λ c κs.
     let pre = c .before .before .before .before .before .before .before .before .pre in
     (omega (arith, pre .0), (pre .1, c .before .before .if1 .taken)))
@@ -977,31 +977,32 @@ write-sub-met t =
     (λ c. c .before .before .same-sub .ensures)
     (λ c κs.
     let c8 = c .before .before .before .before .before .before .before .before in
-    (omega (arith, c8 .pre .0), (left-ready _ down _ (c8 .args .a .now) (c8 .args .b .now) _ (c8 .pre .1) (reading-laws (c8 .args .reading)) (c .before .if3 .taken), refl)))
+    (omega (arith, c8 .pre .0), (left-ready _ down _ (c8 .args .a .now) (c8 .args .b .now) _ (c8 .pre .1) (reading-ends (c8 .args .reading)) (c .before .if3 .taken), refl)))
     (λ c. c .before .before .same-sub2 .kept .1 .1 .0)
     (λ c.
     let c4 = c .before .before .before .before in
     let c11 = c4 .before .before .before .before .before .before .before in
-    left-done _ down _ (c11 .args .a .now) (c11 .args .b .now) _ (c11 .pre .1) (reading-laws (c11 .args .reading)) (c4 .if3 .taken) _ _ _ _ _ (c .before .before .same-sub2 .ensures))
+    left-done _ down _ (c11 .args .a .now) (c11 .args .b .now) _ (c11 .pre .1) (reading-ends (c11 .args .reading)) (c4 .if3 .taken) _ _ _ _ _ (c .before .before .same-sub2 .ensures))
     (λ c κs.
     let c9 = c .before .before .before .before .before .before .before .before .before in
-    (omega (arith, c9 .pre .0), (right-ready _ down _ (c9 .args .a .now) (c9 .args .b .now) _ (c9 .pre .1) (reading-laws (c9 .args .reading)) (c .before .if4 .taken), refl)))
+    (omega (arith, c9 .pre .0), (right-ready _ down _ (c9 .args .a .now) (c9 .args .b .now) _ (c9 .pre .1) (reading-ends (c9 .args .reading)) (c .before .if4 .taken), refl)))
     (λ c. c .before .before .same-sub3 .kept .1 .1 .0)
     (λ c.
     let c4 = c .before .before .before .before in
     let c12 = c4 .before .before .before .before .before .before .before .before in
-    right-done _ down _ (c12 .args .a .now) (c12 .args .b .now) _ (c12 .pre .1) (reading-laws (c12 .args .reading)) (c4 .if4 .taken) _ _ _ _ _ (c .before .before .same-sub3 .ensures))
+    right-done _ down _ (c12 .args .a .now) (c12 .args .b .now) _ (c12 .pre .1) (reading-ends (c12 .args .reading)) (c4 .if4 .taken) _ _ _ _ _ (c .before .before .same-sub3 .ensures))
+    (λ c κs. search needs)
     (λ c.
     omega (
       arith,
-      let c8 = c .before .before .before .before .before .before .before .before in
-          one _ down _ (c8 .args .a .now) (c8 .args .b .now) _ (c8 .pre .1),
+      let c9 = c .before .before .before .before .before .before .before .before .before in
+          one _ down _ (c9 .args .a .now) (c9 .args .b .now) _ (c9 .pre .1),
     ))
     (λ c κs. search needs)
     (λ c κs. search needs)
     (λ c. simp length-set)
     (λ c.
-    let c3 = c .before .before .before in
-    let c10 = c3 .before .before .before .before .before .before .before in
-    other-done (orderOf (c10 .args .reading) .strict) down _ (c10 .args .a .now) (c10 .args .b .now) _ (c10 .pre .1) (c3 .before .if1 .left) (c3 .if3 .left) (c .before .before .if4 .left) _
-    refl _ _ (c .before .skip .ensures) (c .skip2 .ensures))
+    let c4 = c .before .before .before .before in
+    let c11 = c4 .before .before .before .before .before .before .before in
+    other-done (c11 .args .reading) down _ (c11 .args .a .now) (c11 .args .b .now) _ (c11 .pre .1) (c4 .before .if1 .left) (c4 .if3 .left) (c .before .before .before .if4 .left)
+    (c .before .before .nearest .result) (c .before .before .nearest .ensures) _ refl _ _ (c .before .skip .ensures) (c .skip2 .ensures))

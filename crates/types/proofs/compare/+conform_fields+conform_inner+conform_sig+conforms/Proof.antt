@@ -21,7 +21,8 @@ use Rattle.form.proofs.bytes.name_at.Reads as name-at-reads
 use Rattle.form.proofs.bytes.wide.Reads as wide-reads
 use Rattle.form.proofs.bytes.word_at.Reads as word-at-reads
 use Rattle.types.proofs.walk.next_name.Reads as next-name-reads
-use Rattle.types.proofs.readings.is_strict.Reads as is-strict-reads
+use Rattle.tables.proofs.readings.is_related.Reads as is-related-reads
+use Rattle.tables.proofs.readings.is_strict.Reads as is-strict-reads
 use Rattle.types.proofs.compare.same_simple.Reads as same-simple-reads
 use Rattle.types.proofs.walk.skip.Reads as skip-reads
 use Rattle.types.proofs.compare.skip_both.Reads as skip-both-reads
@@ -37,7 +38,7 @@ use lib.ListN.{length}
 use Rattle.form.specs.Limits.{nameWidth}
 use Rattle.form.proofs.WalkAnswers.{part-room}
 use Rattle.order.specs.Order.{orderOf}
-use Rattle.order.proofs.Simple.{reading-laws}
+use Rattle.order.proofs.Ends.{reading-ends}
 use Rattle.order.specs.Types.{le}
 use Rattle.order.specs.Size.{size, sizeFields}
 use Rattle.types.specs.At.{typeAt, fieldsAt, sigAt, sizeSig}
@@ -49,7 +50,7 @@ use Rattle.types.proofs.SortedNames.{readable-type, fields-run, NamesGo
 use Rattle.types.proofs.SortedNames.{names-missing, names-unread, names-skip, b-more, names-apart, names-common}
 use Rattle.types.proofs.EntryTests.{fields-tests}
 use Rattle.types.proofs.TypeConformance.{simple-pair, behind-pair, sized-part, unsized-part, no-level, no-a, no-b, no-command, beyond}
-use Rattle.types.proofs.TypeConformance.{no-context, no-function, no-other, no-counts, met-null, met-any, met-simple, met-list, met-range}
+use Rattle.types.proofs.TypeConformance.{no-context, no-function, no-other, no-counts, met-table, met-null, met-any, met-simple, met-list, met-range}
 use Rattle.types.proofs.TypeConformance.{met-context, met-function, behind-yes, behind-no, passed-over, SigGo, sig-start, sig-turn}
 use Rattle.types.proofs.TypeConformance.{sig-apart, sig-done, sig-last-apart, compared-strict, compared-some}
 
@@ -160,6 +161,8 @@ abbrev conforms-claims : ℕ → conforms-lts.Claims
 conforms-claims t = (
   skip-both-reads.Asked,
   skip-both-reads.Learnt,
+  is-related-reads.Asked,
+  is-related-reads.Learnt,
   conform-inner-below t,
   conform-inner.Post,
   word-at-reads.Asked,
@@ -398,7 +401,7 @@ conform-fields-add-at-2 t c =
           (c7 .name-at .result) (c4 .next-name .result) (c7 .name-at .ensures .0) (c4 .before .before .if2 .left)
           (c7 .name-at .ensures .1) (c4 .next-name .ensures .0) (c .before .before .if6 .left)
           (c .before .before .before .if5 .left)))
-          (simple-pair (reading-laws (args .reading)) (args .left) (args .a .now) (loop .at + nameWidth) (args .b .now) (loop .bt + nameWidth)
+          (simple-pair (reading-ends (args .reading)) (args .left) (args .a .now) (loop .at + nameWidth) (args .b .now) (loop .bt + nameWidth)
           (c .before .same-simple .result) (c .before .same-simple .ensures) (c .if8 .taken)),
     )
 
@@ -421,7 +424,7 @@ conform-fields-add-bt t c =
           (c7 .name-at .result) (c4 .next-name .result) (c7 .name-at .ensures .0) (c4 .before .before .if2 .left)
           (c7 .name-at .ensures .1) (c4 .next-name .ensures .0) (c .before .before .if6 .left)
           (c .before .before .before .if5 .left)))
-          (simple-pair (reading-laws (args .reading)) (args .left) (args .a .now) (loop .at + nameWidth) (args .b .now) (loop .bt + nameWidth)
+          (simple-pair (reading-ends (args .reading)) (args .left) (args .a .now) (loop .at + nameWidth) (args .b .now) (loop .bt + nameWidth)
           (c .before .same-simple .result) (c .before .same-simple .ensures) (c .if8 .taken)),
     )
 
@@ -451,7 +454,7 @@ conform-fields-loop-again-2 t c =
     (c7 .name-at .ensures .0) (c6 .if2 .left) (c7 .name-at .ensures .1) (c4 .next-name .ensures .0)
     (c2 .if6 .left) (c2 .before .if5 .left)))
     (c .before .same-simple .result) (c .before .same-simple .result)
-    (simple-pair (reading-laws (args .reading)) (args .left) (args .a .now) (c10 .loop .at + nameWidth) (args .b .now)
+    (simple-pair (reading-ends (args .reading)) (args .left) (args .a .now) (c10 .loop .at + nameWidth) (args .b .now)
     (c10 .loop .bt + nameWidth) (c .before .same-simple .result) (c .before .same-simple .ensures)
     (c .if8 .taken))
 
@@ -644,7 +647,7 @@ conform-inner-add-other t c =
       pair-in (readable-type (c4 .args .left)) (readable-type (c4 .args .left)) (le (orderOf (c4 .args .reading)))
           (c4 .args .a .now) 0 (c4 .args .b .now) 0 (c .before .same-simple .result)
           (c .before .same-simple .result) (omega arith) (omega arith)
-          (simple-pair (reading-laws (c4 .args .reading)) (c4 .args .left) (c4 .args .a .now) 0 (c4 .args .b .now) 0
+          (simple-pair (reading-ends (c4 .args .reading)) (c4 .args .left) (c4 .args .a .now) 0 (c4 .args .b .now) 0
           (c .before .same-simple .result) (c .before .same-simple .ensures) (c .if1 .taken)),
       c4 .pre,
     )
@@ -658,7 +661,7 @@ conform-inner-add-result t c =
       pair-in (readable-type (c4 .args .left)) (readable-type (c4 .args .left)) (le (orderOf (c4 .args .reading)))
           (c4 .args .a .now) 0 (c4 .args .b .now) 0 (c .before .same-simple .result)
           (c .before .same-simple .result) (omega arith) (omega arith)
-          (simple-pair (reading-laws (c4 .args .reading)) (c4 .args .left) (c4 .args .a .now) 0 (c4 .args .b .now) 0
+          (simple-pair (reading-ends (c4 .args .reading)) (c4 .args .left) (c4 .args .a .now) 0 (c4 .args .b .now) 0
           (c .before .same-simple .result) (c .before .same-simple .ensures) (c .if1 .taken)),
       c4 .pre,
     )
@@ -669,7 +672,7 @@ conform-inner-returns t c =
     let args = c .before .before .before .before .args in
     behind-pair (le (orderOf (args .reading))) (args .left) (args .a .now) (args .b .now) 1 (c .before .same-simple .result)
     (c .before .same-simple .result)
-    (simple-pair (reading-laws (args .reading)) (args .left) (args .a .now) 0 (args .b .now) 0 (c .before .same-simple .result)
+    (simple-pair (reading-ends (args .reading)) (args .left) (args .a .now) 0 (args .b .now) 0 (c .before .same-simple .result)
     (c .before .same-simple .ensures) (c .if1 .taken))
     _ _ refl refl
 
@@ -885,7 +888,7 @@ conform-sig-add-bt t c =
           pair-in (readable-type (args .left)) (readable-type (args .left)) (le (orderOf (args .reading))) (args .b .now)
           (c3 .loop .bt) (args .a .now) (c3 .loop .at) (c .before .same-simple .result)
           (c .before .same-simple .result) ((c3 .loop .inv) .in-b) ((c3 .loop .inv) .in-a)
-          (simple-pair (reading-laws (args .reading)) (args .left) (args .b .now) (c3 .loop .bt) (args .a .now) (c3 .loop .at)
+          (simple-pair (reading-ends (args .reading)) (args .left) (args .b .now) (c3 .loop .bt) (args .a .now) (c3 .loop .at)
           (c .before .same-simple .result) (c .before .same-simple .ensures) (c .if4 .taken)),
     )
 
@@ -900,7 +903,7 @@ conform-sig-add-at t c =
           pair-in (readable-type (args .left)) (readable-type (args .left)) (le (orderOf (args .reading))) (args .b .now)
           (c3 .loop .bt) (args .a .now) (c3 .loop .at) (c .before .same-simple .result)
           (c .before .same-simple .result) ((c3 .loop .inv) .in-b) ((c3 .loop .inv) .in-a)
-          (simple-pair (reading-laws (args .reading)) (args .left) (args .b .now) (c3 .loop .bt) (args .a .now) (c3 .loop .at)
+          (simple-pair (reading-ends (args .reading)) (args .left) (args .b .now) (c3 .loop .bt) (args .a .now) (c3 .loop .at)
           (c .before .same-simple .result) (c .before .same-simple .ensures) (c .if4 .taken)),
     )
 
@@ -917,7 +920,7 @@ conform-sig-loop-again t c =
     let args = c3 .before .before .before .before .args in
     sig-turn (c3 .loop .inv) (c .before .before .loop-test .taken) (c .before .same-simple .result)
     (c .before .same-simple .result)
-    (simple-pair (reading-laws (args .reading)) (args .left) (args .b .now) (c3 .loop .bt) (args .a .now) (c3 .loop .at)
+    (simple-pair (reading-ends (args .reading)) (args .left) (args .b .now) (c3 .loop .bt) (args .a .now) (c3 .loop .at)
     (c .before .same-simple .result) (c .before .same-simple .ensures) (c .if4 .taken))
 
 conform-sig-sub-conforms : (t : ℕ) →
@@ -1194,7 +1197,7 @@ conforms-returns-4 : (t : ℕ) → conforms-lts.Need-returns-4 (conforms-claims 
 conforms-returns-4 t c =
     let c4 = c .before .before .before .before in
     let args = c4 .before .before .before .before .before .before .before .before .before .args in
-    met-null (reading-laws (args .reading)) (args .left) (args .a .now) (args .b .now) _ _ (c .skip-both .ensures) (c4 .if5 .taken)
+    met-null (reading-ends (args .reading)) (args .left) (args .a .now) (args .b .now) _ _ (c .skip-both .ensures) (c4 .if5 .taken)
 
 conforms-sub-skip-both-3 : (t : ℕ) → conforms-lts.Need-sub-skip-both-3 (conforms-claims t) (conforms-at t) conforms.Post
 conforms-sub-skip-both-3 t c = search needs
@@ -1227,14 +1230,27 @@ conforms-returns-5 t c =
     let c4 = c .before .before .before .before in
     let args =
     c4 .before .before .before .before .before .before .before .before .before .before .args in
-    met-any (reading-laws (args .reading)) (args .left) (args .a .now) (args .b .now) _ _ (c .skip-both2 .ensures) (c4 .if6 .taken)
+    met-any (reading-ends (args .reading)) (args .left) (args .a .now) (args .b .now) _ _ (c .skip-both2 .ensures) (c4 .if6 .taken)
+
+conforms-is-related-requires : (t : ℕ) →
+    conforms-lts.Need-is-related-requires (conforms-claims t) (conforms-at t) conforms.Post
+conforms-is-related-requires t c κs = search needs
 
 conforms-returns-6 : (t : ℕ) → conforms-lts.Need-returns-6 (conforms-claims t) (conforms-at t) conforms.Post
 conforms-returns-6 t c =
+    let c2 = c .before .before in
     let args =
-    c .before .before .before .before .before .before .before .before .before .before .args in
-    no-other (args .left) (args .a .now) (args .b .now) _ (orderOf (args .reading) .strict) (c .before .before .if4 .taken)
-    (c .before .if5 .left) (c .if6 .left)
+    c2 .before .before .before .before .before .before .before .before .before .before .args in
+    met-table (args .left) (args .a .now) (args .b .now) 0 (args .reading) (omega arith) (omega arith) (omega arith) (c2 .before .before .if4 .taken)
+    (c2 .before .if5 .left) (c2 .if6 .left) (c .before .is-related .result) (c .before .is-related .ensures) (c .if7 .taken)
+
+conforms-returns-7 : (t : ℕ) → conforms-lts.Need-returns-7 (conforms-claims t) (conforms-at t) conforms.Post
+conforms-returns-7 t c =
+    let c2 = c .before .before in
+    let args =
+    c2 .before .before .before .before .before .before .before .before .before .before .args in
+    no-other (args .left) (args .a .now) (args .b .now) _ (args .reading) (c2 .before .before .if4 .taken)
+    (c2 .before .if5 .left) (c2 .if6 .left) (c .before .is-related .result) (c .before .is-related .ensures) (c .if7 .left)
 
 conforms-sub-conform-inner : (t : ℕ) →
     conforms-lts.Need-sub-conform-inner (conforms-claims t) (conforms-at t) conforms.Post
@@ -1316,16 +1332,16 @@ conforms-conform-inner-requires-2 t c κs =
       ),
     )
 
-conforms-returns-7 : (t : ℕ) → conforms-lts.Need-returns-7 (conforms-claims t) (conforms-at t) conforms.Post
-conforms-returns-7 t c =
+conforms-returns-8 : (t : ℕ) → conforms-lts.Need-returns-8 (conforms-claims t) (conforms-at t) conforms.Post
+conforms-returns-8 t c =
     let args =
     c .before .before .before .before .before .before .before .before .before .before .args in
     no-context (le (orderOf (args .reading))) (args .left) (args .a .now) (args .b .now) _ (c .before .match .keys3)
     (sym (c .before .before .if4 .left) ∙ c .before .match .keys3)
     (λ x y. omega arith)
 
-conforms-returns-8 : (t : ℕ) → conforms-lts.Need-returns-8 (conforms-claims t) (conforms-at t) conforms.Post
-conforms-returns-8 t c =
+conforms-returns-9 : (t : ℕ) → conforms-lts.Need-returns-9 (conforms-claims t) (conforms-at t) conforms.Post
+conforms-returns-9 t c =
     let c2 = c .before .before in
     let args = c2 .before .before .before .before .before .before .before .before .before .args in
     no-context (le (orderOf (args .reading))) (args .left) (args .a .now) (args .b .now) _ (c2 .match .keys3)
@@ -1380,16 +1396,16 @@ conforms-conform-fields-requires t c κs =
       ),
     )
 
-conforms-returns-9 : (t : ℕ) → conforms-lts.Need-returns-9 (conforms-claims t) (conforms-at t) conforms.Post
-conforms-returns-9 t c =
+conforms-returns-10 : (t : ℕ) → conforms-lts.Need-returns-10 (conforms-claims t) (conforms-at t) conforms.Post
+conforms-returns-10 t c =
     let args =
     c .before .before .before .before .before .before .before .before .before .before .args in
     no-function (le (orderOf (args .reading))) (args .left) (args .a .now) (args .b .now) _ (c .before .match .keys4)
     (sym (c .before .before .if4 .left) ∙ c .before .match .keys4)
     (λ x y. omega arith)
 
-conforms-returns-10 : (t : ℕ) → conforms-lts.Need-returns-10 (conforms-claims t) (conforms-at t) conforms.Post
-conforms-returns-10 t c =
+conforms-returns-11 : (t : ℕ) → conforms-lts.Need-returns-11 (conforms-claims t) (conforms-at t) conforms.Post
+conforms-returns-11 t c =
     let c2 = c .before .before in
     let args = c2 .before .before .before .before .before .before .before .before .before .args in
     no-function (le (orderOf (args .reading))) (args .left) (args .a .now) (args .b .now) _ (c2 .match .keys4)
@@ -1400,16 +1416,16 @@ conforms-shared-slice-read-k : (t : ℕ) →
     conforms-lts.Need-shared-slice-read-k (conforms-claims t) (conforms-at t) conforms.Post
 conforms-shared-slice-read-k t c = search needs
 
-conforms-shared-slice-read-if11 : (t : ℕ) →
-    conforms-lts.Need-shared-slice-read-if11 (conforms-claims t) (conforms-at t) conforms.Post
-conforms-shared-slice-read-if11 t c = search needs
+conforms-shared-slice-read-if12 : (t : ℕ) →
+    conforms-lts.Need-shared-slice-read-if12 (conforms-claims t) (conforms-at t) conforms.Post
+conforms-shared-slice-read-if12 t c = search needs
 
-conforms-returns-11 : (t : ℕ) → conforms-lts.Need-returns-11 (conforms-claims t) (conforms-at t) conforms.Post
-conforms-returns-11 t c =
+conforms-returns-12 : (t : ℕ) → conforms-lts.Need-returns-12 (conforms-claims t) (conforms-at t) conforms.Post
+conforms-returns-12 t c =
     let c5 = c .before .before .before .before .before in
     let args = c5 .before .before .before .before .before .before .before .before .before .args in
     no-counts (args .left) (args .a .now) (args .b .now) _ (orderOf (args .reading)) (c5 .match .keys4)
-    (sym (c5 .before .if4 .left) ∙ c5 .match .keys4) (c .if11 .taken)
+    (sym (c5 .before .if4 .left) ∙ c5 .match .keys4) (c .if12 .taken)
 
 conforms-sub-conform-sig : (t : ℕ) → conforms-lts.Need-sub-conform-sig (conforms-claims t) (conforms-at t) conforms.Post
 conforms-sub-conform-sig t c = search needs
@@ -1453,22 +1469,22 @@ conforms-conform-sig-requires t c κs =
       ),
     )
 
-conforms-returns-12 : (t : ℕ) → conforms-lts.Need-returns-12 (conforms-claims t) (conforms-at t) conforms.Post
-conforms-returns-12 t c =
+conforms-returns-13 : (t : ℕ) → conforms-lts.Need-returns-13 (conforms-claims t) (conforms-at t) conforms.Post
+conforms-returns-13 t c =
     let c4 = c .before .before .before .before in
     let args = c4 .before .before .before .before .before .before .before .before .before .args in
     met-list (orderOf (args .reading)) (args .left) (args .a .now) (args .b .now) (omega arith) (omega arith) (omega arith) _ _
     (c4 .match .keys1) (sym (c4 .before .if4 .left) ∙ c4 .match .keys1) (c .conform-inner .ensures)
 
-conforms-returns-13 : (t : ℕ) → conforms-lts.Need-returns-13 (conforms-claims t) (conforms-at t) conforms.Post
-conforms-returns-13 t c =
+conforms-returns-14 : (t : ℕ) → conforms-lts.Need-returns-14 (conforms-claims t) (conforms-at t) conforms.Post
+conforms-returns-14 t c =
     let c4 = c .before .before .before .before in
     let args = c4 .before .before .before .before .before .before .before .before .before .args in
     met-range (orderOf (args .reading)) (args .left) (args .a .now) (args .b .now) (omega arith) (omega arith) (omega arith) _ _
     (c4 .match .keys2) (sym (c4 .before .if4 .left) ∙ c4 .match .keys2) (c .conform-inner2 .ensures)
 
-conforms-returns-14 : (t : ℕ) → conforms-lts.Need-returns-14 (conforms-claims t) (conforms-at t) conforms.Post
-conforms-returns-14 t c =
+conforms-returns-15 : (t : ℕ) → conforms-lts.Need-returns-15 (conforms-claims t) (conforms-at t) conforms.Post
+conforms-returns-15 t c =
     let c4 = c .before .before .before .before in
     let c8 = c4 .before .before .before .before in
     let args = c8 .before .before .before .before .before .before .before .before .before .args in
@@ -1478,36 +1494,36 @@ conforms-returns-14 t c =
     (sym (c8 .before .if4 .left) ∙ c8 .match .keys3) (omega arith) (omega arith)
     (c .conform-fields .ensures)
 
-conforms-returns-15 : (t : ℕ) → conforms-lts.Need-returns-15 (conforms-claims t) (conforms-at t) conforms.Post
-conforms-returns-15 t c =
+conforms-returns-16 : (t : ℕ) → conforms-lts.Need-returns-16 (conforms-claims t) (conforms-at t) conforms.Post
+conforms-returns-16 t c =
     let c2 = c .before .before in
     let c10 = c2 .before .before .before .before .before .before .before .before in
     let args = c10 .before .before .before .before .before .before .before .before .before .args in
     met-function (orderOf (args .reading)) (args .left) (args .a .now) (args .b .now) (omega arith) (omega arith) (omega arith) _
-    _ (c2 .wide .result) (c2 .wide .ensures .0) (c2 .before .before .before .if11 .left)
+    _ (c2 .wide .result) (c2 .wide .ensures .0) (c2 .before .before .before .if12 .left)
     (c10 .match .keys4) (sym (c10 .before .if4 .left) ∙ c10 .match .keys4) (omega arith) (omega arith)
     (c .conform-sig .ensures)
-
-conforms-returns-16 : (t : ℕ) → conforms-lts.Need-returns-16 (conforms-claims t) (conforms-at t) conforms.Post
-conforms-returns-16 t c =
-    let args =
-    c .before .before .before .before .before .before .before .before .before .before .before .args in
-    met-simple (reading-laws (args .reading)) (args .left) (args .a .now) (args .b .now) (omega arith) (omega arith) (omega arith)
-    (c .before .before .before .if4 .left) (c .before .if12 .left) (omega arith)
 
 conforms-returns-17 : (t : ℕ) → conforms-lts.Need-returns-17 (conforms-claims t) (conforms-at t) conforms.Post
 conforms-returns-17 t c =
     let args =
-    c .before .before .before .before .before .before .before .before .before .before .args in
-    no-command (le (orderOf (args .reading))) (args .left) (args .a .now) (args .b .now) _ (inl (c .if12 .taken))
+    c .before .before .before .before .before .before .before .before .before .before .before .args in
+    met-simple (reading-ends (args .reading)) (args .left) (args .a .now) (args .b .now) (omega arith) (omega arith) (omega arith)
+    (c .before .before .before .if4 .left) (c .before .if13 .left) (omega arith)
 
 conforms-returns-18 : (t : ℕ) → conforms-lts.Need-returns-18 (conforms-claims t) (conforms-at t) conforms.Post
 conforms-returns-18 t c =
     let args =
+    c .before .before .before .before .before .before .before .before .before .before .args in
+    no-command (le (orderOf (args .reading))) (args .left) (args .a .now) (args .b .now) _ (inl (c .if13 .taken))
+
+conforms-returns-19 : (t : ℕ) → conforms-lts.Need-returns-19 (conforms-claims t) (conforms-at t) conforms.Post
+conforms-returns-19 t c =
+    let args =
     c .before .before .before .before .before .before .before .before .before .before .before .args in
     let rest = c .before .before .match .rest in
     no-command (le (orderOf (args .reading))) (args .left) (args .a .now) (args .b .now) _
-    (inr (beyond _ (c .if13 .left) (rest .0 .0 .0 .1) (rest .0 .0 .1) (rest .0 .1) (rest .1)))
+    (inr (beyond _ (c .if14 .left) (rest .0 .0 .0 .1) (rest .0 .0 .1) (rest .0 .1) (rest .1)))
 
 pub +conform-fields+conform-inner+conform-sig+conforms-spec : {M : Type 1} → statement M
 +conform-fields+conform-inner+conform-sig+conforms-spec =
@@ -1566,7 +1582,7 @@ pub +conform-fields+conform-inner+conform-sig+conforms-spec : {M : Type 1} → s
     (conforms-part-skip-both-end-2 t) (conforms-skip-both-requires t) (conforms-returns-4 t)
     (conforms-sub-skip-both-3 t) (conforms-part-skip-both-start-3 t) (conforms-part-skip-both-end-3 t)
     (conforms-sub-skip-both-4 t) (conforms-part-skip-both-start-4 t) (conforms-part-skip-both-end-4 t)
-    (conforms-skip-both-requires-2 t) (conforms-returns-5 t) (conforms-returns-6 t)
+    (conforms-skip-both-requires-2 t) (conforms-returns-5 t) (conforms-is-related-requires t) (conforms-returns-6 t) (conforms-returns-7 t)
     (conforms-sub-conform-inner t) (conforms-part-conform-inner-start t)
     (conforms-part-conform-inner-end t) (conforms-sub-conform-inner-2 t)
     (conforms-part-conform-inner-start-2 t) (conforms-part-conform-inner-end-2 t)
@@ -1574,16 +1590,16 @@ pub +conform-fields+conform-inner+conform-sig+conforms-spec : {M : Type 1} → s
     (conforms-sub-conform-inner-4 t) (conforms-part-conform-inner-start-3 t)
     (conforms-part-conform-inner-end-3 t) (conforms-sub-conform-inner-5 t)
     (conforms-part-conform-inner-start-4 t) (conforms-part-conform-inner-end-4 t)
-    (conforms-sub-conform-inner-6 t) (conforms-conform-inner-requires-2 t) (conforms-returns-7 t)
-    (conforms-returns-8 t) (conforms-sub-conform-fields t) (conforms-part-conform-fields-start t)
+    (conforms-sub-conform-inner-6 t) (conforms-conform-inner-requires-2 t) (conforms-returns-8 t)
+    (conforms-returns-9 t) (conforms-sub-conform-fields t) (conforms-part-conform-fields-start t)
     (conforms-part-conform-fields-end t) (conforms-word-at-requires t) (conforms-sub-conform-fields-2 t)
     (conforms-part-conform-fields-start-2 t) (conforms-part-conform-fields-end-2 t)
     (conforms-word-at-requires-2 t) (conforms-sub-conform-fields-3 t)
-    (conforms-conform-fields-requires t) (conforms-returns-9 t) (conforms-returns-10 t)
-    (conforms-shared-slice-read-k t) (conforms-shared-slice-read-if11 t) (conforms-returns-11 t)
+    (conforms-conform-fields-requires t) (conforms-returns-10 t) (conforms-returns-11 t)
+    (conforms-shared-slice-read-k t) (conforms-shared-slice-read-if12 t) (conforms-returns-12 t)
     (conforms-sub-conform-sig t) (conforms-part-conform-sig-start t) (conforms-part-conform-sig-end t)
     (conforms-sub-conform-sig-2 t) (conforms-part-conform-sig-start-2 t)
     (conforms-part-conform-sig-end-2 t) (conforms-wide-requires t) (conforms-sub-conform-sig-3 t)
-    (conforms-conform-sig-requires t) (conforms-returns-12 t) (conforms-returns-13 t)
-    (conforms-returns-14 t) (conforms-returns-15 t) (conforms-returns-16 t) (conforms-returns-17 t)
-    (conforms-returns-18 t)
+    (conforms-conform-sig-requires t) (conforms-returns-13 t) (conforms-returns-14 t)
+    (conforms-returns-15 t) (conforms-returns-16 t) (conforms-returns-17 t) (conforms-returns-18 t)
+    (conforms-returns-19 t)

@@ -33,7 +33,7 @@ use Rattle.form.proofs.WalkAnswers.{part-room}
 use Rattle.order.specs.Order.{orderOf}
 use Rattle.order.specs.Size.{sizeVal, sizeEntries}
 use Rattle.order.specs.Values as order
-use Rattle.order.proofs.Simple.{reading-laws}
+use Rattle.order.proofs.Ends.{reading-ends}
 use Rattle.types.specs.At.{typeAt, fieldsAt}
 use Rattle.types.proofs.Pairs.{pair, pair-in, sized-in}
 use Rattle.types.proofs.SortedNames.{readable-type, NamesGo, names-start, cut-a, cut-b, falls-a, names-left, names-done, names-missing}
@@ -396,7 +396,7 @@ conform-entries-add-at-2 t c =
           (c7 .name-at .result) (c4 .next-name .result) (c7 .name-at .ensures .0) (c4 .before .before .if5 .left)
           (c7 .name-at .ensures .1) (c4 .next-name .ensures .0) (c .before .before .if9 .left)
           (c .before .before .before .if8 .left)))
-          (leaf-pair (orderOf (args .reading) .strict) (args .left - 1) (args .left) (args .v .now) (loop .at + nameWidth) (args .t .now)
+          (leaf-pair (reading-ends (args .reading)) (args .left - 1) (args .left) (args .v .now) (loop .at + nameWidth) (args .t .now)
           (loop .bt + nameWidth) (c .before .leaf .result) (c .before .leaf .ensures) (c .if11 .taken)),
     )
 
@@ -419,7 +419,7 @@ conform-entries-add-bt t c =
           (c7 .name-at .result) (c4 .next-name .result) (c7 .name-at .ensures .0) (c4 .before .before .if5 .left)
           (c7 .name-at .ensures .1) (c4 .next-name .ensures .0) (c .before .before .if9 .left)
           (c .before .before .before .if8 .left)))
-          (leaf-pair (orderOf (args .reading) .strict) (args .left - 1) (args .left) (args .v .now) (loop .at + nameWidth) (args .t .now)
+          (leaf-pair (reading-ends (args .reading)) (args .left - 1) (args .left) (args .v .now) (loop .at + nameWidth) (args .t .now)
           (loop .bt + nameWidth) (c .before .leaf .result) (c .before .leaf .ensures) (c .if11 .taken)),
     )
 
@@ -449,7 +449,7 @@ conform-entries-loop-again-2 t c =
     (c7 .name-at .ensures .0) (c6 .if5 .left) (c7 .name-at .ensures .1) (c4 .next-name .ensures .0)
     (c2 .if9 .left) (c2 .before .if8 .left)))
     (c .before .leaf .result) 1
-    (leaf-pair (orderOf (args .reading) .strict) (args .left - 1) (args .left) (args .v .now) (c10 .loop .at + nameWidth) (args .t .now)
+    (leaf-pair (reading-ends (args .reading)) (args .left - 1) (args .left) (args .v .now) (c10 .loop .at + nameWidth) (args .t .now)
     (c10 .loop .bt + nameWidth) (c .before .leaf .result) (c .before .leaf .ensures) (c .if11 .taken))
 
 conform-entries-sub-conforms : (t : ℕ) →
@@ -717,7 +717,7 @@ conform-items-add-at t c =
       let c3 = c .before .before .before in
           let args = c3 .before .before .before .before .args in
           items-fit (c3 .loop .inv) (c .before .before .loop-test .taken) (c .before .leaf .result) 1
-          (leaf-pair (orderOf (args .reading) .strict) (args .left - 1) (args .left) (args .v .now) (c3 .loop .at) (args .t .now) 0
+          (leaf-pair (reading-ends (args .reading)) (args .left - 1) (args .left) (args .v .now) (c3 .loop .at) (args .t .now) 0
           (c .before .leaf .result) (c .before .leaf .ensures) (c .if3 .taken)),
     )
 
@@ -733,7 +733,7 @@ conform-items-loop-again t c =
     let c3 = c .before .before .before in
     let args = c3 .before .before .before .before .args in
     items-turn (c3 .loop .inv) (c .before .before .loop-test .taken) (c .before .leaf .result) 1
-    (leaf-pair (orderOf (args .reading) .strict) (args .left - 1) (args .left) (args .v .now) (c3 .loop .at) (args .t .now) 0
+    (leaf-pair (reading-ends (args .reading)) (args .left - 1) (args .left) (args .v .now) (c3 .loop .at) (args .t .now) 0
     (c .before .leaf .result) (c .before .leaf .ensures) (c .if3 .taken))
 
 conform-items-sub-conforms : (t : ℕ) →
@@ -906,7 +906,7 @@ conforms-skip-requires t c κs = search needs
 conforms-returns-4 : (t : ℕ) → conforms-lts.Need-returns-4 (conforms-claims t) (conforms-at t) conforms.Post
 conforms-returns-4 t c =
     let args = c .before .before .before .before .before .before .before .before .before .args in
-    met-any (reading-laws (args .reading)) (args .left - 1) (args .left) (args .v .now) (args .t .now) (omega arith) (omega arith)
+    met-any (reading-ends (args .reading)) (args .left - 1) (args .left) (args .v .now) (args .t .now) (omega arith) (omega arith)
     (c .before .before .if4 .taken) (c .skip .result) (c .skip .ensures)
 
 conforms-shared-slice-read-match : (t : ℕ) →
@@ -917,7 +917,7 @@ conforms-returns-5 : (t : ℕ) → conforms-lts.Need-returns-5 (conforms-claims 
 conforms-returns-5 t c =
     let args =
     c .before .before .before .before .before .before .before .before .before .before .args in
-    range-apart (orderOf (args .reading) .strict) (args .left - 1) (args .left) (args .v .now) (args .t .now) _ (c .before .match .keys1)
+    range-apart (args .reading) (args .left - 1) (args .left) (args .v .now) (args .t .now) _ (c .before .match .keys1)
     (c .before .before .before .if4 .left) (c .if5 .taken)
 
 conforms-shared-slice-read-if6 : (t : ℕ) →
@@ -989,7 +989,7 @@ conforms-returns-8 : (t : ℕ) → conforms-lts.Need-returns-8 (conforms-claims 
 conforms-returns-8 t c =
     let args =
     c .before .before .before .before .before .before .before .before .before .before .args in
-    list-apart (orderOf (args .reading) .strict) (args .left - 1) (args .left) (args .v .now) (args .t .now) _ (c .before .match .keys2)
+    list-apart (args .reading) (args .left - 1) (args .left) (args .v .now) (args .t .now) _ (c .before .match .keys2)
     (c .before .before .before .if4 .left) (c .if8 .taken)
 
 conforms-sub-conform-items-4 : (t : ℕ) →
@@ -1041,7 +1041,7 @@ conforms-returns-9 : (t : ℕ) → conforms-lts.Need-returns-9 (conforms-claims 
 conforms-returns-9 t c =
     let args =
     c .before .before .before .before .before .before .before .before .before .before .args in
-    context-apart (orderOf (args .reading) .strict) (args .left - 1) (args .left) (args .v .now) (args .t .now) _
+    context-apart (args .reading) (args .left - 1) (args .left) (args .v .now) (args .t .now) _
     (c .before .match .keys3) (c .before .before .before .if4 .left) (c .if9 .taken)
 
 conforms-returns-10 : (t : ℕ) → conforms-lts.Need-returns-10 (conforms-claims t) (conforms-at t) conforms.Post

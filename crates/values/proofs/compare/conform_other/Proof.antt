@@ -1,23 +1,37 @@
--- `values::compare::conform_other` meets its contract, by the value's command: Any takes all, a null conforms to every type that is read, a leaf to its own type,
--- a definition by its types, all else to none.
+-- `values::compare::conform_other` meets its contract, by the value's command: Any takes all, a null conforms to every type that is read, a leaf to its own type
+-- and to those that a table has above it, a definition by its types, all else to none.
 -- Assumes nothing.
 use borrow.Author.Needs.{needs}
 use Rattle.values.proofs.compare.conform_other.Statement.{statement}
 use Rattle.values.proofs.compare.conform_other.Tie as tie
-use mathlib.Core.Path.{sym, _∙_}
+use mathlib.Core.Path.{_≡_, _∙_}
+use mathlib.Core.Bool.{true}
 use mathlib.Core.Logic.{⊎-elim}
 use lib.ListN.{getD}
+use Rattle.form.specs.Layout.{isLeafCommand}
 use Rattle.form.proofs.CommandKinds.{leaf-low, leaf-decimal, leaf-high}
 use Prim.Native.Nat.{_-_}
 use native.Mathlib.Omega.{arith}
 use Rattle.form.proofs.WalkAnswers.{part-room}
 use Rattle.order.specs.Order.{orderOf}
 use Rattle.order.specs.Values.{conforms}
-use Rattle.order.proofs.Simple.{reading-laws}
+use Rattle.order.proofs.Ends.{reading-ends}
 use Rattle.types.proofs.TypeConformance.{sized-part, unsized-part}
 use Rattle.values.proofs.ValueConformance.{sized-value, unsized-value, never, no-level, no-value, no-type, met-any, function-apart, rest-apart, no-signature-there, no-null, met-null}
-use Rattle.values.proofs.ValueConformance.{met-plain, plain-apart}
+use Rattle.values.proofs.ValueConformance.{met-plain, met-table, plain-apart}
 use Rattle.values.proofs.Definitions.{definition-bytes, definition-ok, definition-counts, met-definition}
+
+-- in the arm of a leaf but a null: the value's command is that of one
+arm-leaf : (c : tie.At-match-came) → isLeafCommand (getD (c .before .before .before .before .before .before .before .before .before .args .v .now) 0 0) ≡ true
+arm-leaf c =
+    let args = c .before .before .before .before .before .before .before .before .before .args in
+    ⊎-elim
+    (λ x. leaf-decimal (getD (args .v .now) 0 0) (x .keys2))
+    (λ x. leaf-low (getD (args .v .now) 0 0) (omega (arith, x .1 .taken)))
+    (c .match .came)
+
+arm-not-null : (c : tie.At-match-came) → getD (c .before .before .before .before .before .before .before .before .before .args .v .now) 0 0 ≡ 0 → ⊥
+arm-not-null c = ⊎-elim (λ x z. omega (arith, x .keys2)) (λ x z. x .0 .rest .0 .0 .1 z) (c .match .came)
 
 -- at `return 0;`
 returns : tie.Need-returns
@@ -63,7 +77,7 @@ skip-requires c κs = search needs
 -- at `return walk::skip(&v[0..], left - 1);`
 returns-4 : tie.Need-returns-4
 returns-4 c = let args = c .before .before .before .before .before .before .before .before .before .args in
-    met-any (reading-laws (args .reading)) (args .left - 1) (args .left) (args .v .now) (args .t .now) (omega arith) (omega arith)
+    met-any (reading-ends (args .reading)) (args .left - 1) (args .left) (args .v .now) (args .t .now) (omega arith) (omega arith)
     (c .before .before .if4 .taken) (c .skip .result) (c .skip .ensures)
 
 -- at `let c = v[0];`
@@ -114,7 +128,7 @@ returns-6 c = let args =
 returns-7 : tie.Need-returns-7
 returns-7 c = let args =
     c .before .before .before .before .before .before .before .before .before .before .args in
-    function-apart (orderOf (args .reading) .strict) (args .left - 1) (args .left) (args .v .now) (args .t .now) _
+    function-apart (args .reading) (args .left - 1) (args .left) (args .v .now) (args .t .now) _
     (c .before .match .keys3) (c .before .before .before .if4 .left) (c .if7 .taken)
 
 -- at `return 0;`
@@ -250,57 +264,89 @@ conform-definition-requires c κs = let c7 = c .before .before .before .before .
           (c .before .wide .result) (c .before .wide .ensures .0),
     )
 
--- at `if d != commands::leaf_type(c) {`
+-- at `let e = commands::leaf_type(c);`
 leaf-type-requires : tie.Need-leaf-type-requires
 leaf-type-requires c κs = search needs
 
--- at `return 0;`
-returns-11 : tie.Need-returns-11
-returns-11 c =
-    let c2 = c .before .before in
-    let args = c2 .before .before .before .before .before .before .before .before .before .args in
-    plain-apart (orderOf (args .reading) .strict) (args .left - 1) (args .left) (args .v .now) (args .t .now) _
-    (⊎-elim
-    (λ x. leaf-decimal (getD (args .v .now) 0 0) (x .keys2))
-    (λ x. leaf-low (getD (args .v .now) 0 0) (omega (arith, x .1 .taken)))
-    (c2 .match .came))
-    (⊎-elim (λ x z. omega (arith, x .keys2)) (λ x z. x .0 .rest .0 .0 .1 z) (c2 .match .came)) (c2 .before .before .if4 .left)
-    (λ z. c .if12 .taken (z ∙ sym (c .before .leaf-type .ensures)))
+-- at `if readings::is_related(e, d, reading) {`
+is-related-requires : tie.Need-is-related-requires
+is-related-requires c κs = search needs
 
--- at `walk::skip(&v[0..], left - 1)`
+-- at `return walk::skip(&v[0..], left - 1);`
 sub-skip-6 : tie.Need-sub-skip-6
 sub-skip-6 c = search needs
 
--- at `walk::skip(&v[0..], left - 1)`
+-- at `return walk::skip(&v[0..], left - 1);`
 part-skip-start-4 : tie.Need-part-skip-start-4
 part-skip-start-4 c = search needs
 
--- at `walk::skip(&v[0..], left - 1)`
+-- at `return walk::skip(&v[0..], left - 1);`
 part-skip-end-4 : tie.Need-part-skip-end-4
 part-skip-end-4 c = search needs
 
--- at `walk::skip(&v[0..], left - 1)`
+-- at `return walk::skip(&v[0..], left - 1);`
 sub-skip-7 : tie.Need-sub-skip-7
 sub-skip-7 c = search needs
 
--- at `walk::skip(&v[0..], left - 1)`
+-- at `return walk::skip(&v[0..], left - 1);`
 skip-requires-4 : tie.Need-skip-requires-4
 skip-requires-4 c κs = search needs
 
--- at the end
+-- at `return walk::skip(&v[0..], left - 1);`
+returns-11 : tie.Need-returns-11
+returns-11 c =
+    let c4 = c .before .before .before .before in
+    let c6 = c4 .before .before in
+    let args = c6 .before .before .before .before .before .before .before .before .before .args in
+    met-table (args .reading) (args .left - 1) (args .left) (args .v .now) (args .t .now) (omega arith) (omega arith) (arm-leaf c6)
+    (c6 .before .before .if4 .left) (c4 .before .leaf-type .result) (c4 .before .leaf-type .ensures) (c4 .if12 .taken)
+    (c .before .before .before .is-related .result) (c .before .before .before .is-related .ensures) (c .before .before .if13 .taken)
+    (c .skip4 .result) (c .skip4 .ensures)
+
+-- at `return 0;`
 returns-12 : tie.Need-returns-12
-returns-12 c = let c4 = c .before .before .before .before in
+returns-12 c =
+    let c2 = c .before .before in
+    let c4 = c2 .before .before in
+    let args = c4 .before .before .before .before .before .before .before .before .before .args in
+    plain-apart (args .reading) (args .left - 1) (args .left) (args .v .now) (args .t .now) _ (arm-leaf c4) (arm-not-null c4)
+    (c4 .before .before .if4 .left) (c2 .before .leaf-type .result) (c2 .before .leaf-type .ensures) (c2 .if12 .taken)
+    (c .before .is-related .result) (c .before .is-related .ensures) (c .if13 .left)
+
+-- at `walk::skip(&v[0..], left - 1)`
+sub-skip-8 : tie.Need-sub-skip-8
+sub-skip-8 c = search needs
+
+-- at `walk::skip(&v[0..], left - 1)`
+part-skip-start-5 : tie.Need-part-skip-start-5
+part-skip-start-5 c = search needs
+
+-- at `walk::skip(&v[0..], left - 1)`
+part-skip-end-5 : tie.Need-part-skip-end-5
+part-skip-end-5 c = search needs
+
+-- at `walk::skip(&v[0..], left - 1)`
+sub-skip-9 : tie.Need-sub-skip-9
+sub-skip-9 c = search needs
+
+-- at `walk::skip(&v[0..], left - 1)`
+skip-requires-5 : tie.Need-skip-requires-5
+skip-requires-5 c κs = search needs
+
+-- at the end
+returns-13 : tie.Need-returns-13
+returns-13 c = let c4 = c .before .before .before .before in
     let args =
     c4 .before .before .before .before .before .before .before .before .before .before .args in
-    met-null (reading-laws (args .reading)) (args .left - 1) (args .left) (args .v .now) (args .t .now) (c4 .leaf-size-at .result) _
+    met-null (reading-ends (args .reading)) (args .left - 1) (args .left) (args .v .now) (args .t .now) (c4 .leaf-size-at .result) _
     (c4 .leaf-size-at .ensures) (c .before .before .before .if5 .left) (c4 .before .match .keys1)
     (c .before .skip2 .result)
     (sized-part (args .left) (args .t .now) 0 (c .before .skip2 .result) (c .before .skip2 .ensures)
     (c .if6 .left))
 
 -- at the end
-returns-13 : tie.Need-returns-13
-returns-13 c = let c2 = c .before .before in
+returns-14 : tie.Need-returns-14
+returns-14 c = let c2 = c .before .before in
     let c8 = c2 .before .before .before .before .before .before in
     let c12 = c8 .before .before .before .before in
     let args =
@@ -313,23 +359,19 @@ returns-13 c = let c2 = c .before .before in
     (c .conform-definition .ensures)
 
 -- at the end
-returns-14 : tie.Need-returns-14
-returns-14 c =
+returns-15 : tie.Need-returns-15
+returns-15 c =
     let c10 = c .before .before .before .before .before .before .before .before .before .before in
-    rest-apart (orderOf (c10 .args .reading) .strict) (c10 .args .left - 1) (c10 .args .left) (c10 .args .v .now) (c10 .args .t .now) _ (c10 .pre) (c .before .before .before .if4 .left)
+    rest-apart (c10 .args .reading) (c10 .args .left - 1) (c10 .args .left) (c10 .args .v .now) (c10 .args .t .now) _ (c10 .pre) (c .before .before .before .if4 .left)
     (leaf-high (getD (c10 .args .v .now) 0 0) (c .if11 .left) (c .before .match .rest .0 .1)) (c .before .match .rest .1)
 
 -- at the end
-returns-15 : tie.Need-returns-15
-returns-15 c =
+returns-16 : tie.Need-returns-16
+returns-16 c =
     let c4 = c .before .before .before .before in
     let args = c4 .before .before .before .before .before .before .before .before .before .args in
-    met-plain (reading-laws (args .reading)) (args .left - 1) (args .left) (args .v .now) (args .t .now) (omega arith) (omega arith)
-    (⊎-elim
-    (λ x. leaf-decimal (getD (args .v .now) 0 0) (x .keys2))
-    (λ x. leaf-low (getD (args .v .now) 0 0) (omega (arith, x .1 .taken)))
-    (c4 .match .came))
-    (c .before .before .if12 .left ∙ c .before .before .before .leaf-type .ensures) (c .skip4 .result) (c .skip4 .ensures)
+    met-plain (reading-ends (args .reading)) (args .left - 1) (args .left) (args .v .now) (args .t .now) (omega arith) (omega arith) (arm-leaf c4)
+    (c .before .before .if12 .left ∙ c .before .before .before .leaf-type .ensures) (c .skip5 .result) (c .skip5 .ensures)
 
 pub conform-other-spec : {M : Type 1} → statement M
 conform-other-spec =
@@ -375,13 +417,20 @@ conform-other-spec =
     sub-conform-definition-3
     conform-definition-requires
     leaf-type-requires
-    returns-11
+    is-related-requires
     sub-skip-6
     part-skip-start-4
     part-skip-end-4
     sub-skip-7
     skip-requires-4
+    returns-11
     returns-12
+    sub-skip-8
+    part-skip-start-5
+    part-skip-end-5
+    sub-skip-9
+    skip-requires-5
     returns-13
     returns-14
-    returns-15)
+    returns-15
+    returns-16)

@@ -1,0 +1,4 @@
+pub mod Related
+pub mod Loops
+pub mod Rows
+pub mod CallContracts
