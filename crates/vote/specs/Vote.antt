@@ -4,7 +4,7 @@
 -- The calls are definitions here, each an answer or the number of a refusal, under an order: `types.isConformantBy`, `values.isConformantBy`, `leastTypeBy`, `combined` with
 -- the supertype or the subtype, and `reducedCall`. The contracts of `types::is_conformant`, `values::is_conformant`, `infer::least_type`, `bounds::common_supertype`,
 -- `bounds::common_subtype` and `bounds::reduced`, of their strict partners, and of the C functions over them in `feel`, equate what the code answers and writes with these
--- definitions, for all inputs: at `fixed` those of the ported calls, at `strictOrder` those of K8.
+-- definitions, for all inputs: at `fixed` those of the ported calls, at `strictOrder` those of K8, at the order of a members' table that loads those of K9 (specs/TableVote.antt).
 -- Assumes nothing.
 use Prim.Native.Nat.{ℕ, _+_, _*_, _<_, _≤_}
 use mathlib.Core.Path.{_≡_}
@@ -137,7 +137,8 @@ pub record GreatestLowerBound (O : Order) (a b : AcceptedType) (s : List ℕ) : 
   pub greatest : (t : AnyType) → le O (t .type) (a .type) ≡ true → le O (t .type) (b .type) ≡ true → le O (t .type) (bound .type) ≡ true
   pub reduced : reduce O (bound .type) ≡ bound .type
 
--- ---- the four statements, and the calls that answer them, under an order: `fixed` in document 01's vote below, `strictOrder` in document 02's K8 (specs/StrictVote.antt)
+-- ---- the four statements, and the calls that answer them, under an order: `fixed` in document 01's vote below, `strictOrder` in document 02's K8 (specs/StrictVote.antt), the order of
+-- every table that loads in K9 (specs/TableVote.antt)
 pub record Statements (O : Order) : Type 0 where
   -- 1. The least types of two accepted data values are equal exactly when no type, of any size, has one of the two conforming to it and the other not.
   pub equal-least-types : (v w : DataValueBy O)
