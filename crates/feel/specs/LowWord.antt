@@ -8,8 +8,8 @@ use Rattle.form.specs.Form.{Bytes}
 use Rattle.form.specs.Outcome.{Outcome, done}
 use Rattle.form.specs.Answers.{lengthOf}
 use Rattle.form.specs.Read.{checkValue, checkType}
-use Rattle.bounds.specs.Calls.{commonSupertype, commonSubtype, strictCommonSupertype, strictCommonSubtype, reducedCall}
-use Rattle.infer.specs.Calls.{leastTypeCall, strictLeastTypeCall, typeOfCall}
+use Rattle.bounds.specs.Calls.{commonSupertype, commonSubtype, strictCommonSupertype, strictCommonSubtype, tableCommonSupertype, tableCommonSubtype, reducedCall}
+use Rattle.infer.specs.Calls.{leastTypeCall, strictLeastTypeCall, tableLeastTypeCall, typeOfCall}
 use Rattle.retrieval.specs.Calls.{getValueCheckedCall, getConformantValueCall}
 use Rattle.coercion.specs.Calls.{coercedCall}
 use Rattle.ranges.specs.Calls.{bifTypeCall}
@@ -43,9 +43,12 @@ pub record LowWord : Type 0 where
   pub common-subtype : (a b : List ℕ) (scratch room : ℕ) → Bytes a → Bytes b → Short (commonSubtype a b scratch room)
   pub strict-common-supertype : (a b : List ℕ) (scratch room : ℕ) → Bytes a → Bytes b → Short (strictCommonSupertype a b scratch room)
   pub strict-common-subtype : (a b : List ℕ) (scratch room : ℕ) → Bytes a → Bytes b → Short (strictCommonSubtype a b scratch room)
+  pub table-common-supertype : (table a b : List ℕ) (scratch room : ℕ) → Bytes a → Bytes b → Short (tableCommonSupertype table a b scratch room)
+  pub table-common-subtype : (table a b : List ℕ) (scratch room : ℕ) → Bytes a → Bytes b → Short (tableCommonSubtype table a b scratch room)
   pub reduced : (t : List ℕ) (room : ℕ) → Bytes t → Short (reducedCall t room)
   pub least-type : (v : List ℕ) (scratch room : ℕ) → Bytes v → Short (leastTypeCall v scratch room)
   pub strict-least-type : (v : List ℕ) (scratch room : ℕ) → Bytes v → Short (strictLeastTypeCall v scratch room)
+  pub table-least-type : (table v : List ℕ) (scratch room : ℕ) → Bytes v → Short (tableLeastTypeCall table v scratch room)
   pub type-of : (v : List ℕ) (scratch room : ℕ) → Bytes v → Short (typeOfCall v scratch room)
   pub get-value-checked : (t v : List ℕ) (room : ℕ) → Short (getValueCheckedCall t v room)
   pub get-conformant-value : (t v : List ℕ) (room : ℕ) → Short (getConformantValueCall t v room)

@@ -7,6 +7,7 @@ use mathlib.Core.Path.{_≡_}
 use mathlib.Core.Bool.{Bool, true, false}
 use mathlib.Core.Option.{Option, none, some}
 use mathlib.Core.List.{List}
+use lib.ListN.{length}
 use Rattle.form.specs.Outcome.{Outcome, done, refused}
 use Rattle.form.specs.Answers.{lengthOf, leaves}
 use Rattle.paths.specs.Places.{Piece, piece}
@@ -47,3 +48,7 @@ Halves (refused k) = Unit {0}
 pub record Exported (o : Outcome (List ℕ)) (old new : List ℕ) (r : ℕ) : Type 0 where
   pub answer : r ≡ numbered (lengthOf o)
   pub output : new ≡ leaves o old
+
+-- the same of a call that works in a scratch
+abbrev pub ExportedApart : (ℕ → ℕ → Outcome (List ℕ)) → List ℕ → List ℕ → List ℕ → ℕ → Type 0
+ExportedApart call scratch old new r = Exported (call (length scratch) (length old)) old new r

@@ -3,14 +3,15 @@ ghost use mathlib.Core.Path.{_≡_};
 ghost use lib.ListN.{length};
 ghost use Rattle.form.specs.Answers.{checked, verdict, written};
 ghost use Rattle.form.specs.Read.{checkValue, checkType};
-ghost use Rattle.types.specs.Calls.{isConformant, strictIsConformant, instanceOf, isSimpleBuiltInType, isNull};
+ghost use Rattle.tables.specs.Calls.{checkTable};
+ghost use Rattle.types.specs.Calls.{isConformant, strictIsConformant, tableIsConformant, instanceOf, isSimpleBuiltInType, isNull};
 ghost use Rattle.values.specs.Calls as values;
-ghost use Rattle.infer.specs.Calls.{leastTypeCall, strictLeastTypeCall, typeOfCall};
+ghost use Rattle.infer.specs.Calls.{leastTypeCall, strictLeastTypeCall, tableLeastTypeCall, typeOfCall};
 ghost use Rattle.retrieval.specs.Calls.{getValueCheckedCall, getConformantValueCall};
 ghost use Rattle.coercion.specs.Calls.{coercedCall};
 ghost use Rattle.ranges.specs.Calls.{isInvalidCoercionCall, isValidRangeCall, isNullCall, isTrueCall, isFalseCall, isNumberCall, isStringCall, isListCall, isRangeCall};
 ghost use Rattle.ranges.specs.Calls.{interval, openedCall, closedCall, undefinedCall, bifTypeCall};
-ghost use Rattle.bounds.specs.Calls.{commonSupertype, commonSubtype, strictCommonSupertype, strictCommonSubtype, reducedCall};
+ghost use Rattle.bounds.specs.Calls.{commonSupertype, commonSubtype, strictCommonSupertype, strictCommonSubtype, tableCommonSupertype, tableCommonSubtype, reducedCall};
 ghost use Rattle.paths.specs.Places.{found, extentOf};
 ghost use Rattle.paths.specs.Calls.{searchDeepCall, getEntryCall, getFirstCall, containsDeepCall, containsEntryCall, isContextCall, isEmptyCall, lenCall, count};
 ghost use Rattle.context.specs.Calls.{createEntriesCall, applyEntriesCall, zipCall, overwriteCall, moveEntryCall, setEntryCall, removeEntryCall, setNullCall};
@@ -18,7 +19,7 @@ ghost use Rattle.form.specs.Outcome.{done};
 ghost use Rattle.names.specs.BuiltInNames.{isBuiltInTypeName};
 ghost use Rattle.names.specs.Calls.{nameNewCall, trimCall, fromStrCall, known};
 ghost use Rattle.display.specs.Calls.{displayCall};
-ghost use Rattle.feel.specs.Numbers.{numbered, judged, parted, named, Halves, Exported};
+ghost use Rattle.feel.specs.Numbers.{numbered, judged, parted, named, Halves, Exported, ExportedApart};
 use form::Checked;
 use form::Verdict;
 use form::Written;
@@ -574,4 +575,69 @@ pub extern "C" fn feel_strict_value_least_type(v: &[u8], scratch: &mut [u8], out
     ensures { λ r. ⌜ Exported (strictLeastTypeCall (now (v .entry)) (length (now (scratch .entry))) (length (now (out .entry)))) (now (out .entry)) (now (out .exit)) r ⌝ }
 {
     written_number(infer::strict_least_type(v, scratch, out))
+}
+
+// Does the table of simple types load? Yes, or refusal 26 to 28.
+#[no_mangle]
+pub extern "C" fn feel_table_check(table: &[u8]) -> u64
+    ensures { λ r. ⌜ r ≡ judged (checkTable (now (table .entry))) ⌝ }
+{
+    verdict_number(tables::check_table(table))
+}
+
+// Does the type a conform to the type b over the table?
+#[no_mangle]
+pub extern "C" fn feel_table_type_is_conformant(table: &[u8], a: &[u8], b: &[u8]) -> u64
+    ensures { λ r. ⌜ r ≡ judged (tableIsConformant (now (table .entry)) (now (a .entry)) (now (b .entry))) ⌝ }
+{
+    verdict_number(types::table_is_conformant(table, a, b))
+}
+
+// The common supertype of two types over the table.
+#[no_mangle]
+pub extern "C" fn feel_table_type_common_supertype(
+    table: &[u8],
+    a: &[u8],
+    b: &[u8],
+    scratch: &mut [u8],
+    out: &mut [u8],
+) -> u64
+    ensures { λ r. ⌜ ExportedApart (tableCommonSupertype (now (table .entry)) (now (a .entry)) (now (b .entry))) (now (scratch .entry)) (now (out .entry)) (now (out .exit)) r ⌝ }
+{
+    written_number(bounds::table_common_supertype(table, a, b, scratch, out))
+}
+
+// The common subtype of two types over the table.
+#[no_mangle]
+pub extern "C" fn feel_table_type_common_subtype(
+    table: &[u8],
+    a: &[u8],
+    b: &[u8],
+    scratch: &mut [u8],
+    out: &mut [u8],
+) -> u64
+    ensures { λ r. ⌜ ExportedApart (tableCommonSubtype (now (table .entry)) (now (a .entry)) (now (b .entry))) (now (scratch .entry)) (now (out .entry)) (now (out .exit)) r ⌝ }
+{
+    written_number(bounds::table_common_subtype(table, a, b, scratch, out))
+}
+
+// Does the value conform to the type over the table?
+#[no_mangle]
+pub extern "C" fn feel_table_value_is_conformant(table: &[u8], v: &[u8], t: &[u8]) -> u64
+    ensures { λ r. ⌜ r ≡ judged (values.tableIsConformant (now (table .entry)) (now (v .entry)) (now (t .entry))) ⌝ }
+{
+    verdict_number(values::table_is_conformant(table, v, t))
+}
+
+// The least type of a data value over the table.
+#[no_mangle]
+pub extern "C" fn feel_table_value_least_type(
+    table: &[u8],
+    v: &[u8],
+    scratch: &mut [u8],
+    out: &mut [u8],
+) -> u64
+    ensures { λ r. ⌜ ExportedApart (tableLeastTypeCall (now (table .entry)) (now (v .entry))) (now (scratch .entry)) (now (out .entry)) (now (out .exit)) r ⌝ }
+{
+    written_number(infer::table_least_type(table, v, scratch, out))
 }

@@ -24,7 +24,7 @@ pub enum Answer {
 
 // What answers are made of, one a line, from 0 on: words, what stands around numbers, what can be wrong with a line in the order of
 // `fault`, and the refusals in the order of their numbers in include/feel.h, with one in front that no call has.
-const TEXTS: [u8; 1356] = *b"\
+const TEXTS: [u8; 1529] = *b"\
     \n\
     yes\n\
     no\n\
@@ -64,6 +64,9 @@ const TEXTS: [u8; 1356] = *b"\
     refused 18: output too short for the answer\n\
     refused 19: texts: table or parts malformed, or with bytes left over\n\
     refused 20: texts: a name's number is not in the table\n\
+    refused 26: table: not a hundred bytes 0 or 1\n\
+    refused 27: table: no order of the simple types from Null up to Any\n\
+    refused 28: table: two types lack a least common supertype\n\
 ";
 
 // Their numbers; WANTED, FAULT and REFUSAL stand in front of the first of their kind.
@@ -89,8 +92,8 @@ const FAULT: u8 = 10;
 
 const REFUSAL: u8 = 18;
 
-// The greatest number of a refusal.
-const LAST: u8 = 20;
+// How many refusals have words.
+const LAST: u8 = 23;
 
 // ---- a text
 
@@ -234,6 +237,15 @@ fn behind(k: u8, n: u8) -> u8 {
     k + n
 }
 
+// The place of a refusal among those that have words; 0 where no call has it.
+fn refusal_place(n: u8) -> u8 {
+    match n {
+        1..=20 => n,
+        26..=28 => n - 5,
+        _ => 0,
+    }
+}
+
 // How many arguments are wanted, and how many were found.
 fn counted(wanted: u8, found: u64, commas: bool) -> Sentence {
     numbered(
@@ -251,7 +263,7 @@ fn sentence_of(a: Answer) -> Sentence {
         Answer::None => plain(NONE),
         Answer::Unknown => plain(UNKNOWN),
         Answer::Number(n) => numbered(EMPTY, n as u64, EMPTY),
-        Answer::Refused(n) => plain(behind(REFUSAL, n)),
+        Answer::Refused(n) => plain(behind(REFUSAL, refusal_place(n))),
         Answer::Wrong(n) => plain(behind(FAULT, n)),
         Answer::Count {
             wanted,

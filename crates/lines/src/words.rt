@@ -21,10 +21,10 @@ pub const NAMES: u8 = 3;
 pub const PATH: u8 = 4;
 
 // How many there are.
-const QUESTIONS: usize = 54;
+const QUESTIONS: usize = 60;
 
 // How many letters their words have.
-const SIZE: usize = 527;
+const SIZE: usize = 610;
 
 // The words one behind the other, in the order of include/feel.h.
 const LETTERS: [u8; SIZE] = *b"\
@@ -33,10 +33,11 @@ const LETTERS: [u8; SIZE] = *b"\
     is-numberis-stringis-listis-rangeopenedclosedundefinedbif-typeget-entrysearchget-firstcontains-entrycontains\
     is-contextis-emptylencreateapplyzipoverwritemove-entryset-entryremove-entryset-nulldisplayfrom-str\
     is-built-in-type-namename-newtrimstrict-type-conformsstrict-supertypestrict-subtypestrict-conformsstrict-least\
+    table-checktable-type-conformstable-supertypetable-subtypetable-conformstable-least\
 ";
 
 // Where each starts, and where the last ends.
-const STARTS: [u16; 55] = [
+const STARTS: [u16; 61] = [
     0,
     11,
     21,
@@ -92,6 +93,12 @@ const STARTS: [u16; 55] = [
     500,
     515,
     527,
+    538,
+    557,
+    572,
+    585,
+    599,
+    610,
 ];
 
 // How each is asked: how many arguments it wants, and 4 for each number of a kind of call in front of its own.
@@ -150,6 +157,12 @@ const SHAPES: [u8; QUESTIONS] = [
     14,
     6,
     13,
+    5,
+    7,
+    15,
+    15,
+    7,
+    14,
 ];
 
 // What its arguments have to be: BYTE, NAME, NAMES, PATH or 0 for any bytes.
@@ -208,6 +221,12 @@ const FITS: [u8; QUESTIONS] = [
     0,
     0,
     0,
+    0,
+    0,
+    0,
+    0,
+    0,
+    0,
 ];
 
 fn wide(x: u16) -> usize {
@@ -225,7 +244,7 @@ fn start(k: usize) -> usize {
 
 // Whether this is the k-th word, from 0 on.
 fn is_word(word: &[u8], k: usize) -> bool
-    requires { ⌜ k < 54 ⌝ }
+    requires { ⌜ k < 60 ⌝ }
 {
     let from = start(k);
     let to = start(k + 1);
@@ -240,7 +259,7 @@ fn is_word(word: &[u8], k: usize) -> bool
 
 // The question with this word.
 pub(crate) fn find(word: &[u8]) -> usize
-    ensures { λ r. ⌜ r ≤ 54 ⌝ }
+    ensures { λ r. ⌜ r ≤ 60 ⌝ }
 {
     let mut k: usize = 0;
     while k < QUESTIONS {

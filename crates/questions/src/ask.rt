@@ -204,7 +204,7 @@ fn trim(s: &[u8], out: &mut [u8]) -> Answer {
 // ---- calls
 
 // Questions that are answered by yes or no.
-fn judge(call: usize, a: &[u8], b: &[u8]) -> Verdict {
+fn judge(call: usize, a: &[u8], b: &[u8], c: &[u8]) -> Verdict {
     let i = byte_of(a);
     let name = name_of(b);
     match call {
@@ -229,12 +229,15 @@ fn judge(call: usize, a: &[u8], b: &[u8]) -> Verdict {
         34 => paths::is_context(a, name),
         35 => paths::is_empty(a),
         50 => types::strict_is_conformant(a, b),
-        _ => values::strict_is_conformant(a, b),
+        53 => values::strict_is_conformant(a, b),
+        55 => tables::check_table(a),
+        56 => types::table_is_conformant(a, b, c),
+        _ => values::table_is_conformant(a, b, c),
     }
 }
 
 // Questions that build with a scratch.
-fn build_apart(call: usize, a: &[u8], b: &[u8], out: &mut [u8]) -> Written {
+fn build_apart(call: usize, a: &[u8], b: &[u8], c: &[u8], out: &mut [u8]) -> Written {
     let mut scratch = io::large_buffer();
     match call {
         5 => bounds::common_supertype(a, b, &mut scratch, out),
@@ -243,7 +246,10 @@ fn build_apart(call: usize, a: &[u8], b: &[u8], out: &mut [u8]) -> Written {
         12 => infer::type_of(a, &mut scratch, out),
         51 => bounds::strict_common_supertype(a, b, &mut scratch, out),
         52 => bounds::strict_common_subtype(a, b, &mut scratch, out),
-        _ => infer::strict_least_type(a, &mut scratch, out),
+        54 => infer::strict_least_type(a, &mut scratch, out),
+        57 => bounds::table_common_supertype(a, b, c, &mut scratch, out),
+        58 => bounds::table_common_subtype(a, b, c, &mut scratch, out),
+        _ => infer::table_least_type(a, b, &mut scratch, out),
     }
 }
 
@@ -307,9 +313,9 @@ fn ask(call: usize, all: &[u8], one: usize, two: usize, three: usize, out: &mut 
     let b = &all[x..y];
     let c = &all[y..z];
     match words::kind(call) {
-        words::JUDGE => judged(judge(call, a, b)),
+        words::JUDGE => judged(judge(call, a, b, c)),
         words::BUILD => wrote(build(call, a, b, c, out)),
-        words::APART => wrote(build_apart(call, a, b, out)),
+        words::APART => wrote(build_apart(call, a, b, c, out)),
         words::PATHS => ask_path(call, a, b, c, out),
         _ => ask_other(call, a, b, out),
     }

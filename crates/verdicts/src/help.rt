@@ -18,7 +18,7 @@ const LINES: [u8; 753] = *b"\
 ";
 
 // What arguments are.
-const ARGUMENTS: [u8; 594] = *b"\
+const ARGUMENTS: [u8; 707] = *b"\
     V          a value\n\
     T A B      a type\n\
     C D        a context, which is a value\n\
@@ -29,6 +29,7 @@ const ARGUMENTS: [u8; 594] = *b"\
     TABLE      texts: a 16-bit count, then for each text a length byte and its bytes; the first is that of name 0\n\
     PARTS      parts of a name: a count byte, then for each part a length byte and its bytes\n\
     S          a text: any bytes\n\
+    ROWS       a table of the simple types: a hundred bytes, 00 or 01, row conforms to column, in the order 20 to 29\n\
     All arguments of a line have together at most 49216 bytes.\n\
     \n\
 ";
@@ -91,12 +92,22 @@ const MORE: [u8; 888] = *b"\
 ";
 
 // Those of the strict reading.
-const STRICT: [u8; 507] = *b"\
+const STRICT: [u8; 506] = *b"\
     strict-type-conforms A B      yes or no: A conforms to B as DMN has it, also in the results of functions without parameters\n\
     strict-supertype A B          bytes: the least type to which both so conform\n\
     strict-subtype A B            bytes: the greatest type that so conforms to both\n\
     strict-conforms V T           yes or no: V conforms to T as DMN has it, a function definition as its function type\n\
     strict-least V                bytes: the least type as DMN has it; of a function definition its function type\n\
+";
+
+// Those over a table of the simple types.
+const OVER: [u8; 444] = *b"\
+    table-check ROWS              yes where the table loads, otherwise refused\n\
+    table-type-conforms ROWS A B  yes or no: A conforms to B over the table\n\
+    table-supertype ROWS A B      bytes: the least type to which both so conform\n\
+    table-subtype ROWS A B        bytes: the greatest type that so conforms to both\n\
+    table-conforms ROWS V T       yes or no: V conforms to T over the table\n\
+    table-least ROWS V            bytes: the least type over the table\n\
     \n\
 ";
 
@@ -115,5 +126,6 @@ pub(crate) fn print() {
     io::write_all(STDOUT_FILENO, &QUESTIONS);
     io::write_all(STDOUT_FILENO, &MORE);
     io::write_all(STDOUT_FILENO, &STRICT);
+    io::write_all(STDOUT_FILENO, &OVER);
     io::write_all(STDOUT_FILENO, &ANSWERS);
 }

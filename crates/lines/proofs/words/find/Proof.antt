@@ -5,10 +5,10 @@ use Rattle.lines.proofs.words.find.Tie as tie
 use Prim.Native.Nat.{_≤_, _-_}
 
 abbrev Inv-loop : tie.InvT-loop
-Inv-loop word k₀ k = k ≤ 54
+Inv-loop word k₀ k = k ≤ 60
 
 abbrev μ-loop : tie.MeasureT-loop
-μ-loop word k₀ k = 54 - k
+μ-loop word k₀ k = 60 - k
 
 pub find-spec : {M : Type 1} → statement M
 find-spec =
