@@ -35,6 +35,11 @@
  *   18  output too short for the answer
  *   19  texts: table or parts malformed, or with bytes left over
  *   20  texts: a name's number is not in the table
+ *   26  table: not a hundred bytes 0 or 1
+ *   27  table: no order of the simple types from Null up to Any
+ *       (a type does not conform to itself, Null not to all or not all to Any, two types conform mutually, or conformance does not
+ *       carry through a third type)
+ *   28  table: two types lack a least common supertype
  */
 #ifndef FEEL_H
 #define FEEL_H
@@ -233,6 +238,39 @@ uint64_t feel_strict_value_is_conformant(const uint8_t *v, size_t v_len, const u
  * function, a type or an irrelevant mark stands anywhere in v; 14 where the scratch is shorter than four times v; 18. The scratch's contents
  * afterwards are free. */
 uint64_t feel_strict_value_least_type(const uint8_t *v, size_t v_len, uint8_t *scratch, size_t scratch_len, uint8_t *out, size_t out_len);
+
+/* TABLES OF SIMPLE TYPES. The calls below take the relation among the ten simple types from a table: a hundred bytes 0 or 1, row conforms to column, in
+ * the order of the commands 0x20 to 0x29, so that byte 10 * (a - 0x20) + (b - 0x20) says whether the type a conforms to the type b. The table is the
+ * first argument and is refused before any other is looked at: 26; 27; 28. List, range, context and function types meet a simple type only at Any, and Null
+ * only from below. All else is as in the calls without a table, the strict ones left aside: functions without parameters do not compare their results, answers
+ * are reduced, order of arguments, refusals, scratch. Over the fixed relation's table (Null to all, all to Any, each to itself) a call answers as the one without. */
+
+/* Does the table load? Answers 1, or refusal 26, 27 or 28. */
+uint64_t feel_table_check(const uint8_t *table, size_t table_len);
+
+/* Does the type a conform to the type b over the table? Answers 1 or 0, or the table's refusal 26 to 28, or a's 6 to 10, or b's. */
+uint64_t feel_table_type_is_conformant(const uint8_t *table, size_t table_len, const uint8_t *a, size_t a_len, const uint8_t *b, size_t b_len);
+
+/* The least type to which both conform over the table, reduced, at the front of out. Two simple types have their least common supertype in the table.
+ * Answers its length, or the table's refusal 26 to 28, or a's 6 to 10, or b's; 14 where the scratch is shorter than a and b together; 18. The scratch's
+ * contents afterwards are free. */
+uint64_t feel_table_type_common_supertype(const uint8_t *table, size_t table_len, const uint8_t *a, size_t a_len, const uint8_t *b, size_t b_len,
+                                          uint8_t *scratch, size_t scratch_len, uint8_t *out, size_t out_len);
+
+/* The greatest type that conforms to both over the table, reduced, at the front of out. Two simple types have their greatest common subtype in the
+ * table. Answers and refusals as above. */
+uint64_t feel_table_type_common_subtype(const uint8_t *table, size_t table_len, const uint8_t *a, size_t a_len, const uint8_t *b, size_t b_len,
+                                        uint8_t *scratch, size_t scratch_len, uint8_t *out, size_t out_len);
+
+/* Does the value v conform to the type t over the table? A value of a simple kind conforms to whatever its type does. Answers 1 or 0, or the table's refusal
+ * 26 to 28, or v's 1 to 5, or t's 6 to 10. */
+uint64_t feel_table_value_is_conformant(const uint8_t *table, size_t table_len, const uint8_t *v, size_t v_len, const uint8_t *t, size_t t_len);
+
+/* The least type of a data value over the table, at the front of out: v conforms to a type over the table exactly when it does. Answers its length, or the
+ * table's refusal 26 to 28, or v's 1 to 5; 13 where a function definition, a built-in function, a type or an irrelevant mark stands anywhere in v; 14 where
+ * the scratch is shorter than four times v; 18. The scratch's contents afterwards are free. */
+uint64_t feel_table_value_least_type(const uint8_t *table, size_t table_len, const uint8_t *v, size_t v_len, uint8_t *scratch, size_t scratch_len,
+                                     uint8_t *out, size_t out_len);
 
 #ifdef __cplusplus
 }

@@ -3,6 +3,8 @@
  *   n         a name, 0 to 65535            p   a path: names with blanks between them
  *   b         a byte, 0 to 255              s   a string, up to the end of the line
  *   table     texts with `,` between them   parts   the parts of a name with `|` between them
+ *   S         a table of simple types: bytes in hexadecimal, or the fixed relation (`fixed`), or pairs `24<26` with blanks between them that stand
+ *             in it besides
  * All commands stand in the table `commands` below. A line that cannot be read is said to be so, and the next one is read. An empty line is
  * passed over, and a line from `#` on is printed as it is. */
 #include "feel.h"
@@ -31,12 +33,14 @@ static const char *const refusals[] = {
     "path: more than 31 names", "a context is wanted, and the value is none", "least type asked of a value that is not data alone",
     "scratch too short", "the value cannot be retrieved with the type", "a value on the way of the path is no context",
     "the result would have more than 16,384 bytes or a level over 31", "output too short for the answer",
-    "texts: table or parts malformed, or with bytes left over", "texts: a name's number is not in the table"};
+    "texts: table or parts malformed, or with bytes left over", "texts: a name's number is not in the table",
+    [26] = "table: not a hundred bytes 0 or 1", [27] = "table: no order of the simple types from Null up to Any",
+    [28] = "table: two types lack a least common supertype"};
 
 /* What a call takes; OUT: with an output, WORK: with scratch and an output. */
 enum shape {
     ONE, ONE_OUT, ONE_WORK, TWO, TWO_OUT, TWO_WORK, BYTE, BYTE_OUT,
-    NAME, NAME_OUT, NAMES_OUT, NAME_VALUE_OUT, PATH, PATH_VALUE_OUT
+    NAME, NAME_OUT, NAMES_OUT, NAME_VALUE_OUT, PATH, PATH_VALUE_OUT, THREE, THREE_WORK
 };
 
 /* What the answer is. */
@@ -49,6 +53,8 @@ union call {
     uint64_t (*two)(const uint8_t *, size_t, const uint8_t *, size_t);
     uint64_t (*two_out)(const uint8_t *, size_t, const uint8_t *, size_t, uint8_t *, size_t);
     uint64_t (*two_work)(const uint8_t *, size_t, const uint8_t *, size_t, uint8_t *, size_t, uint8_t *, size_t);
+    uint64_t (*three)(const uint8_t *, size_t, const uint8_t *, size_t, const uint8_t *, size_t);
+    uint64_t (*three_work)(const uint8_t *, size_t, const uint8_t *, size_t, const uint8_t *, size_t, uint8_t *, size_t, uint8_t *, size_t);
     uint64_t (*byte)(uint8_t);
     uint64_t (*byte_out)(uint8_t, uint8_t *, size_t);
     uint64_t (*name)(const uint8_t *, size_t, uint16_t);
@@ -125,6 +131,13 @@ static const struct command {
     {"strict-subtype", "T/T", BYTES, TWO_WORK, {.two_work = feel_strict_type_common_subtype}},
     {"strict-holds", "V/T", YES, TWO, {.two = feel_strict_value_is_conformant}},
     {"strict-least", "V", BYTES, ONE_WORK, {.one_work = feel_strict_value_least_type}},
+    /* over a table of simple types */
+    {"table", "S", YES, ONE, {.one = feel_table_check}},
+    {"table-conforms", "S/T/T", YES, THREE, {.three = feel_table_type_is_conformant}},
+    {"table-supertype", "S/T/T", BYTES, THREE_WORK, {.three_work = feel_table_type_common_supertype}},
+    {"table-subtype", "S/T/T", BYTES, THREE_WORK, {.three_work = feel_table_type_common_subtype}},
+    {"table-holds", "S/V/T", YES, THREE, {.three = feel_table_value_is_conformant}},
+    {"table-least", "S/V", BYTES, TWO_WORK, {.two_work = feel_table_value_least_type}},
 };
 
 static int digit(char c)
@@ -150,6 +163,31 @@ static const char *read_record(const char *text, struct record *to)
         if (to->len == MOST) return "more bytes than this program takes";
         to->bytes[to->len++] = (uint8_t)(high * 16 + low);
         text += 2;
+    }
+    return NULL;
+}
+
+/* The fixed relation, Null to all, all to Any and each to itself, and the pairs besides. Without `fixed` or a pair, the bytes themselves. */
+static const char *read_table(const char *text, struct record *to)
+{
+    while (*text == ' ') text++;
+    int fixed = strncmp(text, "fixed", 5) == 0;
+    if (!fixed && !strchr(text, '<')) return read_record(text, to);
+    to->len = 100;
+    memset(to->bytes, 0, to->len);
+    for (size_t i = 0; i < 10; i++)
+        to->bytes[10 * i] = to->bytes[90 + i] = to->bytes[11 * i] = 1;
+    for (text += fixed ? 5 : 0; *text;) {
+        unsigned below, above;
+        int len = 0;
+        if (*text == ' ') {
+            text++;
+            continue;
+        }
+        if (sscanf(text, "%2x<%2x%n", &below, &above, &len) != 2 || below < 0x20 || below > 0x29 || above < 0x20 || above > 0x29)
+            return "a pair of simple types is two commands with `<` between them";
+        to->bytes[10 * (below - 0x20) + above - 0x20] = 1;
+        text += len;
     }
     return NULL;
 }
@@ -233,6 +271,7 @@ static const char *read_fields(const char *fields, char *line)
         case 'b': fault = read_number(field, 255, &number); byte = (uint8_t)number; break;
         case 'P': fault = read_numbers(field, 65535, path, NAMES, &path_len); break;
         case 's': fault = read_string(field, &r[records++]); break;
+        case 'S': fault = read_table(field, &r[records++]); break;
         case 't': fault = read_texts(field, ',', 2, &r[records++]); break;
         case 'p': fault = read_texts(field, '|', 1, &r[records++]); break;
         default: fault = read_record(field, &r[records++]);
@@ -261,6 +300,8 @@ static uint64_t ask(const struct command *c)
     case NAMES_OUT: return c->call.names_out(a, a_len, names[0], names[1], out, sizeof out);
     case NAME_VALUE_OUT: return c->call.name_value_out(a, a_len, names[0], b, b_len, out, sizeof out);
     case PATH: return c->call.path(a, a_len, path, path_len);
+    case THREE: return c->call.three(a, a_len, b, b_len, r[2].bytes, r[2].len);
+    case THREE_WORK: return c->call.three_work(a, a_len, b, b_len, r[2].bytes, r[2].len, scratch, sizeof scratch, out, sizeof out);
     case PATH_VALUE_OUT: break;
     }
     return c->call.path_value_out(a, a_len, path, path_len, b, b_len, out, sizeof out);
@@ -277,7 +318,7 @@ static void print_answer(const struct command *c, uint64_t answer)
 {
     unsigned low = (unsigned)answer;
     if (answer >> 32 == 1) {
-        printf("refused %u, %s\n", low, low < sizeof refusals / sizeof *refusals ? refusals[low] : "?");
+        printf("refused %u, %s\n", low, low < sizeof refusals / sizeof *refusals && refusals[low] ? refusals[low] : "?");
     } else if (answer >> 32 == 2) {
         printf(c->answer == COMMAND ? "unknown\n" : "none\n");
     } else {

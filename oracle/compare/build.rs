@@ -9,7 +9,7 @@ fn main() {
     println!("cargo:rerun-if-env-changed=FEEL_LIB_DIR");
     println!("cargo:rerun-if-env-changed=FEEL_BEFORE_DIR");
     println!("cargo:rerun-if-changed=build.rs");
-    println!("cargo:rustc-check-cfg=cfg(feel_before, feel_before_strict)");
+    println!("cargo:rustc-check-cfg=cfg(feel_before, feel_before_strict, feel_before_table)");
     if env::var_os("CARGO_FEATURE_SELF_CHECK").is_some() {
         return;
     }
@@ -73,6 +73,9 @@ fn link_before(library: &Path) {
     println!("cargo:rustc-cfg=feel_before");
     if symbols.contains("feel_strict_") {
         println!("cargo:rustc-cfg=feel_before_strict");
+    }
+    if symbols.contains("feel_table_") {
+        println!("cargo:rustc-cfg=feel_before_table");
     }
 }
 

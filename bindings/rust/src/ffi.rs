@@ -224,4 +224,55 @@ unsafe extern "C" {
         out: *mut u8,
         out_len: usize,
     ) -> u64;
+    pub fn feel_table_check(table: *const u8, table_len: usize) -> u64;
+    pub fn feel_table_type_is_conformant(
+        table: *const u8,
+        table_len: usize,
+        a: *const u8,
+        a_len: usize,
+        b: *const u8,
+        b_len: usize,
+    ) -> u64;
+    pub fn feel_table_type_common_supertype(
+        table: *const u8,
+        table_len: usize,
+        a: *const u8,
+        a_len: usize,
+        b: *const u8,
+        b_len: usize,
+        scratch: *mut u8,
+        scratch_len: usize,
+        out: *mut u8,
+        out_len: usize,
+    ) -> u64;
+    pub fn feel_table_type_common_subtype(
+        table: *const u8,
+        table_len: usize,
+        a: *const u8,
+        a_len: usize,
+        b: *const u8,
+        b_len: usize,
+        scratch: *mut u8,
+        scratch_len: usize,
+        out: *mut u8,
+        out_len: usize,
+    ) -> u64;
+    pub fn feel_table_value_is_conformant(
+        table: *const u8,
+        table_len: usize,
+        v: *const u8,
+        v_len: usize,
+        t: *const u8,
+        t_len: usize,
+    ) -> u64;
+    pub fn feel_table_value_least_type(
+        table: *const u8,
+        table_len: usize,
+        v: *const u8,
+        v_len: usize,
+        scratch: *mut u8,
+        scratch_len: usize,
+        out: *mut u8,
+        out_len: usize,
+    ) -> u64;
 }

@@ -62,6 +62,7 @@ mod form;
 pub mod intervals;
 pub mod names;
 mod refusal;
+pub mod tables;
 mod ty;
 pub mod types;
 mod value;

@@ -3,7 +3,7 @@
 use std::error::Error;
 use std::fmt;
 
-/// What each refusal means, number 1 first.
+/// What each refusal means, 1 to 20.
 const WORDS: [&str; 20] = [
     "value: no bytes, or more than 16,384",
     "value: ends inside, unknown command, or an operand outside its list",
@@ -27,20 +27,27 @@ const WORDS: [&str; 20] = [
     "texts: a name's number is not in the table",
 ];
 
-/// Why a call has no answer: a number from 1 to 20.
+/// What the refusals of a table of simple types mean, 26 to 28.
+const TABLE_WORDS: [&str; 3] = [
+    "table: not a hundred bytes 0 or 1",
+    "table: no order of the simple types from Null up to Any",
+    "table: two types lack a least common supertype",
+];
+
+/// Why a call has no answer: a number from 1 to 20, or from 26 to 28.
 #[derive(Debug, Clone, Copy, PartialEq, Eq, PartialOrd, Ord, Hash)]
 pub struct Refusal(u8);
 
 impl Refusal {
-    /// The refusal with this number, if it is from 1 to 20.
+    /// The refusal with this number, if there is one.
     ///
     /// ```
     /// use hedvaste::Refusal;
-    /// assert!(Refusal::new(20).is_some());
-    /// assert!(Refusal::new(0).is_none() && Refusal::new(21).is_none());
+    /// assert!(Refusal::new(20).is_some() && Refusal::new(26).is_some());
+    /// assert!([0, 21, 25, 29].iter().all(|number| Refusal::new(*number).is_none()));
     /// ```
     pub fn new(number: u8) -> Option<Refusal> {
-        (1..=20).contains(&number).then_some(Refusal(number))
+        matches!(number, 1..=20 | 26..=28).then_some(Refusal(number))
     }
 
     /// The refusal with this number, which is from 1 to 20.
@@ -49,7 +56,7 @@ impl Refusal {
         Refusal(number)
     }
 
-    /// The number, 1 to 20.
+    /// The number, 1 to 20 or 26 to 28.
     ///
     /// ```
     /// let refusal = hedvaste::values::check_value(&[]).unwrap_err();
@@ -63,7 +70,11 @@ impl Refusal {
 
 impl fmt::Display for Refusal {
     fn fmt(&self, f: &mut fmt::Formatter<'_>) -> fmt::Result {
-        write!(f, "refused {}, {}", self.0, WORDS[usize::from(self.0) - 1])
+        let words = match self.0 {
+            26.. => TABLE_WORDS[usize::from(self.0) - 26],
+            _ => WORDS[usize::from(self.0) - 1],
+        };
+        write!(f, "refused {}, {words}", self.0)
     }
 }
 

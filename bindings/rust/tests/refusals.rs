@@ -169,7 +169,7 @@ fn texts_that_are_no_table_and_no_parts() {
 #[test]
 fn every_refusal_has_the_words_of_the_header() {
     let header = include_str!("../../../include/feel.h");
-    for number in 1..=20 {
+    for number in (1..=20).chain(26..=28) {
         let line = header
             .lines()
             .find_map(|line| line.strip_prefix(&format!(" * {number:>4}  ")))

@@ -4,6 +4,8 @@
 //! parameterless function. For the calls over
 //! values: all values with few nodes, values near each other, decimal numbers, function definitions
 //! beside function types, data at the limits. For the calls over contexts: contexts inside each other, and paths.
+//! For the calls over a table of simple types: tables that load, tables with a fault, records near each
+//! other by a table.
 //! For the calls over texts: tables, and the parts of names. Nothing here reads or writes by the code
 //! of `feel-form`, so that a fault there does not shape the cases.
 
@@ -22,6 +24,7 @@ mod random;
 mod small;
 mod small_values;
 mod strings;
+mod tables;
 mod texts;
 mod tree;
 mod value_tree;
@@ -47,6 +50,10 @@ pub use random::Random;
 pub use small::{small_contexts, small_types};
 pub use small_values::small_values;
 pub use strings::each_string;
+pub use tables::{
+    TABLE_FAULTS, TABLE_SHAPES, TableFault, TableShape, any_table, faulty_table, fixed_table,
+    near_leaves, near_simple, random_order, related, shaped_table, table_has, table_with, value_of,
+};
 pub use texts::{dense_texts, long_texts, parts_of, random_texts, renamed, table_of};
 pub use tree::{ANY, NULL, Tree};
 pub use value_tree::{Parts, ValueTree, near_value, null};

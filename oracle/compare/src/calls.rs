@@ -1,7 +1,7 @@
 //! The calls that are compared.
 
 use crate::answer::Answer;
-use crate::call::{Call, Gives};
+use crate::call::{Call, EachCase, Gives, Options};
 use crate::lent::{Buffer, Lent};
 use crate::library::{
     feel_bif_feel_type, feel_check_type, feel_check_value, feel_context_apply_entries,
@@ -13,6 +13,8 @@ use crate::library::{
     feel_names_from_str, feel_names_is_built_in_type_name, feel_names_name_new, feel_names_trim,
     feel_strict_type_common_subtype, feel_strict_type_common_supertype,
     feel_strict_type_is_conformant, feel_strict_value_is_conformant, feel_strict_value_least_type,
+    feel_table_check, feel_table_type_common_subtype, feel_table_type_common_supertype,
+    feel_table_type_is_conformant, feel_table_value_is_conformant, feel_table_value_least_type,
     feel_type_common_subtype, feel_type_common_supertype, feel_type_get_conformant_value,
     feel_type_get_value_checked, feel_type_instance_of, feel_type_is_conformant, feel_type_is_null,
     feel_type_is_simple_built_in_type, feel_type_reduced, feel_value_coerced,
@@ -23,7 +25,7 @@ use crate::library::{
 };
 use crate::{
     coercion_cases, context_answers, context_cases, context_theorems, names_answers, names_cases,
-    records, type_answers, type_cases, value_answers, value_cases,
+    records, table_answers, table_cases, type_answers, type_cases, value_answers, value_cases,
 };
 use feel_cases::{Kind, Parts};
 use feel_form::{Reading, calls, read_type, read_value, write_type, write_value};
@@ -34,7 +36,9 @@ const OF_A_CONTEXT: &[u8] = &[1, 2, 3, 4, 5, 12];
 
 const OF_A_TYPE: &[u8] = &[6, 7, 8, 9, 10];
 
-pub const CALLS: [Call; 54] = [
+const OF_A_TABLE: &[u8] = &[26, 27, 28];
+
+pub const CALLS: [Call; 60] = [
     Call {
         name: "check_value",
         gives: Gives::Level,
@@ -71,21 +75,17 @@ pub const CALLS: [Call; 54] = [
         name: "type_common_supertype",
         gives: Gives::Length,
         refusals: &[6, 7, 8, 9, 10, 14, 18],
-        generate: |options, each| {
-            type_cases::two_types_and_buffers(calls::common_supertype, options, each)
-        },
+        generate: supertypes,
         expected: |case| type_answers::common_supertype(case, Reading::Ported),
-        actual: |lent| two_types_and_buffers(lent, feel_type_common_supertype),
+        actual: |lent| two_records_and_buffers(lent, feel_type_common_supertype),
     },
     Call {
         name: "type_common_subtype",
         gives: Gives::Length,
         refusals: &[6, 7, 8, 9, 10, 14, 18],
-        generate: |options, each| {
-            type_cases::two_types_and_buffers(calls::common_subtype, options, each)
-        },
+        generate: subtypes,
         expected: |case| type_answers::common_subtype(case, Reading::Ported),
-        actual: |lent| two_types_and_buffers(lent, feel_type_common_subtype),
+        actual: |lent| two_records_and_buffers(lent, feel_type_common_subtype),
     },
     Call {
         name: "type_reduced",
@@ -123,9 +123,7 @@ pub const CALLS: [Call; 54] = [
         name: "value_least_type",
         gives: Gives::Length,
         refusals: &[1, 2, 3, 4, 5, 13, 14, 18],
-        generate: |options, each| {
-            value_cases::one_value_and_buffers(Parts::Data, calls::value_least_type, options, each)
-        },
+        generate: least_types,
         expected: |case| value_answers::least_type(case, Reading::Ported),
         actual: |lent| one_value_and_buffers(lent, feel_value_least_type),
     },
@@ -510,7 +508,7 @@ pub const CALLS: [Call; 54] = [
             type_cases::two_types_and_buffers(calls::strict_common_supertype, options, each)
         },
         expected: |case| type_answers::common_supertype(case, Reading::Strict),
-        actual: |lent| two_types_and_buffers(lent, feel_strict_type_common_supertype),
+        actual: |lent| two_records_and_buffers(lent, feel_strict_type_common_supertype),
     },
     Call {
         name: "strict_type_common_subtype",
@@ -520,7 +518,7 @@ pub const CALLS: [Call; 54] = [
             type_cases::two_types_and_buffers(calls::strict_common_subtype, options, each)
         },
         expected: |case| type_answers::common_subtype(case, Reading::Strict),
-        actual: |lent| two_types_and_buffers(lent, feel_strict_type_common_subtype),
+        actual: |lent| two_records_and_buffers(lent, feel_strict_type_common_subtype),
     },
     Call {
         name: "strict_value_is_conformant",
@@ -541,7 +539,69 @@ pub const CALLS: [Call; 54] = [
         expected: |case| value_answers::least_type(case, Reading::Strict),
         actual: |lent| one_value_and_buffers(lent, feel_strict_value_least_type),
     },
+    Call {
+        name: "table_check",
+        gives: Gives::YesOrNo,
+        refusals: OF_A_TABLE,
+        generate: table_cases::one_table,
+        expected: table_answers::check,
+        actual: |lent| one_record(lent, feel_table_check),
+    },
+    Call {
+        name: "table_type_is_conformant",
+        gives: Gives::YesOrNo,
+        refusals: &[6, 7, 8, 9, 10, 26, 27, 28],
+        generate: |options, each| table_cases::behind_tables(type_cases::two_types, options, each),
+        expected: table_answers::is_conformant,
+        actual: |lent| three_records(lent, feel_table_type_is_conformant),
+    },
+    Call {
+        name: "table_type_common_supertype",
+        gives: Gives::Length,
+        refusals: &[6, 7, 8, 9, 10, 14, 18, 26, 27, 28],
+        generate: |options, each| table_cases::behind_tables(supertypes, options, each),
+        expected: table_answers::common_supertype,
+        actual: |lent| three_records_and_buffers(lent, feel_table_type_common_supertype),
+    },
+    Call {
+        name: "table_type_common_subtype",
+        gives: Gives::Length,
+        refusals: &[6, 7, 8, 9, 10, 14, 18, 26, 27, 28],
+        generate: |options, each| table_cases::behind_tables(subtypes, options, each),
+        expected: table_answers::common_subtype,
+        actual: |lent| three_records_and_buffers(lent, feel_table_type_common_subtype),
+    },
+    Call {
+        name: "table_value_is_conformant",
+        gives: Gives::YesOrNo,
+        refusals: &[1, 2, 3, 4, 5, 6, 7, 8, 9, 10, 26, 27, 28],
+        generate: |options, each| {
+            table_cases::behind_tables(value_cases::value_and_type, options, each)
+        },
+        expected: table_answers::value_is_conformant,
+        actual: |lent| three_records(lent, feel_table_value_is_conformant),
+    },
+    Call {
+        name: "table_value_least_type",
+        gives: Gives::Length,
+        refusals: &[1, 2, 3, 4, 5, 13, 14, 18, 26, 27, 28],
+        generate: |options, each| table_cases::behind_tables(least_types, options, each),
+        expected: table_answers::value_least_type,
+        actual: |lent| two_records_and_buffers(lent, feel_table_value_least_type),
+    },
 ];
+
+fn supertypes(options: &Options, each: &mut EachCase) {
+    type_cases::two_types_and_buffers(calls::common_supertype, options, each)
+}
+
+fn subtypes(options: &Options, each: &mut EachCase) {
+    type_cases::two_types_and_buffers(calls::common_subtype, options, each)
+}
+
+fn least_types(options: &Options, each: &mut EachCase) {
+    value_cases::one_value_and_buffers(Parts::Data, calls::value_least_type, options, each)
+}
 
 /// A C function over one record.
 type OneRecord = unsafe extern "C" fn(*const u8, usize) -> u64;
@@ -549,9 +609,27 @@ type OneRecord = unsafe extern "C" fn(*const u8, usize) -> u64;
 /// A C function over two types, or over a value and a type.
 type TwoRecords = unsafe extern "C" fn(*const u8, usize, *const u8, usize) -> u64;
 
-/// A C function over two types, with scratch and an output.
-type TwoTypesAndBuffers =
+/// A C function over two types, or over a table and a value, with scratch and an output.
+type TwoRecordsAndBuffers =
     unsafe extern "C" fn(*const u8, usize, *const u8, usize, *mut u8, usize, *mut u8, usize) -> u64;
+
+/// A C function over a table and two records.
+type ThreeRecords =
+    unsafe extern "C" fn(*const u8, usize, *const u8, usize, *const u8, usize) -> u64;
+
+/// A C function over a table and two types, with scratch and an output.
+type ThreeRecordsAndBuffers = unsafe extern "C" fn(
+    *const u8,
+    usize,
+    *const u8,
+    usize,
+    *const u8,
+    usize,
+    *mut u8,
+    usize,
+    *mut u8,
+    usize,
+) -> u64;
 
 /// A C function over one type or one string, with an output.
 type OneTypeAndOutput = unsafe extern "C" fn(*const u8, usize, *mut u8, usize) -> u64;
@@ -613,12 +691,47 @@ fn two_records(lent: &mut Lent, function: TwoRecords) -> Answer {
     Answer(unsafe { function(a.as_ptr(), a.len(), b.as_ptr(), b.len()) })
 }
 
-fn two_types_and_buffers(lent: &mut Lent, function: TwoTypesAndBuffers) -> Answer {
+fn two_records_and_buffers(lent: &mut Lent, function: TwoRecordsAndBuffers) -> Answer {
     let [a, b] = [&lent.args[0], &lent.args[1]];
     let (scratch, output) = (&mut lent.scratch, &mut lent.output);
     // SAFETY: as said above; scratch and output are buffers of their own.
     Answer(unsafe {
         function(
+            a.as_ptr(),
+            a.len(),
+            b.as_ptr(),
+            b.len(),
+            scratch.as_mut_ptr(),
+            scratch.len(),
+            output.as_mut_ptr(),
+            output.len(),
+        )
+    })
+}
+
+fn three_records(lent: &mut Lent, function: ThreeRecords) -> Answer {
+    let [table, a, b] = [&lent.args[0], &lent.args[1], &lent.args[2]];
+    // SAFETY: as said above.
+    Answer(unsafe {
+        function(
+            table.as_ptr(),
+            table.len(),
+            a.as_ptr(),
+            a.len(),
+            b.as_ptr(),
+            b.len(),
+        )
+    })
+}
+
+fn three_records_and_buffers(lent: &mut Lent, function: ThreeRecordsAndBuffers) -> Answer {
+    let [table, a, b] = [&lent.args[0], &lent.args[1], &lent.args[2]];
+    let (scratch, output) = (&mut lent.scratch, &mut lent.output);
+    // SAFETY: as said above; scratch and output are buffers of their own.
+    Answer(unsafe {
+        function(
+            table.as_ptr(),
+            table.len(),
             a.as_ptr(),
             a.len(),
             b.as_ptr(),

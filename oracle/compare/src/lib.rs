@@ -22,6 +22,10 @@ pub mod run;
 pub mod section;
 pub mod strict;
 mod strict_theorems;
+pub mod table;
+mod table_answers;
+mod table_cases;
+mod table_theorems;
 mod theorems;
 #[cfg(feature = "self-check")]
 mod twin;

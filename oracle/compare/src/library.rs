@@ -11,6 +11,8 @@ pub use crate::twin::{
     feel_names_from_str, feel_names_is_built_in_type_name, feel_names_name_new, feel_names_trim,
     feel_strict_type_common_subtype, feel_strict_type_common_supertype,
     feel_strict_type_is_conformant, feel_strict_value_is_conformant, feel_strict_value_least_type,
+    feel_table_check, feel_table_type_common_subtype, feel_table_type_common_supertype,
+    feel_table_type_is_conformant, feel_table_value_is_conformant, feel_table_value_least_type,
     feel_type_common_subtype, feel_type_common_supertype, feel_type_get_conformant_value,
     feel_type_get_value_checked, feel_type_instance_of, feel_type_is_conformant, feel_type_is_null,
     feel_type_is_simple_built_in_type, feel_type_reduced, feel_value_coerced,
@@ -266,6 +268,57 @@ functions! {
         t_len: usize,
     ) -> u64;
     pub fn feel_strict_value_least_type(
+        v: *const u8,
+        v_len: usize,
+        scratch: *mut u8,
+        scratch_len: usize,
+        out: *mut u8,
+        out_len: usize,
+    ) -> u64;
+    pub fn feel_table_check(table: *const u8, table_len: usize) -> u64;
+    pub fn feel_table_type_is_conformant(
+        table: *const u8,
+        table_len: usize,
+        a: *const u8,
+        a_len: usize,
+        b: *const u8,
+        b_len: usize,
+    ) -> u64;
+    pub fn feel_table_type_common_supertype(
+        table: *const u8,
+        table_len: usize,
+        a: *const u8,
+        a_len: usize,
+        b: *const u8,
+        b_len: usize,
+        scratch: *mut u8,
+        scratch_len: usize,
+        out: *mut u8,
+        out_len: usize,
+    ) -> u64;
+    pub fn feel_table_type_common_subtype(
+        table: *const u8,
+        table_len: usize,
+        a: *const u8,
+        a_len: usize,
+        b: *const u8,
+        b_len: usize,
+        scratch: *mut u8,
+        scratch_len: usize,
+        out: *mut u8,
+        out_len: usize,
+    ) -> u64;
+    pub fn feel_table_value_is_conformant(
+        table: *const u8,
+        table_len: usize,
+        v: *const u8,
+        v_len: usize,
+        t: *const u8,
+        t_len: usize,
+    ) -> u64;
+    pub fn feel_table_value_least_type(
+        table: *const u8,
+        table_len: usize,
         v: *const u8,
         v_len: usize,
         scratch: *mut u8,

@@ -7,15 +7,15 @@ use compare::calls::CALLS;
 use compare::library::COMPARED;
 use compare::run::{Tally, run};
 use compare::section::Section;
-use compare::{decimals, levels, strict};
+use compare::{decimals, levels, strict, table};
 use std::process::ExitCode;
 
 const USAGE: &str = "usage: compare [--quick] [--only NAME,..] [--length N] [--alphabet-length N] \
 [--pair-length N] [--count N] [--pairs N] [--seed N]
   --quick              all byte strings up to 2 bytes, all pairs of types up to 3 bytes, all values
                        up to 3 nodes, 1,000 random records, 5,000 random pairs and values
-  --only NAME,..       these calls only, or the sections levels, decimals and strict; may stand several
-                       times
+  --only NAME,..       these calls only, or the sections levels, decimals, strict and table; may stand
+                       several times
   --length N           all byte strings up to N bytes (3)
   --alphabet-length N  all strings up to N bytes over the small alphabets (5)
   --pair-length N      all pairs of types up to N bytes, all values up to N nodes (4)
@@ -25,7 +25,7 @@ const USAGE: &str = "usage: compare [--quick] [--only NAME,..] [--length N] [--a
   --seed N             the seed of the random records (1)";
 
 /// What stands behind the calls.
-const SECTIONS: [&str; 3] = [levels::NAME, decimals::NAME, strict::NAME];
+const SECTIONS: [&str; 4] = [levels::NAME, decimals::NAME, strict::NAME, table::NAME];
 
 /// What is to be run.
 struct Arguments {
@@ -82,6 +82,9 @@ fn main() -> ExitCode {
     }
     if wanted(strict::NAME) {
         strict::run(&options).for_each(&mut add_section);
+    }
+    if wanted(table::NAME) {
+        table::run(&options).for_each(&mut add_section);
     }
     println!("{cases} cases, {differences} differences");
     ExitCode::from(u8::from(differences > 0 || !all_met))

@@ -2,9 +2,10 @@
 //! damage.
 
 use feel_cases::{
-    Kind, Move, Parts, Random, Tree, ValueTree, context_chain, dense_texts, each_chain,
-    filled_list, long_records, long_texts, near, near_value, parts_of, random_context, random_path,
-    random_texts, renamed, table_of,
+    Kind, Move, Parts, Random, TableFault, Tree, ValueTree, any_table, context_chain, dense_texts,
+    each_chain, faulty_table, filled_list, long_records, long_texts, near, near_leaves,
+    near_simple, near_value, parts_of, random_context, random_path, random_texts, renamed,
+    table_of,
 };
 use feel_form::{MAX_LENGTH, MAX_TYPE_LEVEL, MAX_VALUE_LEVEL};
 
@@ -40,6 +41,8 @@ pub enum Arg {
     /// A type whose names are in the table, or nearly.
     NamedType,
     Table,
+    /// A table of the simple types, by which the value and the types are near each other.
+    SimpleTable,
     Parts,
     /// The name of a type, or nearly.
     TypeName,
@@ -54,6 +57,7 @@ pub struct Family {
     path: Vec<u8>,
     named_type: Vec<u8>,
     table: Vec<u8>,
+    simple_table: Vec<u8>,
     parts: Vec<u8>,
     type_name: Vec<u8>,
     text: Vec<u8>,
@@ -62,12 +66,17 @@ pub struct Family {
 impl Family {
     pub fn new(random: &mut Random) -> Family {
         let parts = random.pick(&[Parts::Data, Parts::All]);
+        let simple_table = any_table(random);
         let value = value(parts, random);
+        let value = match random.below(2) {
+            0 => near_leaves(&value, &simple_table, Move::Free, random),
+            _ => value,
+        };
         let shape = value.shape(random);
         let how = random.pick(&[Move::Up, Move::Down, Move::Free]);
         let t = match random.below(4) {
             0 => Tree::random(5, 1 + random.below(10), random),
-            1 => shape,
+            1 => near_simple(&shape, &simple_table, Move::Up, random),
             _ => near(&shape, Move::Up, random),
         };
         let context = context(random);
@@ -75,13 +84,23 @@ impl Family {
         let count = texts.len() + usize::from(random.below(8) == 0);
         let named = Tree::random(5, 1 + random.below(12), random);
         let path = random_path(&context, random);
+        let other_type = match random.below(2) {
+            0 => near_simple(&t, &simple_table, how, random),
+            _ => near(&t, how, random),
+        };
+        // Some lack a least common supertype, which damage seldom makes.
+        let simple_table = match random.below(16) {
+            0 => faulty_table(TableFault::TwoAbove, random),
+            _ => simple_table,
+        };
         Family {
             value: value.bytes(),
-            types: [t.bytes(), near(&t, how, random).bytes()],
+            types: [t.bytes(), other_type.bytes()],
             contexts: [context.bytes(), near_value(&context, parts, random).bytes()],
             path: path.iter().flat_map(|name| name.to_le_bytes()).collect(),
             named_type: renamed(&named, count, random).bytes(),
             table: table_of(&texts).bytes,
+            simple_table,
             parts: name_parts(random),
             type_name: random.pick(&TYPE_NAMES).into(),
             text: text(24, random),
@@ -99,6 +118,7 @@ impl Family {
             Arg::Path => &self.path,
             Arg::NamedType => &self.named_type,
             Arg::Table => &self.table,
+            Arg::SimpleTable => &self.simple_table,
             Arg::Parts => &self.parts,
             Arg::TypeName => &self.type_name,
             Arg::Text => &self.text,
@@ -219,7 +239,7 @@ impl Limits {
             Arg::Table => &self.long_tables,
             Arg::Parts => &self.long_parts,
             Arg::TypeName | Arg::Text => &self.long_texts,
-            Arg::Path | Arg::Name | Arg::Byte => &[],
+            Arg::SimpleTable | Arg::Path | Arg::Name | Arg::Byte => &[],
         }
     }
 

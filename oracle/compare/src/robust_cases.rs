@@ -33,8 +33,8 @@ enum Scratch {
 /// The arguments of a call.
 fn args_of(name: &str) -> &'static [Arg] {
     use Arg::{
-        Byte, Context, Name, NamedType, OtherContext, OtherType, Parts, Path, Table, Text, Type,
-        TypeName, Value,
+        Byte, Context, Name, NamedType, OtherContext, OtherType, Parts, Path, SimpleTable, Table,
+        Text, Type, TypeName, Value,
     };
     // A strict call takes the arguments of the ported one.
     match name.trim_start_matches("strict_") {
@@ -53,6 +53,12 @@ fn args_of(name: &str) -> &'static [Arg] {
         "context_move_entry" => &[Context, Name, Name],
         "context_set_entry" => &[Context, Name, Value],
         "names_display" => &[NamedType, Table],
+        "table_check" => &[SimpleTable],
+        "table_type_is_conformant"
+        | "table_type_common_supertype"
+        | "table_type_common_subtype" => &[SimpleTable, Type, OtherType],
+        "table_value_is_conformant" => &[SimpleTable, Value, Type],
+        "table_value_least_type" => &[SimpleTable, Value],
         "names_from_str" | "names_is_built_in_type_name" => &[TypeName],
         "names_name_new" => &[Parts],
         "names_trim" => &[Text],
@@ -64,7 +70,8 @@ fn args_of(name: &str) -> &'static [Arg] {
 }
 
 fn scratch_of(name: &str) -> Scratch {
-    match name.trim_start_matches("strict_") {
+    let name = name.trim_start_matches("strict_");
+    match name.trim_start_matches("table_") {
         "type_common_supertype" | "type_common_subtype" => Scratch::Together,
         "value_least_type" | "value_type_of" => Scratch::FourTimes,
         _ => Scratch::None,
@@ -99,7 +106,12 @@ impl Maker {
             }
             self.fill(kinds, &mut args);
             let args: Vec<&[u8]> = args.iter().map(Vec::as_slice).collect();
-            let scratch = self.scratch(scratch_of(call.name), &args);
+            // A table wants no scratch.
+            let records = match kinds {
+                [Arg::SimpleTable, ..] => &args[1..],
+                _ => &args,
+            };
+            let scratch = self.scratch(scratch_of(call.name), records);
             let output = match call.gives {
                 Gives::Length => self.output(call, &args),
                 _ => 0,

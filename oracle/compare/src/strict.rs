@@ -12,11 +12,13 @@ use crate::calls::CALLS;
 use crate::lent::Standing;
 use crate::run::{Tally, run_cases};
 use crate::section::Section;
-use classes::{Class, Classes, Verdict};
+use classes::{Class, Classes};
+pub(crate) use classes::{VERDICTS, ValueWay, Verdict, Way, ways};
 use feel_cases::Random;
 use feel_form::calls;
 use std::cmp::Ordering;
 use std::collections::BTreeMap;
+pub(crate) use types::damaged_copies;
 
 /// The name of this section.
 pub const NAME: &str = "strict";
@@ -166,7 +168,7 @@ impl Seen {
     /// How often each verdict was met, those too that need not be.
     fn verdicts(&self) -> impl Iterator<Item = (Verdict, u64)> + '_ {
         let of = |verdict| (verdict, self.of(Class::Verdict(verdict)));
-        classes::VERDICTS.into_iter().map(of)
+        VERDICTS.into_iter().map(of)
     }
 
     fn line(&self, (title, classes): &(&str, Vec<Class>)) -> String {

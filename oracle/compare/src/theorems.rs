@@ -1,9 +1,9 @@
 //! The theorems on samples: what holds of the answers, with the published `is_conformant` of types
-//! and of values as the judges, or under the strict reading with those of `form`. The arguments are
-//! accepted; of the other types those that are accepted count.
+//! and of values as the judges, or under the strict reading and over a table with those of `form`. The
+//! arguments are accepted; of the other types those that are accepted count.
 
 use crate::call::Checks;
-use crate::strict_theorems;
+use crate::{strict_theorems, table_theorems};
 use dsntk_feel::FeelType;
 use dsntk_feel::values::Value;
 use feel_form::{
@@ -21,6 +21,9 @@ pub fn of_conformance(a: &[u8], b: &[u8], others: &[&[u8]], reading: Reading) ->
     mutual(&mut checks, &a, &b, reading);
     if reading == Reading::Strict {
         strict_theorems::of_conformance(&mut checks, &a, &b);
+    }
+    if let Reading::Table(table) = reading {
+        table_theorems::of_conformance(&mut checks, &table, &a, &b);
     }
     let a_to_b = conforms(&a, &b);
     for other in accepted(others) {
@@ -43,6 +46,10 @@ pub fn of_supertype(a: &[u8], b: &[u8], others: &[&[u8]], reading: Reading) -> C
         let ported = common_supertype(&a, &b, Reading::Ported);
         strict_theorems::of_bound(&mut checks, &answer, &ported);
     }
+    if let Reading::Table(table) = reading {
+        let ported = common_supertype(&a, &b, Reading::Ported);
+        table_theorems::of_supertype(&mut checks, &table, &answer, &ported);
+    }
     size(&mut checks, &answer, length, level(&a, &b));
     checks
 }
@@ -59,6 +66,10 @@ pub fn of_subtype(a: &[u8], b: &[u8], others: &[&[u8]], reading: Reading) -> Che
     if reading == Reading::Strict {
         let ported = common_subtype(&a, &b, Reading::Ported);
         strict_theorems::of_bound(&mut checks, &answer, &ported);
+    }
+    if let Reading::Table(table) = reading {
+        let ported = common_subtype(&a, &b, Reading::Ported);
+        table_theorems::of_subtype(&mut checks, &table, &answer, &ported);
     }
     size(&mut checks, &answer, length, level(&a, &b));
     checks
@@ -91,6 +102,9 @@ pub fn of_value_conformance(v: &[u8], t: &[u8], others: &[&[u8]], reading: Readi
         meets(&FeelType::Any),
         "theorem fails: every value conforms to Any",
     );
+    if let Reading::Table(table) = reading {
+        table_theorems::of_value_conformance(&mut checks, &table, &v, &t);
+    }
     let Some(least) = least_type(&v, reading) else {
         return checks;
     };
@@ -124,9 +138,9 @@ pub fn of_least_type(v: &[u8], others: &[&[u8]], reading: Reading) -> Checks {
         "theorem fails: a value conforms to its least type",
     );
     let inferred = type_of(&v);
-    if reading == Reading::Ported {
+    if !reading.is_strict() {
         checks.check(
-            least.is_conformant(&inferred),
+            conforms(&least, &inferred, reading),
             "theorem fails: the least type conforms to the inferred type",
         );
     }
@@ -137,6 +151,9 @@ pub fn of_least_type(v: &[u8], others: &[&[u8]], reading: Reading) -> Checks {
     form(&mut checks, &least, reading);
     if reading == Reading::Strict {
         strict_theorems::of_least_type(&mut checks, &v, &least);
+    }
+    if let Reading::Table(table) = reading {
+        table_theorems::of_least_type(&mut checks, &table, &v, &least);
     }
     size(&mut checks, &least, length, 1 + value_level(&v));
     checks
@@ -336,7 +353,7 @@ fn greatest_below(
 fn mutual(checks: &mut Checks, a: &FeelType, b: &FeelType, reading: Reading) {
     let is_mutual = conforms(a, b, reading) && conforms(b, a, reading);
     match reading {
-        Reading::Ported => checks.check(
+        Reading::Ported | Reading::Table(_) => checks.check(
             is_mutual == (reduced(a) == reduced(b)),
             "theorem fails: conformance is mutual exactly when the reduced forms are equal",
         ),
@@ -349,7 +366,7 @@ fn mutual(checks: &mut Checks, a: &FeelType, b: &FeelType, reading: Reading) {
 
 /// An answer is reduced; of a strict one nothing is said.
 fn form(checks: &mut Checks, answer: &FeelType, reading: Reading) {
-    if reading == Reading::Ported {
+    if !reading.is_strict() {
         checks.check(
             reduced(answer) == *answer,
             "theorem fails: an answer is reduced",

@@ -8,15 +8,22 @@ mod names;
 mod parts;
 mod read;
 mod retrieval;
+mod rules;
 mod strict;
+mod table;
 mod values;
 
 use bounds::{Bound, Side};
 use retrieval::Coerced;
+use rules::{PORTED, Rules};
 use std::slice::{from_raw_parts, from_raw_parts_mut};
 pub use strict::{
     feel_strict_type_common_subtype, feel_strict_type_common_supertype,
     feel_strict_type_is_conformant, feel_strict_value_is_conformant, feel_strict_value_least_type,
+};
+pub use table::{
+    feel_table_check, feel_table_type_common_subtype, feel_table_type_common_supertype,
+    feel_table_type_is_conformant, feel_table_value_is_conformant, feel_table_value_least_type,
 };
 
 /// The answer, or the refusal.
@@ -47,9 +54,9 @@ fn of_two_types(a: &[u8], b: &[u8], decide: impl FnOnce(&[u8], &[u8]) -> bool) -
 }
 
 /// Whether a value conforms to a type.
-fn judge_value(v: &[u8], t: &[u8], strict: bool) -> u64 {
+fn judge_value(v: &[u8], t: &[u8], rules: Rules) -> u64 {
     let judged = read_value(v).and_then(|_| read_type(t));
-    answer(judged.map(|_| u64::from(values::value_conforms(v, t, strict))))
+    answer(judged.map(|_| u64::from(values::value_conforms(v, t, rules))))
 }
 
 /// Copies the written bytes to the front of the output.
@@ -63,7 +70,7 @@ fn deliver(written: &[u8], out: &mut [u8]) -> Judged {
 fn ported(side: Side) -> Bound {
     Bound {
         side,
-        strict: false,
+        rules: PORTED,
     }
 }
 
@@ -225,7 +232,7 @@ pub unsafe extern "C" fn feel_type_is_conformant(
     b_len: usize,
 ) -> u64 {
     let (a, b) = unsafe { (from_raw_parts(a, a_len), from_raw_parts(b, b_len)) };
-    of_two_types(a, b, |a, b| conformance::conforms(a, b, false))
+    of_two_types(a, b, |a, b| conformance::conforms(a, b, PORTED))
 }
 
 /// # Safety
@@ -316,7 +323,7 @@ pub unsafe extern "C" fn feel_value_is_conformant(
     t_len: usize,
 ) -> u64 {
     let (v, t) = unsafe { (from_raw_parts(v, v_len), from_raw_parts(t, t_len)) };
-    judge_value(v, t, false)
+    judge_value(v, t, PORTED)
 }
 
 /// # Safety
@@ -333,7 +340,7 @@ pub unsafe extern "C" fn feel_value_least_type(
     let v = unsafe { from_raw_parts(v, v_len) };
     let scratch = unsafe { from_raw_parts(scratch, scratch_len) };
     let out = unsafe { from_raw_parts_mut(out, out_len) };
-    let of = |v: &[u8]| values::least(v, false);
+    let of = |v: &[u8]| values::least(v, PORTED);
     answer(type_of_value(v, of, scratch, out))
 }
 

@@ -1,5 +1,5 @@
 //! The Rust's answers of the calls over types, with the checks of the theorems where the case asks
-//! for them.
+//! for them. Those over a table of simple types stand in [crate::table_answers].
 
 use crate::answer::Answer;
 use crate::call::{Case, Checks, Expected};
@@ -9,8 +9,8 @@ use feel_form::{Reading, calls};
 pub fn is_conformant(case: Case, reading: Reading) -> Expected {
     let [a, b] = two(case);
     let call = match reading {
-        Reading::Ported => calls::is_conformant,
         Reading::Strict => calls::strict_is_conformant,
+        _ => calls::is_conformant,
     };
     let theorems = |others| theorems::of_conformance(a, b, others, reading);
     yes_or_no(call(a, b), checks(case, theorems))
@@ -35,8 +35,8 @@ pub fn is_null(case: Case) -> Expected {
 pub fn common_supertype(case: Case, reading: Reading) -> Expected {
     let [a, b] = two(case);
     let call = match reading {
-        Reading::Ported => calls::common_supertype,
         Reading::Strict => calls::strict_common_supertype,
+        _ => calls::common_supertype,
     };
     let answer = call(a, b, case.scratch, case.output);
     let theorems = |others| theorems::of_supertype(a, b, others, reading);
@@ -46,8 +46,8 @@ pub fn common_supertype(case: Case, reading: Reading) -> Expected {
 pub fn common_subtype(case: Case, reading: Reading) -> Expected {
     let [a, b] = two(case);
     let call = match reading {
-        Reading::Ported => calls::common_subtype,
         Reading::Strict => calls::strict_common_subtype,
+        _ => calls::common_subtype,
     };
     let answer = call(a, b, case.scratch, case.output);
     let theorems = |others| theorems::of_subtype(a, b, others, reading);

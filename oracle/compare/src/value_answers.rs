@@ -1,5 +1,5 @@
 //! The Rust's answers of the calls over values, with the checks of the theorems where the case asks
-//! for them.
+//! for them. Those over a table of simple types stand in [crate::table_answers].
 
 use crate::call::{Case, Checks, Expected};
 use crate::theorems;
@@ -9,8 +9,8 @@ use feel_form::{Reading, calls};
 pub fn is_conformant(case: Case, reading: Reading) -> Expected {
     let [v, t] = two(case);
     let call = match reading {
-        Reading::Ported => calls::value_is_conformant,
         Reading::Strict => calls::strict_value_is_conformant,
+        _ => calls::value_is_conformant,
     };
     let theorems = |others| theorems::of_value_conformance(v, t, others, reading);
     yes_or_no(call(v, t), checks(case, theorems))
@@ -19,8 +19,8 @@ pub fn is_conformant(case: Case, reading: Reading) -> Expected {
 pub fn least_type(case: Case, reading: Reading) -> Expected {
     let v = case.args[0];
     let call = match reading {
-        Reading::Ported => calls::value_least_type,
         Reading::Strict => calls::strict_value_least_type,
+        _ => calls::value_least_type,
     };
     let answer = call(v, case.scratch, case.output);
     let theorems = |others| theorems::of_least_type(v, others, reading);

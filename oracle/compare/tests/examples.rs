@@ -565,6 +565,169 @@ const TEXTS: &[(Row, usize)] = &[
     (("names_trim", &["09 0A 0B 0C 0D 20"], Bytes("")), ROOM),
 ];
 
+/// The fixed relation; a date is a date and time; 21 to 28 one above the other; booleans and numbers
+/// below both strings and dates.
+const FIXED: &str = "01 00 00 00 00 00 00 00 00 00 \
+     01 01 00 00 00 00 00 00 00 00 \
+     01 00 01 00 00 00 00 00 00 00 \
+     01 00 00 01 00 00 00 00 00 00 \
+     01 00 00 00 01 00 00 00 00 00 \
+     01 00 00 00 00 01 00 00 00 00 \
+     01 00 00 00 00 00 01 00 00 00 \
+     01 00 00 00 00 00 00 01 00 00 \
+     01 00 00 00 00 00 00 00 01 00 \
+     01 01 01 01 01 01 01 01 01 01";
+
+const DATES: &str = "01 00 00 00 00 00 00 00 00 00 \
+     01 01 00 00 00 00 00 00 00 00 \
+     01 00 01 00 00 00 00 00 00 00 \
+     01 00 00 01 00 00 00 00 00 00 \
+     01 00 00 00 01 00 01 00 00 00 \
+     01 00 00 00 00 01 00 00 00 00 \
+     01 00 00 00 00 00 01 00 00 00 \
+     01 00 00 00 00 00 00 01 00 00 \
+     01 00 00 00 00 00 00 00 01 00 \
+     01 01 01 01 01 01 01 01 01 01";
+
+const CHAIN: &str = "01 00 00 00 00 00 00 00 00 00 \
+     01 01 01 01 01 01 01 01 01 00 \
+     01 00 01 01 01 01 01 01 01 00 \
+     01 00 00 01 01 01 01 01 01 00 \
+     01 00 00 00 01 01 01 01 01 00 \
+     01 00 00 00 00 01 01 01 01 00 \
+     01 00 00 00 00 00 01 01 01 00 \
+     01 00 00 00 00 00 00 01 01 00 \
+     01 00 00 00 00 00 00 00 01 00 \
+     01 01 01 01 01 01 01 01 01 01";
+
+const TWO_ABOVE: &str = "01 00 00 00 00 00 00 00 00 00 \
+     01 01 00 01 01 00 00 00 00 00 \
+     01 00 01 01 01 00 00 00 00 00 \
+     01 00 00 01 00 00 00 00 00 00 \
+     01 00 00 00 01 00 00 00 00 00 \
+     01 00 00 00 00 01 00 00 00 00 \
+     01 00 00 00 00 00 01 00 00 00 \
+     01 00 00 00 00 00 00 01 00 00 \
+     01 00 00 00 00 00 00 00 01 00 \
+     01 01 01 01 01 01 01 01 01 01";
+
+/// The calls over a table of simple types.
+const TABLES: &[Row] = &[
+    ("table_check", &[FIXED], Yes),
+    ("table_check", &[DATES], Yes),
+    ("table_check", &[CHAIN], Yes),
+    ("table_check", &[TWO_ABOVE], Refused(28)),
+    ("table_check", &[""], Refused(26)),
+    ("table_check", &["[01]*99"], Refused(26)),
+    ("table_check", &["[01]*101"], Refused(26)),
+    ("table_check", &["[02]*100"], Refused(26)),
+    ("table_check", &["[00]*100"], Refused(27)),
+    ("table_check", &["[01]*100"], Refused(27)),
+    ("table_type_is_conformant", &[FIXED, "24", "26"], No),
+    ("table_type_is_conformant", &[DATES, "24", "26"], Yes),
+    ("table_type_is_conformant", &[DATES, "26", "24"], No),
+    ("table_type_is_conformant", &[CHAIN, "2A 21", "2A 28"], Yes),
+    // a parameter is compared the other way, a lone result not at all
+    (
+        "table_type_is_conformant",
+        &[DATES, "2D 01 26 24", "2D 01 24 26"],
+        Yes,
+    ),
+    (
+        "table_type_is_conformant",
+        &[DATES, "2D 01 24 24", "2D 01 26 26"],
+        No,
+    ),
+    (
+        "table_type_is_conformant",
+        &[DATES, "2D 00 26", "2D 00 24"],
+        Yes,
+    ),
+    // other types meet a simple one only at Any
+    ("table_type_is_conformant", &[CHAIN, "2A 21", "28"], No),
+    ("table_type_is_conformant", &[CHAIN, "2A 21", "20"], Yes),
+    // the table before all else
+    (
+        "table_type_is_conformant",
+        &[TWO_ABOVE, "", ""],
+        Refused(28),
+    ),
+    ("table_type_is_conformant", &[DATES, "", ""], Refused(6)),
+    (
+        "table_type_common_supertype",
+        &[FIXED, "24", "26"],
+        Bytes("20"),
+    ),
+    (
+        "table_type_common_supertype",
+        &[DATES, "24", "26"],
+        Bytes("26"),
+    ),
+    (
+        "table_type_common_supertype",
+        &[DATES, "24", "25"],
+        Bytes("20"),
+    ),
+    (
+        "table_type_common_supertype",
+        &[CHAIN, "23", "2A 23"],
+        Bytes("20"),
+    ),
+    (
+        "table_type_common_supertype",
+        &[DATES, "2D 01 24 24", "2D 01 26 26"],
+        Bytes("2D 01 24 26"),
+    ),
+    (
+        "table_type_common_subtype",
+        &[FIXED, "24", "26"],
+        Bytes("29"),
+    ),
+    (
+        "table_type_common_subtype",
+        &[DATES, "24", "26"],
+        Bytes("24"),
+    ),
+    (
+        "table_type_common_subtype",
+        &[CHAIN, "2B 28", "2B 21"],
+        Bytes("2B 21"),
+    ),
+    (
+        "table_type_common_subtype",
+        &[CHAIN, "28", "2B 28"],
+        Bytes("29"),
+    ),
+    ("table_value_is_conformant", &[FIXED, "04 [00]*8", "26"], No),
+    (
+        "table_value_is_conformant",
+        &[DATES, "04 [00]*8", "26"],
+        Yes,
+    ),
+    ("table_value_is_conformant", &[DATES, "06 [00]*8", "24"], No),
+    // the parameters of a definition are not turned
+    (
+        "table_value_is_conformant",
+        &[DATES, "0C 01 00 00 24 00 00 24", "2D 01 26 26"],
+        Yes,
+    ),
+    (
+        "table_value_least_type",
+        &[DATES, "0A 02 00 04 [00]*8 06 00 00 00 00 00 00 00 00"],
+        Bytes("2A 26"),
+    ),
+    (
+        "table_value_least_type",
+        &[FIXED, "0A 02 00 04 [00]*8 06 00 00 00 00 00 00 00 00"],
+        Bytes("2A 20"),
+    ),
+    (
+        "table_value_least_type",
+        &[DATES, "0C 00 00 00 22"],
+        Refused(13),
+    ),
+];
+
 /// docs/DIFFERENCES.md, row by row.
 const DIFFERENCES: &[Row] = &[
     ("check_value", &[""], Refused(1)),
@@ -749,6 +912,13 @@ fn worked_examples_of_readers_and_bounds() {
 #[test]
 fn worked_examples_of_both_readings() {
     for row in STRICT {
+        ask(row, ROOM, ROOM);
+    }
+}
+
+#[test]
+fn worked_examples_of_tables() {
+    for row in TABLES {
         ask(row, ROOM, ROOM);
     }
 }

@@ -1,10 +1,11 @@
 //! Every call agrees with the Rust on few cases, and these give each of its refusals; the updates do
-//! around level 31 too, `is_valid_range` on numbers, and the strict calls on parameterless functions.
+//! around level 31 too, `is_valid_range` on numbers, the strict calls on parameterless functions, and
+//! the calls over a table on simple types.
 
 use compare::call::{Gives, Options};
 use compare::calls::CALLS;
 use compare::run::run;
-use compare::{decimals, levels, strict};
+use compare::{decimals, levels, strict, table};
 
 const FEW: Options = Options {
     length: 1,
@@ -55,4 +56,15 @@ fn the_strict_calls_agree_and_meet_every_class() {
         calls += 1;
     }
     assert_eq!(calls, 5);
+}
+
+#[test]
+fn the_calls_over_a_table_agree_and_meet_every_class() {
+    let mut calls = 0;
+    for table in table::run(&FEW) {
+        assert_eq!(table.tally.smallest, None, "{table}");
+        assert!(table.missing.is_empty(), "{:?}", table.missing);
+        calls += 1;
+    }
+    assert_eq!(calls, 6);
 }

@@ -1,6 +1,6 @@
 //! The reduced form of a type, and the common supertype and subtype of two, over trees. Written
 //! from document 01's sections "Type against type" and "Common supertype and subtype"; the strict
-//! reading of both bounds from document 02's request K8.
+//! reading of both bounds and the one over a table from document 02's requests K8 and K9.
 
 use crate::Reading;
 use dsntk_feel::FeelType;
@@ -27,11 +27,12 @@ pub fn reduced(feel_type: &FeelType) -> FeelType {
     }
 }
 
-/// A type as a bound keeps it: the ported bounds are reduced, the strict ones reduce nothing.
+/// A type as a bound keeps it: bounds are reduced, the strict ones reduce nothing.
 fn kept(feel_type: &FeelType, reading: Reading) -> FeelType {
-    match reading {
-        Reading::Ported => reduced(feel_type),
-        Reading::Strict => feel_type.clone(),
+    if reading.is_strict() {
+        feel_type.clone()
+    } else {
+        reduced(feel_type)
     }
 }
 
@@ -52,15 +53,14 @@ pub fn common_supertype(a: &FeelType, b: &FeelType, reading: Reading) -> FeelTyp
             FeelType::Context(entries)
         }
         (FeelType::Function(a, to_a), FeelType::Function(b, to_b)) if a.len() == b.len() => {
-            if a.is_empty() && reading == Reading::Ported {
+            if a.is_empty() && !reading.is_strict() {
                 return FeelType::function(&[], &FeelType::Any);
             }
             let subtype = |(a, b)| common_subtype(a, b, reading);
             let parameters: Vec<FeelType> = a.iter().zip(b).map(subtype).collect();
             FeelType::function(&parameters, &both(to_a, to_b))
         }
-        (a, b) if a.is_simple_built_in_type() && a == b => a.clone(),
-        _ => FeelType::Any,
+        (a, b) => reading.table().supertype(a, b).unwrap_or(FeelType::Any),
     }
 }
 
@@ -88,14 +88,13 @@ pub fn common_subtype(a: &FeelType, b: &FeelType, reading: Reading) -> FeelType 
             FeelType::Context(entries)
         }
         (FeelType::Function(a, to_a), FeelType::Function(b, to_b)) if a.len() == b.len() => {
-            if a.is_empty() && reading == Reading::Ported {
+            if a.is_empty() && !reading.is_strict() {
                 return FeelType::function(&[], &FeelType::Any);
             }
             let supertype = |(a, b)| common_supertype(a, b, reading);
             let parameters: Vec<FeelType> = a.iter().zip(b).map(supertype).collect();
             FeelType::function(&parameters, &both(to_a, to_b))
         }
-        (a, b) if a.is_simple_built_in_type() && a == b => a.clone(),
-        _ => FeelType::Null,
+        (a, b) => reading.table().subtype(a, b).unwrap_or(FeelType::Null),
     }
 }

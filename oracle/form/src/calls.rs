@@ -3,8 +3,8 @@
 
 use crate::read::interval_type;
 use crate::{
-    BIFS, MAX_LENGTH, MAX_VALUE_LEVEL, Reading, bounds, conforms, inferred, read_type, read_value,
-    value_conforms, value_level, write_type, write_value,
+    BIFS, MAX_LENGTH, MAX_VALUE_LEVEL, Reading, Table, bounds, conforms, inferred, read_type,
+    read_value, value_conforms, value_level, write_type, write_value,
 };
 use dsntk_feel::FeelType;
 use dsntk_feel::ranges::IntervalType;
@@ -100,6 +100,59 @@ pub fn value_least_type(v: &[u8], scratch: usize, room: usize) -> Result<Vec<u8>
 /// The bytes of the strict least type, or the refusal.
 pub fn strict_value_least_type(v: &[u8], scratch: usize, room: usize) -> Result<Vec<u8>, u8> {
     least_type(v, scratch, room, Reading::Strict)
+}
+
+/// Yes where the table loads, or the refusal.
+pub fn table_check(table: &[u8]) -> Result<bool, u8> {
+    Table::read(table).map(|_| true)
+}
+
+/// Whether the first type conforms to the second over the table, or the refusal.
+pub fn table_is_conformant(table: &[u8], a: &[u8], b: &[u8]) -> Result<bool, u8> {
+    conformance(a, b, over(table)?)
+}
+
+/// The bytes of the common supertype over the table, or the refusal.
+pub fn table_common_supertype(
+    table: &[u8],
+    a: &[u8],
+    b: &[u8],
+    scratch: usize,
+    room: usize,
+) -> Result<Vec<u8>, u8> {
+    let reading = over(table)?;
+    bound(a, b, scratch, room, |a, b| {
+        bounds::common_supertype(a, b, reading)
+    })
+}
+
+/// The bytes of the common subtype over the table, or the refusal.
+pub fn table_common_subtype(
+    table: &[u8],
+    a: &[u8],
+    b: &[u8],
+    scratch: usize,
+    room: usize,
+) -> Result<Vec<u8>, u8> {
+    let reading = over(table)?;
+    bound(a, b, scratch, room, |a, b| {
+        bounds::common_subtype(a, b, reading)
+    })
+}
+
+/// Whether the value conforms to the type over the table, or the refusal.
+pub fn table_value_is_conformant(table: &[u8], v: &[u8], t: &[u8]) -> Result<bool, u8> {
+    value_conformance(v, t, over(table)?)
+}
+
+/// The bytes of the least type over the table, or the refusal.
+pub fn table_value_least_type(
+    table: &[u8],
+    v: &[u8],
+    scratch: usize,
+    room: usize,
+) -> Result<Vec<u8>, u8> {
+    least_type(v, scratch, room, over(table)?)
 }
 
 /// The bytes of `Value::type_of`, or the refusal.
@@ -208,6 +261,11 @@ fn interval_is(i: u8, method: fn(&IntervalType) -> bool) -> Result<bool, u8> {
     Ok(method(&interval_type(i).ok_or(2)?))
 }
 
+/// The reading over a table, or its refusal.
+fn over(table: &[u8]) -> Result<Reading, u8> {
+    Table::read(table).map(Reading::Table)
+}
+
 fn conformance(a: &[u8], b: &[u8], reading: Reading) -> Result<bool, u8> {
     let (a, b) = read_two(a, b)?;
     Ok(conforms(&a, &b, reading))
@@ -233,7 +291,7 @@ fn bound(
     b: &[u8],
     scratch: usize,
     room: usize,
-    bound: fn(&FeelType, &FeelType) -> FeelType,
+    bound: impl FnOnce(&FeelType, &FeelType) -> FeelType,
 ) -> Result<Vec<u8>, u8> {
     let wanted = a.len() + b.len();
     let (a, b) = read_two(a, b)?;

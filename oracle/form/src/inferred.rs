@@ -1,8 +1,9 @@
 //! The types of a value, over trees: its least type, written from document 01's section "Least
-//! type" and document 02's request K8, and the type that the Rust infers.
+//! type" and document 02's requests K8 and K9, and the type that the Rust infers.
 
 use crate::Reading;
 use crate::bounds::common_supertype;
+use crate::reading::simple_type;
 use dsntk_feel::FeelType;
 use dsntk_feel::context::FeelContext;
 use dsntk_feel::values::Value;
@@ -15,15 +16,6 @@ const FEW_LISTS: usize = 6;
 pub fn least_type(value: &Value, reading: Reading) -> Option<FeelType> {
     let least = |value: &Value| least_type(value, reading);
     match value {
-        Value::Null(_) => Some(FeelType::Null),
-        Value::Boolean(_) => Some(FeelType::Boolean),
-        Value::Number(_) => Some(FeelType::Number),
-        Value::String(_) => Some(FeelType::String),
-        Value::Date(_) => Some(FeelType::Date),
-        Value::Time(_) => Some(FeelType::Time),
-        Value::DateTime(_) => Some(FeelType::DateTime),
-        Value::DaysAndTimeDuration(_) => Some(FeelType::DaysAndTimeDuration),
-        Value::YearsAndMonthsDuration(_) => Some(FeelType::YearsAndMonthsDuration),
         Value::Range(start, _, end, _) => {
             let inner = common_supertype(&least(start)?, &least(end)?, reading);
             Some(FeelType::range(&inner))
@@ -40,8 +32,8 @@ pub fn least_type(value: &Value, reading: Reading) -> Option<FeelType> {
             let entries: Option<_> = context.iter().map(entry).collect();
             Some(FeelType::Context(entries?))
         }
-        Value::FunctionDefinition(..) if reading == Reading::Strict => Some(value.type_of()),
-        _ => None,
+        Value::FunctionDefinition(..) if reading.is_strict() => Some(value.type_of()),
+        other => simple_type(other),
     }
 }
 

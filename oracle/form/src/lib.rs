@@ -1,8 +1,8 @@
 //! Document 01's byte form over the published Rust's own `FeelType` and `Value`: the readers with
 //! their refusals, the level of a tree, and the writers; its reduced form, common supertype and
 //! subtype, and least type; and the answers of its calls over types, over values, over contexts and
-//! over texts. Written from the document alone; command 10, decimal numbers, and the strict reading
-//! of functions from document 02.
+//! over texts. Written from the document alone; command 10, decimal numbers, the strict reading of
+//! functions and the members' table of simple types from document 02.
 
 mod bifs;
 mod bounds;
@@ -14,6 +14,7 @@ pub mod names;
 mod read;
 mod reading;
 mod refusals;
+mod table;
 mod texts;
 mod write;
 
@@ -24,6 +25,7 @@ pub use level::{type_level, value_level};
 pub use read::{read_type, read_value};
 pub use reading::{Reading, conforms, value_conforms};
 pub use refusals::words;
+pub use table::Table;
 pub use texts::{name, text};
 pub use write::{write_type, write_value};
 

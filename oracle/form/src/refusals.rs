@@ -1,6 +1,6 @@
 //! The refusals in words.
 
-/// What each refusal says, from 1 on.
+/// What each refusal says, 1 to 20.
 const WORDS: [&str; 20] = [
     "value: no bytes, or more than 16,384",
     "value: ends inside, unknown command, or an operand outside its list",
@@ -24,7 +24,17 @@ const WORDS: [&str; 20] = [
     "texts: a name's number is not in the table",
 ];
 
-/// The words of a refusal, 1 to 20.
+/// What the refusals of a table of simple types say, 26 to 28.
+const TABLE_WORDS: [&str; 3] = [
+    "table: not a hundred bytes 0 or 1",
+    "table: no order of the simple types from Null up to Any",
+    "table: two types lack a least common supertype",
+];
+
+/// The words of a refusal, 1 to 20 or 26 to 28.
 pub fn words(refusal: u8) -> &'static str {
-    WORDS[usize::from(refusal) - 1]
+    match refusal {
+        26.. => TABLE_WORDS[usize::from(refusal) - 26],
+        _ => WORDS[usize::from(refusal) - 1],
+    }
 }

@@ -168,5 +168,11 @@ fn word(call: Call) -> &'static str {
         Call::StrictCommonSubtype => "strict-subtype",
         Call::StrictValueIsConformant => "strict-conforms",
         Call::StrictValueLeastType => "strict-least",
+        Call::TableCheck => "table-check",
+        Call::TableIsConformant => "table-type-conforms",
+        Call::TableCommonSupertype => "table-supertype",
+        Call::TableCommonSubtype => "table-subtype",
+        Call::TableValueIsConformant => "table-conforms",
+        Call::TableValueLeastType => "table-least",
     }
 }

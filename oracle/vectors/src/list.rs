@@ -60,6 +60,12 @@ pub enum Call {
     StrictCommonSubtype,
     StrictValueIsConformant,
     StrictValueLeastType,
+    TableCheck,
+    TableIsConformant,
+    TableCommonSupertype,
+    TableCommonSubtype,
+    TableValueIsConformant,
+    TableValueLeastType,
 }
 
 impl Call {
@@ -119,6 +125,12 @@ impl Call {
             Call::StrictCommonSubtype => "strict_type_common_subtype",
             Call::StrictValueIsConformant => "strict_value_is_conformant",
             Call::StrictValueLeastType => "strict_value_least_type",
+            Call::TableCheck => "table_check",
+            Call::TableIsConformant => "table_type_is_conformant",
+            Call::TableCommonSupertype => "table_type_common_supertype",
+            Call::TableCommonSubtype => "table_type_common_subtype",
+            Call::TableValueIsConformant => "table_value_is_conformant",
+            Call::TableValueLeastType => "table_value_least_type",
         }
     }
 
@@ -215,6 +227,24 @@ impl Call {
             }
             (Call::StrictValueLeastType, [v], [scratch, room]) => {
                 bytes_or_refusal(calls::strict_value_least_type(v, *scratch, *room))
+            }
+            (Call::TableCheck, [table], []) => number(calls::table_check(table)),
+            (Call::TableIsConformant, [table, a, b], []) => {
+                number(calls::table_is_conformant(table, a, b))
+            }
+            (Call::TableCommonSupertype, [table, a, b], [scratch, room]) => {
+                let answer = calls::table_common_supertype(table, a, b, *scratch, *room);
+                bytes_or_refusal(answer)
+            }
+            (Call::TableCommonSubtype, [table, a, b], [scratch, room]) => {
+                let answer = calls::table_common_subtype(table, a, b, *scratch, *room);
+                bytes_or_refusal(answer)
+            }
+            (Call::TableValueIsConformant, [table, v, t], []) => {
+                number(calls::table_value_is_conformant(table, v, t))
+            }
+            (Call::TableValueLeastType, [table, v], [scratch, room]) => {
+                bytes_or_refusal(calls::table_value_least_type(table, v, *scratch, *room))
             }
             _ => panic!("no case of {self:?}: {case:?}"),
         }

@@ -14,6 +14,7 @@ mod questions;
 mod retrieval;
 mod shared;
 mod strict;
+mod table;
 mod types;
 mod values;
 
@@ -37,6 +38,7 @@ fn groups() -> Vec<Group> {
         .chain(contexts::groups())
         .chain(names::groups())
         .chain(strict::groups())
+        .chain(table::groups())
         .collect();
     groups.sort_by_key(|group| group.call);
     groups
@@ -84,7 +86,7 @@ mod tests {
     #[test]
     fn groups_have_distinct_plain_titles() {
         let groups = groups();
-        assert!((290..=330).contains(&groups.len()), "{}", groups.len());
+        assert!((310..=360).contains(&groups.len()), "{}", groups.len());
         let titles: BTreeSet<&str> = groups.iter().map(|group| &group.title[..]).collect();
         assert_eq!(titles.len(), groups.len());
         for title in titles {
@@ -142,11 +144,12 @@ mod tests {
         }
         // A function definition with 255 parameters, or nearly 256 items, or 256 entries; 255 parts.
         assert!(rather_long <= 11, "{rather_long}");
-        assert_eq!(answers.len(), 52);
+        assert_eq!(answers.len(), 58);
         for (call, answers) in answers {
             let counts = match call {
                 Call::GetValueChecked | Call::GetConformantValue | Call::Coerced => 100..=210,
                 Call::IsInvalidCoercion | Call::IsValidRange => 20..=80,
+                _ if call >= Call::TableCheck => 10..=30,
                 _ if call > Call::Trim => 15..=90,
                 _ if call > Call::BifFeelType => 60..=140,
                 _ if call > Call::IsValidRange => 5..=20,
@@ -180,6 +183,12 @@ mod tests {
                 Call::FromStr => {
                     assert!(answers.contains(&Answer::Number(0)));
                     assert!((0x20..=0x29).all(|known| answers.contains(&Answer::Number(known))));
+                    (&[], 0)
+                }
+                Call::TableCommonSupertype | Call::TableCommonSubtype => (&[14, 18], 1),
+                Call::TableValueLeastType => (&[13, 14, 18], 1),
+                Call::TableCheck => {
+                    assert!(answers.contains(&Answer::Number(1)));
                     (&[], 0)
                 }
                 Call::NameNew => (&[18, 19], 3),
@@ -218,6 +227,10 @@ mod tests {
                 | Call::StrictCommonSupertype
                 | Call::StrictCommonSubtype => &[6, 7, 8, 9, 10],
                 Call::StrictValueLeastType => &[1, 2, 3, 4, 5],
+                Call::TableIsConformant => &[6, 7, 8, 9, 10, 26, 27, 28],
+                Call::TableValueIsConformant => &[1, 2, 5, 7, 26, 27, 28],
+                Call::TableValueLeastType => &[1, 26, 27, 28],
+                _ if call >= Call::TableCheck => &[26, 27, 28],
                 _ if call > Call::Display => &[],
                 _ if call > Call::BifFeelType => &[1, 2, 3, 4, 5],
                 _ if call >= Call::IntervalOpened => &[2],

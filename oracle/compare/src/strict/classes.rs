@@ -41,7 +41,7 @@ pub enum Class {
     Verdict(Verdict),
 }
 
-/// What the strict call says beside the ported one.
+/// What a call under another reading says beside the ported one.
 #[derive(Debug, Clone, Copy, PartialEq, Eq, PartialOrd, Ord)]
 pub enum Verdict {
     Yes,

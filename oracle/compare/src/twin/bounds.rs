@@ -1,7 +1,8 @@
 //! The reduced form and both bounds over the bytes of accepted types. One walk serves both sides, and
-//! both readings: strictly, nothing is reduced.
+//! all readings: strictly, nothing is reduced; two simple types go by the rules.
 
 use super::parts::parts;
+use super::rules::Rules;
 
 /// The side on which the bound of two types stands.
 #[derive(Clone, Copy, PartialEq, Eq)]
@@ -58,11 +59,11 @@ fn put_alone(t: &[u8], strict: bool, out: &mut [u8], at: usize) -> usize {
     }
 }
 
-/// Where a bound stands, and whether it is the strict one.
+/// Where a bound stands, and by which rules.
 #[derive(Clone, Copy)]
 pub struct Bound {
     pub side: Side,
-    pub strict: bool,
+    pub rules: Rules,
 }
 
 impl Bound {
@@ -76,13 +77,20 @@ impl Bound {
 
 /// Writes the bound of two types at `at`; answers where it ends.
 pub fn put_bound(a: &[u8], b: &[u8], bound: Bound, out: &mut [u8], at: usize) -> usize {
-    let Bound { side, strict } = bound;
+    let Bound { side, rules } = bound;
     let neutral = side.other().end();
     if a[0] == neutral {
-        return put_alone(b, strict, out, at);
+        return put_alone(b, rules.strict, out, at);
     }
     if b[0] == neutral {
-        return put_alone(a, strict, out, at);
+        return put_alone(a, rules.strict, out, at);
+    }
+    if a[0] < 0x2A && b[0] < 0x2A {
+        let simple = match side {
+            Side::Above => rules.above(a[0], b[0]),
+            Side::Below => rules.below(a[0], b[0]),
+        };
+        return put(&[simple], out, at);
     }
     // Lists, ranges and functions match when the heads with their counts are equal.
     let head = if a[0] == 0x2D { 2 } else { 1 };
@@ -91,7 +99,7 @@ pub fn put_bound(a: &[u8], b: &[u8], bound: Bound, out: &mut [u8], at: usize) ->
     }
     match a[0] {
         0x2C => put_contexts(a, b, bound, out, at),
-        0x2D if a[1] == 0 && !strict => put(&[0x2D, 0, 0x20], out, at),
+        0x2D if a[1] == 0 && !rules.strict => put(&[0x2D, 0, 0x20], out, at),
         0x2D => {
             let mut at = put(&a[..2], out, at);
             for (place, ((_, of_a), (_, of_b))) in parts(a).iter().zip(parts(b)).enumerate() {
@@ -101,17 +109,16 @@ pub fn put_bound(a: &[u8], b: &[u8], bound: Bound, out: &mut [u8], at: usize) ->
             }
             at
         }
-        0x2A | 0x2B => {
+        _ => {
             let at = put(&a[..1], out, at);
             put_bound(&a[1..], &b[1..], bound, out, at)
         }
-        _ => put(&a[..1], out, at),
     }
 }
 
 /// Goes through both lists of ascending names in step; the count is written last.
 fn put_contexts(a: &[u8], b: &[u8], bound: Bound, out: &mut [u8], at: usize) -> usize {
-    let Bound { side, strict } = bound;
+    let Bound { side, rules } = bound;
     let (parts_a, parts_b) = (parts(a), parts(b));
     let (mut next_a, mut next_b) = (0, 0);
     let count_at = at + 1;
@@ -129,8 +136,8 @@ fn put_contexts(a: &[u8], b: &[u8], bound: Bound, out: &mut [u8], at: usize) -> 
             at = put(&name.to_le_bytes(), out, at);
             at = match (in_a, in_b) {
                 (true, true) => put_bound(parts_a[next_a].1, parts_b[next_b].1, bound, out, at),
-                (true, false) => put_alone(parts_a[next_a].1, strict, out, at),
-                _ => put_alone(parts_b[next_b].1, strict, out, at),
+                (true, false) => put_alone(parts_a[next_a].1, rules.strict, out, at),
+                _ => put_alone(parts_b[next_b].1, rules.strict, out, at),
             };
         }
         next_a += usize::from(in_a);

@@ -1,14 +1,21 @@
 //! Conformance and instance over the bytes of accepted types. Conformance keeps a list of pairs that
 //! are still owed; two contexts are gone through in step by their ascending names. Strictly, the
-//! result of a parameterless function is owed too.
+//! result of a parameterless function is owed too; two simple types go by the rules.
 
 use super::parts::{Part, parts};
+use super::rules::Rules;
 
 /// Whether `a` conforms to `b`.
-pub fn conforms(a: &[u8], b: &[u8], strict: bool) -> bool {
+pub fn conforms(a: &[u8], b: &[u8], rules: Rules) -> bool {
     let mut owed = vec![(a, b)];
     while let Some((a, b)) = owed.pop() {
         if a[0] == 0x29 || b[0] == 0x20 {
+            continue;
+        }
+        if a[0] < 0x2A && b[0] < 0x2A {
+            if !rules.has(a[0], b[0]) {
+                return false;
+            }
             continue;
         }
         if a[0] != b[0] {
@@ -26,7 +33,7 @@ pub fn conforms(a: &[u8], b: &[u8], strict: bool) -> bool {
             return false;
         }
         let is_function = a[0] == 0x2D;
-        if is_function && parts_a.len() == 1 && !strict {
+        if is_function && parts_a.len() == 1 && !rules.strict {
             continue;
         }
         let result = parts_a.len().saturating_sub(1);

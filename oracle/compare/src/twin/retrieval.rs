@@ -3,6 +3,7 @@
 
 use super::conformance::conforms;
 use super::parts::parts;
+use super::rules::PORTED;
 use super::values::{children, value_conforms};
 
 /// What is still to be written of a retrieved value.
@@ -70,7 +71,7 @@ pub fn retrieved(v: &[u8], t: &[u8]) -> Option<Vec<u8>> {
 pub fn conformant(v: &[u8], t: &[u8]) -> Option<Vec<u8>> {
     match t[0] {
         0x29 => Some(vec![0x00, 0]),
-        _ if value_conforms(v, t, false) => retrieved(v, t),
+        _ if value_conforms(v, t, PORTED) => retrieved(v, t),
         _ => Some(vec![0x00, 2]),
     }
 }
@@ -86,19 +87,19 @@ pub enum Coerced<'a> {
 }
 
 pub fn coerced<'a>(v: &'a [u8], t: &[u8]) -> Coerced<'a> {
-    let known = v[0] == 0x0D && conforms(bif_type(v[1]), t, false);
-    if v[0] == 0x0C || known || value_conforms(v, t, false) {
+    let known = v[0] == 0x0D && conforms(bif_type(v[1]), t, PORTED);
+    if v[0] == 0x0C || known || value_conforms(v, t, PORTED) {
         return Coerced::Kept(v);
     }
     if v[0] == 0x0A {
         // The only item fills the rest of the list.
-        return if v[1..3] == [1, 0] && value_conforms(&v[3..], t, false) {
+        return if v[1..3] == [1, 0] && value_conforms(&v[3..], t, PORTED) {
             Coerced::Kept(&v[3..])
         } else {
             Coerced::Failed
         };
     }
-    if t[0] == 0x2A && value_conforms(v, &t[1..], false) {
+    if t[0] == 0x2A && value_conforms(v, &t[1..], PORTED) {
         Coerced::InList
     } else {
         Coerced::Failed

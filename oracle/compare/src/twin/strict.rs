@@ -1,6 +1,7 @@
 //! The strict functions of the second Rust.
 
 use super::bounds::{Bound, Side};
+use super::rules::STRICT;
 use super::{answer, bound, conformance, judge_value, of_two_types, type_of_value, values};
 use std::slice::{from_raw_parts, from_raw_parts_mut};
 
@@ -13,12 +14,15 @@ pub unsafe extern "C" fn feel_strict_type_is_conformant(
     b_len: usize,
 ) -> u64 {
     let (a, b) = unsafe { (from_raw_parts(a, a_len), from_raw_parts(b, b_len)) };
-    of_two_types(a, b, |a, b| conformance::conforms(a, b, true))
+    of_two_types(a, b, |a, b| conformance::conforms(a, b, STRICT))
 }
 
 /// The strict bound on a side.
 fn strict(side: Side) -> Bound {
-    Bound { side, strict: true }
+    Bound {
+        side,
+        rules: STRICT,
+    }
 }
 
 /// # Safety
@@ -67,7 +71,7 @@ pub unsafe extern "C" fn feel_strict_value_is_conformant(
     t_len: usize,
 ) -> u64 {
     let (v, t) = unsafe { (from_raw_parts(v, v_len), from_raw_parts(t, t_len)) };
-    judge_value(v, t, true)
+    judge_value(v, t, STRICT)
 }
 
 /// # Safety
@@ -84,6 +88,6 @@ pub unsafe extern "C" fn feel_strict_value_least_type(
     let v = unsafe { from_raw_parts(v, v_len) };
     let scratch = unsafe { from_raw_parts(scratch, scratch_len) };
     let out = unsafe { from_raw_parts_mut(out, out_len) };
-    let of = |v: &[u8]| values::least(v, true);
+    let of = |v: &[u8]| values::least(v, STRICT);
     answer(type_of_value(v, of, scratch, out))
 }

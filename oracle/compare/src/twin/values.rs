@@ -4,6 +4,7 @@
 use super::bounds::{Bound, Side, put_bound};
 use super::conformance::conforms;
 use super::parts::{Part, end, parts};
+use super::rules::{PORTED, Rules};
 
 /// The type of each leaf 00 to 08, and of 10; 0 for other values.
 const LEAVES: [u8; 17] = [
@@ -95,14 +96,15 @@ fn function_type(v: &[u8]) -> Vec<u8> {
 }
 
 /// Whether the value `v` conforms to the type `t`.
-pub fn value_conforms(v: &[u8], t: &[u8], strict: bool) -> bool {
+pub fn value_conforms(v: &[u8], t: &[u8], rules: Rules) -> bool {
     let mut owed = vec![(v, t)];
     while let Some((v, t)) = owed.pop() {
         if t[0] == 0x20 || v[0] == 0x00 {
             continue;
         }
         match (v[0], t[0]) {
-            (leaf @ (0x01..=0x08 | 0x10), simple) if LEAVES[usize::from(leaf)] == simple => {}
+            (leaf @ (0x01..=0x08 | 0x10), 0x20..0x2A)
+                if rules.has(LEAVES[usize::from(leaf)], t[0]) => {}
             (0x09, 0x2B) | (0x0A, 0x2A) => {
                 owed.extend(children(v).into_iter().map(|(_, child)| (child, &t[1..])));
             }
@@ -119,9 +121,9 @@ pub fn value_conforms(v: &[u8], t: &[u8], strict: bool) -> bool {
                 let result = usize::from(v[1]);
                 let types = signature(v).into_iter().zip(parts(t)).enumerate();
                 for (place, (own, (_, wanted))) in types {
-                    let turned = strict && place < result;
+                    let turned = rules.strict && place < result;
                     let (a, b) = if turned { (wanted, own) } else { (own, wanted) };
-                    if !conforms(a, b, strict) {
+                    if !conforms(a, b, rules) {
                         return false;
                     }
                 }
@@ -134,17 +136,17 @@ pub fn value_conforms(v: &[u8], t: &[u8], strict: bool) -> bool {
 
 /// The least type of a value, or none where a part of it is no data; strictly, a function definition
 /// has its function type. The items of a list are taken from the last to the first.
-pub fn least(v: &[u8], strict: bool) -> Option<Vec<u8>> {
+pub fn least(v: &[u8], rules: Rules) -> Option<Vec<u8>> {
     let above = Bound {
         side: Side::Above,
-        strict,
+        rules,
     };
     match v[0] {
         leaf @ (0x00..=0x08 | 0x10) => Some(vec![LEAVES[usize::from(leaf)]]),
         0x09 | 0x0A => {
             let mut inner = vec![0x29];
             for (_, child) in children(v).into_iter().rev() {
-                let of_child = least(child, strict)?;
+                let of_child = least(child, rules)?;
                 let mut bound = vec![0; inner.len() + of_child.len()];
                 let end = put_bound(&of_child, &inner, above, &mut bound, 0);
                 bound.truncate(end);
@@ -156,11 +158,11 @@ pub fn least(v: &[u8], strict: bool) -> Option<Vec<u8>> {
             let mut out = vec![0x2C, v[1], v[2]];
             for (name, child) in children(v) {
                 out.extend(name.to_le_bytes());
-                out.extend(least(child, strict)?);
+                out.extend(least(child, rules)?);
             }
             Some(out)
         }
-        0x0C if strict => Some(function_type(v)),
+        0x0C if rules.strict => Some(function_type(v)),
         _ => None,
     }
 }
@@ -180,7 +182,7 @@ pub fn inferred(v: &[u8]) -> Vec<u8> {
             let Some(first) = types.first() else {
                 return vec![0x2A, 0x29];
             };
-            let all = types.iter().all(|t| conforms(t, first, false));
+            let all = types.iter().all(|t| conforms(t, first, PORTED));
             over(v, if all { first } else { &[0x20] })
         }
         0x0B => {

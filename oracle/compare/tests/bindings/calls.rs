@@ -2,7 +2,7 @@
 
 use crate::Outcome;
 use compare::answer::Answer;
-use hedvaste::{Refusal, bifs, contexts, intervals, names, types, values};
+use hedvaste::{Refusal, bifs, contexts, intervals, names, tables, types, values};
 
 /// Asks over these arguments.
 type Ask = fn(&[&[u8]]) -> Outcome;
@@ -35,7 +35,7 @@ const fn writes(name: &'static str, call: Ask, into: AskInto) -> Bound {
     }
 }
 
-pub const BOUND: [Bound; 54] = [
+pub const BOUND: [Bound; 60] = [
     asks("check_value", |a| level(values::check_value(a[0]))),
     asks("check_type", |a| level(types::check_type(a[0]))),
     asks("type_is_conformant", |a| {
@@ -215,6 +215,28 @@ pub const BOUND: [Bound; 54] = [
         "strict_value_least_type",
         |a| bytes(values::strict_least_type(a[0])),
         |a, out| length(values::strict_least_type_into(a[0], out)),
+    ),
+    asks("table_check", |a| yes(tables::check(a[0]).map(|()| true))),
+    asks("table_type_is_conformant", |a| {
+        yes(tables::type_is_conformant(a[0], a[1], a[2]))
+    }),
+    writes(
+        "table_type_common_supertype",
+        |a| bytes(tables::common_supertype(a[0], a[1], a[2])),
+        |a, out| length(tables::common_supertype_into(a[0], a[1], a[2], out)),
+    ),
+    writes(
+        "table_type_common_subtype",
+        |a| bytes(tables::common_subtype(a[0], a[1], a[2])),
+        |a, out| length(tables::common_subtype_into(a[0], a[1], a[2], out)),
+    ),
+    asks("table_value_is_conformant", |a| {
+        yes(tables::value_is_conformant(a[0], a[1], a[2]))
+    }),
+    writes(
+        "table_value_least_type",
+        |a| bytes(tables::least_type(a[0], a[1])),
+        |a, out| length(tables::least_type_into(a[0], a[1], out)),
     ),
 ];
 

@@ -118,7 +118,7 @@ fn interval(interval: IntervalType) -> Interval {
 }
 
 fn call(name: &str) -> &'static Call {
-    static ALL: [Call; 54] = CALLS;
+    static ALL: [Call; 60] = CALLS;
     ALL.iter().find(|call| call.name == name).expect("a call")
 }
 

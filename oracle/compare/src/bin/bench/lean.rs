@@ -6,11 +6,14 @@
 mod conformance;
 mod ranges;
 mod read;
+mod table;
 #[cfg(test)]
 mod tests;
 mod walk;
 
+use conformance::Rules;
 use read::{read_type, read_value};
+use table::Loaded;
 use walk::{Entries, skip_value};
 
 /// The level of a value.
@@ -29,28 +32,50 @@ pub fn check_type(t: &[u8]) -> Result<usize, u8> {
 pub fn type_is_conformant(a: &[u8], b: &[u8]) -> Result<bool, u8> {
     read_type(a)?;
     read_type(b)?;
-    Ok(conformance::of_type(a, b, false))
+    Ok(conformance::of_type(a, b, Rules::Ported))
 }
 
 #[inline(never)]
 pub fn strict_type_is_conformant(a: &[u8], b: &[u8]) -> Result<bool, u8> {
     read_type(a)?;
     read_type(b)?;
-    Ok(conformance::of_type(a, b, true))
+    Ok(conformance::of_type(a, b, Rules::Strict))
 }
 
 #[inline(never)]
 pub fn value_is_conformant(v: &[u8], t: &[u8]) -> Result<bool, u8> {
     read_value(v)?;
     read_type(t)?;
-    Ok(conformance::of_value(v, t, false))
+    Ok(conformance::of_value(v, t, Rules::Ported))
 }
 
 #[inline(never)]
 pub fn strict_value_is_conformant(v: &[u8], t: &[u8]) -> Result<bool, u8> {
     read_value(v)?;
     read_type(t)?;
-    Ok(conformance::of_value(v, t, true))
+    Ok(conformance::of_value(v, t, Rules::Strict))
+}
+
+/// Yes where the table loads.
+#[inline(never)]
+pub fn table_check(table: &[u8]) -> Result<bool, u8> {
+    Loaded::read(table).map(|_| true)
+}
+
+#[inline(never)]
+pub fn table_type_is_conformant(table: &[u8], a: &[u8], b: &[u8]) -> Result<bool, u8> {
+    let table = Loaded::read(table)?;
+    read_type(a)?;
+    read_type(b)?;
+    Ok(conformance::of_type(a, b, Rules::Over(&table)))
+}
+
+#[inline(never)]
+pub fn table_value_is_conformant(table: &[u8], v: &[u8], t: &[u8]) -> Result<bool, u8> {
+    let table = Loaded::read(table)?;
+    read_value(v)?;
+    read_type(t)?;
+    Ok(conformance::of_value(v, t, Rules::Over(&table)))
 }
 
 /// Whether a range is valid.

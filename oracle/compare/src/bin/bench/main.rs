@@ -11,6 +11,7 @@ mod data;
 mod deep;
 mod lean;
 mod measure;
+mod members;
 mod others;
 mod ours;
 mod refused;
@@ -59,6 +60,7 @@ fn main() -> ExitCode {
         updates::run,
         texts::run,
         strict::run,
+        members::run,
     ] {
         calls(&stocks, &mut table);
     }

@@ -59,6 +59,32 @@ macro_rules! earlier_strict {
 }
 pub(crate) use earlier_strict;
 
+/// The same as `both!` for a function over a table, which an earlier library may not have.
+macro_rules! both_table {
+    ($name:ident as $shape:ty) => {
+        crate::ours::Both::<$shape> {
+            now: compare::library::$name,
+            before: crate::ours::earlier_table!($name),
+        }
+    };
+}
+pub(crate) use both_table;
+
+#[cfg(feel_before_table)]
+macro_rules! earlier_table {
+    ($name:ident) => {
+        Some(compare::library::before::$name)
+    };
+}
+
+#[cfg(not(feel_before_table))]
+macro_rules! earlier_table {
+    ($name:ident) => {
+        None
+    };
+}
+pub(crate) use earlier_table;
+
 /// The room of an output, and of a record.
 pub const ROOM: usize = 16_384;
 
@@ -120,6 +146,49 @@ pub fn two_scratch(function: TwoScratch, a: &[u8], b: &[u8], buffers: &mut Buffe
     let (first, second) = (a.as_ptr(), b.as_ptr());
     // SAFETY: each pointer and length are those of one slice, which lives through the call.
     unsafe { function(first, a.len(), second, b.len(), scratch, wanted, out, room) }
+}
+
+/// Over three records.
+pub type Three = unsafe extern "C" fn(*const u8, usize, *const u8, usize, *const u8, usize) -> u64;
+
+pub fn three(function: Three, a: &[u8], b: &[u8], c: &[u8]) -> u64 {
+    let (first, second, third) = (a.as_ptr(), b.as_ptr(), c.as_ptr());
+    // SAFETY: each pointer and length are those of one slice, which lives through the call.
+    unsafe { function(first, a.len(), second, b.len(), third, c.len()) }
+}
+
+/// Over three records, with scratch and an output.
+pub type ThreeScratch = unsafe extern "C" fn(
+    *const u8,
+    usize,
+    *const u8,
+    usize,
+    *const u8,
+    usize,
+    *mut u8,
+    usize,
+    *mut u8,
+    usize,
+) -> u64;
+
+pub fn three_scratch(function: ThreeScratch, all: [&[u8]; 3], buffers: &mut Buffers) -> u64 {
+    let Buffers { scratch, out } = buffers;
+    let [a, b, c] = all;
+    // SAFETY: each pointer and length are those of one slice, which lives through the call.
+    unsafe {
+        function(
+            a.as_ptr(),
+            a.len(),
+            b.as_ptr(),
+            b.len(),
+            c.as_ptr(),
+            c.len(),
+            scratch.as_mut_ptr(),
+            scratch.len(),
+            out.as_mut_ptr(),
+            out.len(),
+        )
+    }
 }
 
 /// Over a context, with a name.

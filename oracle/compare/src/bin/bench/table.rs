@@ -8,7 +8,7 @@ use std::cmp::Ordering;
 const LINEAR: f64 = 1.5;
 
 /// The places in a record, and the kinds of records, that a row may be of.
-pub const PLACES: [&str; 20] = [
+pub const PLACES: [&str; 24] = [
     "first",
     "last",
     "front",
@@ -29,6 +29,10 @@ pub const PLACES: [&str; 20] = [
     "new-10",
     "over-31",
     "deep-value",
+    "fixed",
+    "dates",
+    "chain",
+    "diamond",
 ];
 
 /// Whether an earlier library is linked, so that there is a column for it.
@@ -249,6 +253,8 @@ impl Table {
             let slower = |row: &Row| row.before().filter(|ratio| *ratio < SLOWER);
             self.list("under 0.9 times the earlier library", slower);
         }
+        let tabled = |row: &Row| self.beside_ported(row);
+        self.list("over a table, in times of the ported call", tabled);
         let grown = |row: &Row| row.growth.filter(|growth| *growth > LINEAR);
         self.list("growth over 1.5", grown);
         let by_ratio = |a: &&Row, b: &&Row| -> Ordering { a.ratio().total_cmp(&b.ratio()) };
@@ -265,6 +271,15 @@ impl Table {
                 );
             }
         }
+    }
+
+    /// The time of a call over a table, divided by that of the ported call on records of the same size.
+    fn beside_ported(&self, row: &Row) -> Option<f64> {
+        let ported = row.call.strip_prefix("table_")?;
+        let is_ported =
+            |other: &&Row| other.call == ported && other.place.is_empty() && other.size == row.size;
+        let ported = self.rows.iter().find(is_ported)?;
+        Some(row.measured.ours / ported.measured.ours)
     }
 
     fn list(&self, title: &str, figure: impl Fn(&Row) -> Option<f64>) {
