@@ -21,6 +21,7 @@ use Rattle.order.specs.Order.{up, Order, fixed}
 use Rattle.order.specs.Types.{reduce, sup}
 use Rattle.order.specs.Size.{size}
 use Rattle.order.specs.Document.{conformsTo, eqTy}
+use Rattle.order.proofs.Table.{bool-iff}
 use Rattle.order.proofs.Simple.{fixed-laws}
 use Rattle.order.proofs.Ends.{Ends}
 use Rattle.order.proofs.Laws.{le-refl}
@@ -46,11 +47,6 @@ onto-again bs old = ap (λ r. bs ++ r) (sym (drop-append-seam bs (drop (length b
 pub starts-taken : (bs s : List ℕ) (n : ℕ) → n ≡ length bs → take n s ≡ bs → Starts bs s
 unfolding Starts onto
 starts-taken bs s n e h = sym (take-append-drop n s) ∙ ap (λ r. r ++ drop n s) h ∙ ap (λ k. bs ++ drop k s) e
-
-same-bool : (r q : Bool) → (r ≡ true → q ≡ true) → (q ≡ true → r ≡ true) → r ≡ q
-same-bool true q f g = sym (f refl)
-same-bool false true f g = g refl
-same-bool false false f g = refl
 
 -- ---- the two types
 pub record Two (x y : Option Ty) (s : List ℕ) (n m spare : ℕ) : Type 0 where
@@ -111,7 +107,7 @@ module _ (s : List ℕ) (n m spare : ℕ) (h : Sides (typeAt typeLevels s) (type
       let z : n + m - n ≡ m = omega arith in
       let d : take (n + m - n) (drop n s) ≡ enc (T .u) = ap (λ k. take k (drop n s)) z ∙ second-bytes cs in
       is-kept (typeAt typeLevels s) (typeAt typeLevels (drop n s)) (T .t) (T .u) q r (T .read-t) (T .read-u)
-      (same-bool r (eqTy (T .t) (T .u))
+      (bool-iff r (eqTy (T .t) (T .u))
       (λ p. ap (λ x. eqTy (T .t) x) (sym (enc-same (T .t) (T .u) (T .side .wf-first) (T .side .wf-second) (sym (first-bytes bs) ∙ g .0 p ∙ d))) ∙ eq-ty-self (T .t))
       (λ p. g .1 (first-bytes bs ∙ ap enc (eq-ty-same (T .t) (T .u) p) ∙ sym d))
       ∙ ap (λ x. keepsFirst x (T .t) (T .u)) (sym e))

@@ -5,7 +5,7 @@
 -- Assumes nothing.
 use Prim.Native.Nat.{ℕ, _+_, _*_, _/_, _%_, _^_}
 use mathlib.Core.Path.{_≡_, refl, sym, ap, _∙_}
-use mathlib.Core.Bool.{Bool, true, false, not, cond, _&&_, _||_, false≢true, true≢false}
+use mathlib.Core.Bool.{Bool, true, false, not, cond, _&&_, _||_}
 use mathlib.Core.List.{List, [], _∷_}
 use native.Mathlib.Omega.{arith}
 use lib.ListN.{length, getD}
@@ -13,6 +13,9 @@ use lib.Dec.{eqb}
 use lib.Bits.{bitAnd, and-self}
 use borrow.Author.Tests.{eq-eqb, ne-eqb}
 use Rattle.form.specs.Outcome.{Outcome, done, refused, _>>=_, _>>_, check}
+use Rattle.form.proofs.Accepted.{refused-done}
+use Rattle.form.proofs.Answered.{done-same}
+use Rattle.form.proofs.Refused.{refused-same}
 use Rattle.order.specs.Order.{Order, orderOf, bit}
 use Rattle.order.specs.Table.{imp, isTable, areFlags, isOrdered, inTable, hasJoins, place, packed, Loads, tableOrder}
 use Rattle.order.proofs.Packed.{packed-order}
@@ -141,38 +144,25 @@ module _ {X : Type 0} (table : List ℕ) (x : X) where
         loads-done e = sym (as-order ∙ ap (λ q. outcome true true q x) (sym (joined-rows table f is-order) ∙ e))
 
 -- ---- the reading's outcome tells that of every call over the table
-abbrev number-of : {X : Type 0} → Outcome X → ℕ
-number-of (done x) = 0
-number-of (refused n) = n
-
-abbrev value-of : {X : Type 0} → X → Outcome X → X
-value-of k (done x) = x
-value-of k (refused n) = k
-
-abbrev is-done : {X : Type 0} → Outcome X → Bool
-is-done (done x) = true
-is-done (refused n) = false
-
--- refused with the same number, whatever the call asks
-pub checked-refused : {X : Type 0} (table : List ℕ) (x : X) (n : ℕ) → refused n ≡ whereLoads table (packed table) → refused n ≡ whereLoads table x
-checked-refused table x n e =
-    go (isTable table) (isOrdered (inTable table)) (hasJoins (inTable table)) (e ∙ is-outcome table (packed table)) ∙ sym (is-outcome table x)
+-- refused with the same number, whatever is asked
+pub checked-refused : {X Y : Type 0} (table : List ℕ) (y : Y) (x : X) (n : ℕ) → refused n ≡ whereLoads table y → refused n ≡ whereLoads table x
+checked-refused table y x n e = go (isTable table) (isOrdered (inTable table)) (hasJoins (inTable table)) (e ∙ is-outcome table y) ∙ sym (is-outcome table x)
   where
-    go : (a b c : Bool) → refused n ≡ outcome a b c (packed table) → refused n ≡ outcome a b c x
-    go false b c h = ap (λ q. refused (number-of q)) h
-    go true false c h = ap (λ q. refused (number-of q)) h
-    go true true false h = ap (λ q. refused (number-of q)) h
-    go true true true h = absurd (false≢true (ap is-done h))
+    go : (a b c : Bool) → refused n ≡ outcome a b c y → refused n ≡ outcome a b c x
+    go false b c h = ap refused (refused-same h)
+    go true false c h = ap refused (refused-same h)
+    go true true false h = ap refused (refused-same h)
+    go true true true h = absurd (refused-done h)
 
 -- loaded, and what is answered is what was handed in
 pub loads-from : {X : Type 0} (table : List ℕ) (x y : X) → done y ≡ whereLoads table x → Loads table × (y ≡ x)
 loads-from {X} table x y e = go (isTable table) (isOrdered (inTable table)) (hasJoins (inTable table)) refl refl refl (e ∙ is-outcome table x)
   where
     go : (a b c : Bool) → isTable table ≡ a → isOrdered (inTable table) ≡ b → hasJoins (inTable table) ≡ c → done y ≡ outcome a b c x → Loads table × (y ≡ x)
-    go false b c p q r h = absurd (true≢false (ap is-done h))
-    go true false c p q r h = absurd (true≢false (ap is-done h))
-    go true true false p q r h = absurd (true≢false (ap is-done h))
-    go true true true p q r h = (record { is-table = p; is-ordered = q; has-joins = r }, ap (value-of y) h)
+    go false b c p q r h = absurd (refused-done (sym h))
+    go true false c p q r h = absurd (refused-done (sym h))
+    go true true false p q r h = absurd (refused-done (sym h))
+    go true true true p q r h = (record { is-table = p; is-ordered = q; has-joins = r }, done-same h)
 
 pub loads-is-done : {X : Type 0} (table : List ℕ) (x : X) → Loads table → whereLoads table x ≡ done x
 loads-is-done table x l =
@@ -186,7 +176,7 @@ checked-done table x m e = sym (loads-is-done table x (loads-from table (packed 
 module _ {Y : Type 0} (table : List ℕ) (more : Order → Outcome Y) where
   pub over-refused : (n : ℕ) → refused n ≡ readingOf table → refused n ≡ (_>>=_ (loadTable table) more)
   unfolding _>>=_
-  over-refused n e = ap (λ o. _>>=_ o more) (checked-refused table (tableOrder table) n e)
+  over-refused n e = ap (λ o. _>>=_ o more) (checked-refused table (packed table) (tableOrder table) n e)
 
   pub over-loaded : (m : ℕ) → done m ≡ readingOf table → more (orderOf m) ≡ (_>>=_ (loadTable table) more)
   unfolding _>>=_

@@ -10,6 +10,8 @@ use borrow.Author.Tests.{eqb-false}
 use Rattle.form.specs.Outcome.{Outcome, done, refused, _>>=_}
 use Rattle.form.specs.Trees.{Simple, any, null, Ty, leaf, built, Built, list, range, context, function, Fields, no-fields, field, Tys, no-params, param}
 use Rattle.form.specs.Trees.{Val, v-leaf, v-range, v-list, v-context, v-function, v-built-in, v-type, v-irrelevant, Vals, no-items, item, Entries, no-entries, entry}
+use Rattle.form.proofs.Accepted.{refused-done}
+use Rattle.form.proofs.Refused.{refused-same}
 use Rattle.order.specs.Order.{Order, Laws, same, fixed}
 use Rattle.order.specs.Table.{isTable, isOrdered, hasJoins, inTable, tableOrder, fixedTable, Loads}
 use Rattle.order.specs.Types.{cmp, empty, reduce, reduceBuilt, reduceFields, reduceTys, bound, sup, sub}
@@ -19,7 +21,7 @@ use Rattle.order.proofs.Ends.{laws-ends}
 use Rattle.order.proofs.Table.{table-laws, fixed-loads, join, meet, join-found, meet-found}
 use Rattle.order.proofs.Packed.{fixed-order}
 use Rattle.tables.specs.Calls.{loadTable, checkTable}
-use Rattle.tables.proofs.CallContracts.{outcome, is-outcome, loads-from, loads-is-done}
+use Rattle.tables.proofs.CallContracts.{outcome, is-outcome, checked-refused, loads-from, loads-is-done}
 use Rattle.types.specs.Calls as types
 use Rattle.bounds.specs.Calls.{combined}
 use Rattle.values.specs.Calls as values
@@ -28,14 +30,6 @@ use Rattle.vote.specs.TableVote.{LoadedTable, orderIn, RefusedFirst, Ans
 use Rattle.vote.proofs.Vote.{statements}
 
 -- ---- which tables load
-abbrev number-of : {X : Type 0} → Outcome X → ℕ
-number-of (done x) = 0
-number-of (refused n) = n
-
-abbrev is-done : {X : Type 0} → Outcome X → Bool
-is-done (done x) = true
-is-done (refused n) = false
-
 module _ (table : List ℕ) where
   abbrev A : Bool
   A = isTable table
@@ -58,34 +52,28 @@ module _ (table : List ℕ) where
 
   first-fails : (a b c : Bool) → (outcome a b c true ≡ refused 26) ↔ (a ≡ false)
   first-fails false b c = (λ h. refl, λ h. refl)
-  first-fails true false c = (λ h. absurd (eqb-false 27 26 refl (ap number-of h)), λ h. absurd (true≢false h))
-  first-fails true true false = (λ h. absurd (eqb-false 28 26 refl (ap number-of h)), λ h. absurd (true≢false h))
-  first-fails true true true = (λ h. absurd (true≢false (ap is-done h)), λ h. absurd (true≢false h))
+  first-fails true false c = (λ h. absurd (eqb-false 27 26 refl (refused-same h)), λ h. absurd (true≢false h))
+  first-fails true true false = (λ h. absurd (eqb-false 28 26 refl (refused-same h)), λ h. absurd (true≢false h))
+  first-fails true true true = (λ h. absurd (refused-done (sym h)), λ h. absurd (true≢false h))
 
   second-fails : (a b c : Bool) → (outcome a b c true ≡ refused 27) ↔ ((a ≡ true) × (b ≡ false))
-  second-fails false b c = (λ h. absurd (eqb-false 26 27 refl (ap number-of h)), λ h. absurd (false≢true (h .0)))
+  second-fails false b c = (λ h. absurd (eqb-false 26 27 refl (refused-same h)), λ h. absurd (false≢true (h .0)))
   second-fails true false c = (λ h. (refl, refl), λ h. refl)
-  second-fails true true false = (λ h. absurd (eqb-false 28 27 refl (ap number-of h)), λ h. absurd (true≢false (h .1)))
-  second-fails true true true = (λ h. absurd (true≢false (ap is-done h)), λ h. absurd (true≢false (h .1)))
+  second-fails true true false = (λ h. absurd (eqb-false 28 27 refl (refused-same h)), λ h. absurd (true≢false (h .1)))
+  second-fails true true true = (λ h. absurd (refused-done (sym h)), λ h. absurd (true≢false (h .1)))
 
   third-fails : (a b c : Bool) → (outcome a b c true ≡ refused 28) ↔ ((a ≡ true) × (b ≡ true) × (c ≡ false))
-  third-fails false b c = (λ h. absurd (eqb-false 26 28 refl (ap number-of h)), λ h. absurd (false≢true (h .0)))
-  third-fails true false c = (λ h. absurd (eqb-false 27 28 refl (ap number-of h)), λ h. absurd (false≢true (h .1)))
+  third-fails false b c = (λ h. absurd (eqb-false 26 28 refl (refused-same h)), λ h. absurd (false≢true (h .0)))
+  third-fails true false c = (λ h. absurd (eqb-false 27 28 refl (refused-same h)), λ h. absurd (false≢true (h .1)))
   third-fails true true false = (λ h. (refl, refl, refl), λ h. refl)
-  third-fails true true true = (λ h. absurd (true≢false (ap is-done h)), λ h. absurd (true≢false (h .2)))
+  third-fails true true true = (λ h. absurd (refused-done (sym h)), λ h. absurd (true≢false (h .2)))
 
   through : {P Q R : Type 0} → P ↔ Q → Q ↔ R → P ↔ R
   through f g = (λ p. g .0 (f .0 p), λ r. f .1 (g .1 r))
 
   -- the order is not made where a table does not load
   stopped : (n : ℕ) → checkTable table ≡ refused n → loadTable table ≡ refused n
-  stopped n h = is-outcome table (tableOrder table) ∙ go A B C (sym (is-outcome table true) ∙ h)
-    where
-      go : (a b c : Bool) → outcome a b c true ≡ refused n → outcome a b c (tableOrder table) ≡ refused n
-      go false b c e = ap (λ o. refused (number-of o)) e
-      go true false c e = ap (λ o. refused (number-of o)) e
-      go true true false e = ap (λ o. refused (number-of o)) e
-      go true true true e = absurd (true≢false (ap is-done e))
+  stopped n h = sym (checked-refused table true (tableOrder table) n (sym h))
 
   first : (n : ℕ) → checkTable table ≡ refused n → RefusedFirst table n
   unfolding _>>=_

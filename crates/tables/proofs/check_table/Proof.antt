@@ -6,6 +6,7 @@ use Rattle.tables.proofs.check_table.Tie as tie
 use Rattle.tables.proofs.CallContracts.{checked-refused, checked-done}
 use mathlib.Core.Path.{sym, ap, _∙_}
 use mathlib.Core.Bool.{true}
+use Rattle.order.specs.Table.{packed}
 use Rattle.tables.specs.Calls.{loaded}
 
 pub check-table-spec : {M : Type 1} → statement M
@@ -16,7 +17,7 @@ check-table-spec =
     (λ c. search needs)
     (λ c. search needs)
     (λ c.
-    checked-refused (c .before .before .before .before .before .args .table .now) true _
+    checked-refused (c .before .before .before .before .before .args .table .now) (packed (c .before .before .before .before .before .args .table .now)) true _
     (sym (ap loaded (c .before .n .given .1)) ∙ c .before .before .before .load .ensures))
     (λ c.
     checked-done (c .before .before .before .before .args .table .now) true _
