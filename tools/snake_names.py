@@ -60,7 +60,7 @@ def declared(text):
         if it and it[2].split()[0] not in ("use", "mod", "let", "in", "open", "mutual"):
             if inside and indent == inside[1] + 2:
                 kind = "constructor" if inside[0] == "data" else "field"
-            elif indent in (0, 2):
+            elif indent <= 8:
                 kind, inside = "def", None if indent == 0 else inside
             else:
                 continue

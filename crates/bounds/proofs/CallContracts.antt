@@ -1,7 +1,7 @@
 -- The calls: their arguments are read, the answer is built and copied.
 -- Idea: an accepted argument stands at the front and takes all bytes (`Fine`), and an answer is never longer than both, so it fits the scratch.
--- Index: `Fine`, `fine`, `not_read` (arguments); `first_refused`, `second_refused`, `scratch_short`, `call-ready`, `call-size`, `call_short`, `call_done` (`combine`);
--- `reduced_refused`, `reduced-there`, `reduced-short`, `reduced-ready`, `reduced-done` (the reduced form).
+-- Index: `Fine`, `fine`, `not_read` (arguments); `first_refused`, `second_refused`, `scratch_short`, `call_ready`, `call_size`, `call_short`, `call_done` (`combine`);
+-- `reduced_refused`, `reduced_there`, `reduced_short`, `reduced_ready`, `reduced_done` (the reduced form).
 -- Assumes nothing.
 use Prim.Native.Nat.{ℕ, ◌+◌, ◌≤◌, ◌<◌}
 use mathlib.Core.Path.{◌≡◌, refl, sym, ap, ◌∙◌}
@@ -26,7 +26,7 @@ use Rattle.order.specs.Types.{reduce, bound}
 use Rattle.order.specs.Ascending.{Asc}
 use Rattle.order.specs.Size.{size}
 use Rattle.order.proofs.Ends.{reading_ends}
-use Rattle.order.proofs.Size.{length_enc, size-bound, size-reduce}
+use Rattle.order.proofs.Size.{length_enc, size_bound, size_reduce}
 use Rattle.types.specs.At.{type_at, Ok}
 use Rattle.types.proofs.Reading.{got_seen, is_ok, t_good}
 use Rattle.lattice.specs.Writing.{answer, of_types, most_answer, Ready, Wrote, Combined}
@@ -95,29 +95,29 @@ module _ (O : Order) (d : Dir) (a b : List ℕ) (k : ℕ) (old : List ℕ) where
 
     call_room : (size (answer O d A.t B.t) ≤ k) × (size (answer O d A.t B.t) ≤ most_answer)
     call_room =
-        let r = size-reduce O (bound O d A.t B.t) in
-        let g = size-bound O d A.t B.t A.asc in
+        let r = size_reduce O (bound O d A.t B.t) in
+        let g = size_bound O d A.t B.t A.asc in
         (omega (arith, r, g, A.sized, B.sized), omega (arith, r, g, A.sized, B.sized, A.short, B.short))
 
-    pub call-ready : Ready (of_types O d) (type_at type_levels a) (type_at type_levels b) k
-    call-ready = ready (of_types O d) (type_at type_levels a) (type_at type_levels b) A.t B.t k A.there B.there call_room.0 call_room.1
+    pub call_ready : Ready (of_types O d) (type_at type_levels a) (type_at type_levels b) k
+    call_ready = ready (of_types O d) (type_at type_levels a) (type_at type_levels b) A.t B.t k A.there B.there call_room.0 call_room.1
 
     module _ (sc sc2 : List ℕ) (i j w : ℕ) (c : Combined (of_types O d) (type_at type_levels a) (type_at type_levels b) sc sc2 i j w) where
-      call-wrote : Wrote (of_types O d) A.t B.t sc sc2 i j w
-      call-wrote = combined_is (of_types O d) (type_at type_levels a) (type_at type_levels b) A.t B.t sc sc2 i j w A.there B.there c
+      call_wrote : Wrote (of_types O d) A.t B.t sc sc2 i j w
+      call_wrote = combined_is (of_types O d) (type_at type_levels a) (type_at type_levels b) A.t B.t sc sc2 i j w A.there B.there c
 
-      pub call-size : w ≤ k
-      call-size = omega (arith, call-wrote.long, call_room.0)
+      pub call_size : w ≤ k
+      call_size = omega (arith, call_wrote.long, call_room.0)
 
       call_length : w ≡ length (enc (answer O d A.t B.t))
-      call_length = call-wrote.long ∙ sym (length_enc (answer O d A.t B.t))
+      call_length = call_wrote.long ∙ sym (length_enc (answer O d A.t B.t))
 
       pub call_short : length old < w → Built (combined (answer O d) a b k (length old)) old old (written_is.Refused 18)
       call_short l = built_short (combined (answer O d) a b k (length old)) (enc (answer O d A.t B.t)) old call_is (omega (arith, call_length))
 
       pub call_done : (new : List ℕ) → w ≤ length old → new ≡ onto (take w sc2) old → Built (combined (answer O d) a b k (length old)) old new (written_is.Bytes w)
       call_done new l o =
-          let part : take w sc2 ≡ enc (answer O d A.t B.t) = ap (take w) call-wrote.out ∙ onto_front (enc (answer O d A.t B.t)) sc w call_length in
+          let part : take w sc2 ≡ enc (answer O d A.t B.t) = ap (take w) call_wrote.out ∙ onto_front (enc (answer O d A.t B.t)) sc w call_length in
           built_wrote (combined (answer O d) a b k (length old)) (enc (answer O d A.t B.t)) old new w call_is call_length (omega (arith, call_length)) (o ∙ ap (λ (z : List ℕ). onto z old) part)
 
 -- ---- the reduced form
@@ -131,16 +131,16 @@ module _ (s old : List ℕ) where
     unfolding ◌>>=◌
     reduced_is = rw A.reads
 
-    pub reduced-there : Ok (type_at type_levels s)
-    reduced-there = is_ok (type_at type_levels s) A.t A.there
+    pub reduced_there : Ok (type_at type_levels s)
+    reduced_there = is_ok (type_at type_levels s) A.t A.there
 
     module _ (r : Bool) (m : Roomy (type_at type_levels s) (length old) r) where
       roomy : r ≡ leb (size (reduce fixed A.t)) (length old)
       unfolding Roomy
       roomy = rw A.there at m
 
-      pub reduced-short : r ≡ false → Built (reduced_call s (length old)) old old (written_is.Refused 18)
-      reduced-short e =
+      pub reduced_short : r ≡ false → Built (reduced_call s (length old)) old old (written_is.Refused 18)
+      reduced_short e =
           built_short (reduced_call s (length old)) (enc (reduce fixed A.t)) old reduced_is
           (omega (arith, leb-false (size (reduce fixed A.t)) (length old) (sym roomy ∙ e), length_enc (reduce fixed A.t)))
 
@@ -148,15 +148,15 @@ module _ (s old : List ℕ) where
         room : size (reduce fixed A.t) ≤ length old
         room = leb-true (size (reduce fixed A.t)) (length old) (sym roomy ∙ e)
 
-        pub reduced-ready : Ready (of_types fixed up) (type_at type_levels s) (type_at type_levels s) (length old)
-        reduced-ready =
+        pub reduced_ready : Ready (of_types fixed up) (type_at type_levels s) (type_at type_levels s) (length old)
+        reduced_ready =
             let e = ap size (self (reading_ends 0) up A.t A.asc) in
-            let k = size-reduce fixed A.t in
+            let k = size_reduce fixed A.t in
             ready (of_types fixed up) (type_at type_levels s) (type_at type_levels s) A.t A.t (length old) A.there A.there (omega (arith, room, e)) (omega (arith, e, k, A.sized, A.short))
 
-        pub reduced-done : (new : List ℕ) (i j n : ℕ) → Combined (of_types fixed up) (type_at type_levels s) (type_at type_levels s) old new i j n
+        pub reduced_done : (new : List ℕ) (i j n : ℕ) → Combined (of_types fixed up) (type_at type_levels s) (type_at type_levels s) old new i j n
             → Built (reduced_call s (length old)) old new (written_is.Bytes n)
-        reduced-done new i j n c =
+        reduced_done new i j n c =
             let g = combined_is (of_types fixed up) (type_at type_levels s) (type_at type_levels s) A.t A.t old new i j n A.there A.there c in
             let e = self (reading_ends 0) up A.t A.asc in
             let le = length_enc (reduce fixed A.t) in

@@ -1,7 +1,7 @@
 -- Laws of the walk that measures a reduced form: the size of a type, and that of its reduced form.
 -- Idea: a list, a range, a context and a function are one case, a part k bytes behind the start (`Within`); a loop keeps both sizes of what is left.
--- Index: `is_measured`, `measured_is` (the contract); `Within`, `within_ok`, `within-ends`, `within-done`, `in_wrapped`, `in_context`, `in_function`, `simple_sizes`, `none_sizes` (by the command);
--- `EntriesInv`, `entries_start`, `entry_next`, `entries_done` (entries); `ParametersInv`, `parameters_start`, `parameter-next`, `parameters-done` (parameters); `room_enough`, `room_measured`.
+-- Index: `is_measured`, `measured_is` (the contract); `Within`, `within_ok`, `within_ends`, `within_done`, `in_wrapped`, `in_context`, `in_function`, `simple_sizes`, `none_sizes` (by the command);
+-- `EntriesInv`, `entries_start`, `entry_next`, `entries_done` (entries); `ParametersInv`, `parameters_start`, `parameter_next`, `parameters_done` (parameters); `room_enough`, `room_measured`.
 -- Assumes nothing.
 use Prim.Native.Nat.{ℕ, zero, suc, ◌+◌, ◌-◌, ◌<◌, ◌≤◌}
 use mathlib.Core.Path.{◌≡◌, refl, sym, ap, ap₂, ◌∙◌}
@@ -17,9 +17,9 @@ use Rattle.form.specs.Limits.{name_width}
 use Rattle.form.specs.Form.{num_at, count_tys}
 use Rattle.form.proofs.Runs.{rest, behind}
 use Rattle.order.specs.Order.{fixed}
-use Rattle.order.specs.Types.{reduce, reduceFields}
+use Rattle.order.specs.Types.{reduce, reduce_fields}
 use Rattle.order.specs.Size.{size, size_fields}
-use Rattle.order.proofs.Size.{size-reduce}
+use Rattle.order.proofs.Size.{size_reduce}
 use Rattle.types.specs.At.{type_at, fields_at, Sig, sig, cons, fun_of, size_sig, sig_at, Ok, size_at}
 use Rattle.types.proofs.Reading.{is_ok, ok_got, cmd_is, some_byte, some_level, is_list_lem, is_range_lem, is_ctx, is_fun, t_good, size_fun, size_cons, last_cmd, size_list, size_range, size_ctx}
 use Rattle.types.proofs.ChildAt.{item_behind, entry_behind, entry_ok}
@@ -52,7 +52,7 @@ reduce_range : (t : Ty) → reduce fixed (built (range t)) ≡ built (range (red
 unfolding reduce
 reduce_range t = refl
 
-reduce_context : (fs : Fields) → reduce fixed (built (context fs)) ≡ built (context (reduceFields fixed fs))
+reduce_context : (fs : Fields) → reduce fixed (built (context fs)) ≡ built (context (reduce_fields fixed fs))
 unfolding reduce
 reduce_context fs = refl
 
@@ -66,11 +66,11 @@ unfolding reduce reduce_sig count_tys
 reduce_fun (sig no_params r) h = absurd (h refl)
 reduce_fun (sig (param t ps) r) h = refl
 
-reduce_field : (n : ℕ) (t : Ty) (fs : Fields) → reduceFields fixed (field n t fs) ≡ field n (reduce fixed t) (reduceFields fixed fs)
+reduce_field : (n : ℕ) (t : Ty) (fs : Fields) → reduce_fields fixed (field n t fs) ≡ field n (reduce fixed t) (reduce_fields fixed fs)
 unfolding reduce
 reduce_field n t fs = refl
 
-reduce_no_fields : reduceFields fixed no_fields ≡ no_fields
+reduce_no_fields : reduce_fields fixed no_fields ≡ no_fields
 unfolding reduce
 reduce_no_fields = refl
 
@@ -96,19 +96,19 @@ module _ {l : ℕ} {a : List ℕ} {X : Type 0} {red : X → X} {sized : X → �
   within_ok = is_ok ga I.x I.part
 
   module _ (i j : ℕ) (h : Measured red sized ga i j) where
-    within-is : (i + k ≡ size (I.mk I.x)) × (j + k ≡ size (reduce fixed (I.mk I.x)))
-    within-is =
+    within_is : (i + k ≡ size (I.mk I.x)) × (j + k ≡ size (reduce fixed (I.mk I.x)))
+    within_is =
         let g = measured_is red sized ga I.x i j I.part h in
         (omega (arith, g.0, I.longer I.x), omega (arith, g.1, I.longer (red I.x), ap size I.reduces))
 
-    pub within-ends : (i + k ≤ length a) × (j + k ≤ length a)
-    within-ends =
-        let g = within-is in
+    pub within_ends : (i + k ≤ length a) × (j + k ≤ length a)
+    within_ends =
+        let g = within_is in
         let t = (t_good l a (I.mk I.x) I.read).1 in
-        (omega (arith, g.0, t), omega (arith, g.1, t, size-reduce fixed (I.mk I.x)))
+        (omega (arith, g.0, t), omega (arith, g.1, t, size_reduce fixed (I.mk I.x)))
 
-    pub within-done : Measured (reduce fixed) size (type_at l a) (i + k) (j + k)
-    within-done = is_measured (reduce fixed) size (type_at l a) (I.mk I.x) (i + k) (j + k) I.read within-is.0 within-is.1
+    pub within_done : Measured (reduce fixed) size (type_at l a) (i + k) (j + k)
+    within_done = is_measured (reduce fixed) size (type_at l a) (I.mk I.x) (i + k) (j + k) I.read within_is.0 within_is.1
 
 pub record FunctionAt (l : ℕ) (a : List ℕ) : Type 0 where
   pub f : Sig
@@ -153,7 +153,7 @@ module _ (l : ℕ) (a : List ℕ) (p : Ok (type_at l a)) where
   pub context_three : get_or a 0 0 ≡ 44 → 3 ≤ length a
   context_three c = (is_ctx l a K.0 K.1 c).three
 
-  pub in_context : get_or a 0 0 ≡ 44 → (i : ℕ) → i ≡ num_at 2 1 a → Within l a (reduceFields fixed) size_fields 3 (fields_at (l - 1) i 0 (behind 3 a))
+  pub in_context : get_or a 0 0 ≡ 44 → (i : ℕ) → i ≡ num_at 2 1 a → Within l a (reduce_fields fixed) size_fields 3 (fields_at (l - 1) i 0 (behind 3 a))
   in_context c i ei =
       let x = is_ctx l a K.0 K.1 c in
       record {
@@ -198,7 +198,7 @@ pub record EntriesInv (l : ℕ) (a : List ℕ) (n at to i : ℕ) : Type 0 where
   pub low : to ≤ at
   pub read : fields_at l (n - i) least (drop at a) ≡ some fs
   pub sizes : at + size_fields fs ≡ size_fields all
-  pub short : to + size_fields (reduceFields fixed fs) ≡ size_fields (reduceFields fixed all)
+  pub short : to + size_fields (reduce_fields fixed fs) ≡ size_fields (reduce_fields fixed all)
 
 pub entries_start : (l : ℕ) (a : List ℕ) (n : ℕ) → Ok (fields_at l n 0 a) → EntriesInv l a n 0 0 0
 entries_start l a n p = go (ok_got (fields_at l n 0 a) p)
@@ -225,24 +225,24 @@ module _ {l : ℕ} {a : List ℕ} {n at to i : ℕ} (v : EntriesInv l a n at to 
     abbrev A : Here l (n - (i + 1)) at v.least a v.fs
     A = here l i n at v.least a v.fs h v.read
 
-    pub entry-name : at + name_width ≤ length a
-    entry-name = A.two
+    pub entry_name : at + name_width ≤ length a
+    entry_name = A.two
 
-    pub entry-there : Ok (type_at l (behind (at + name_width) a))
-    entry-there = entry_ok A
+    pub entry_there : Ok (type_at l (behind (at + name_width) a))
+    entry_there = entry_ok A
 
     module _ (r s : ℕ) (m : Measured (reduce fixed) size (type_at l (behind (at + name_width) a)) r s) where
-      entry-is : (r ≡ size A.x) × (s ≡ size (reduce fixed A.x))
-      entry-is = measured_is (reduce fixed) size (type_at l (behind (at + name_width) a)) A.x r s (entry_behind A) m
+      entry_is : (r ≡ size A.x) × (s ≡ size (reduce fixed A.x))
+      entry_is = measured_is (reduce fixed) size (type_at l (behind (at + name_width) a)) A.x r s (entry_behind A) m
 
-      pub entry-ends : (at + name_width + r ≤ length a) × (to + name_width + s ≤ length a)
-      entry-ends = let g = entry-is in (omega (arith, g.0, A.fits), omega (arith, g.1, A.fits, v.low, size-reduce fixed A.x))
+      pub entry_ends : (at + name_width + r ≤ length a) × (to + name_width + s ≤ length a)
+      entry_ends = let g = entry_is in (omega (arith, g.0, A.fits), omega (arith, g.1, A.fits, v.low, size_reduce fixed A.x))
 
       pub entry_next : EntriesInv l a n (at + name_width + r) (to + name_width + s) (i + 1)
       entry_next =
-          let g = entry-is in
-          let shorter = ap (λ (z : Fields). size_fields (reduceFields fixed z)) A.is ∙ ap size_fields (reduce_field A.name A.x A.more)
-          ∙ size_field A.name (reduce fixed A.x) (reduceFields fixed A.more) in
+          let g = entry_is in
+          let shorter = ap (λ (z : Fields). size_fields (reduce_fields fixed z)) A.is ∙ ap size_fields (reduce_field A.name A.x A.more)
+          ∙ size_field A.name (reduce fixed A.x) (reduce_fields fixed A.more) in
           record {
             all = v.all;
             fs = A.more;
@@ -250,18 +250,18 @@ module _ {l : ℕ} {a : List ℕ} {n at to i : ℕ} (v : EntriesInv l a n at to 
             whole = v.whole;
             below = omega arith;
             within = omega (arith, g.0, A.fits);
-            low = omega (arith, g.0, g.1, v.low, size-reduce fixed A.x);
+            low = omega (arith, g.0, g.1, v.low, size_reduce fixed A.x);
             read = ap (λ (z : ℕ). fields_at l (n - (i + 1)) (suc A.name) (drop (at + name_width + z) a)) g.0 ∙ A.second;
             sizes = omega (arith, v.sizes, A.sized, g.0);
             short = omega (arith, v.short, shorter, g.1);
           }
 
-  pub entries_done : n ≤ i → Measured (reduceFields fixed) size_fields (fields_at l n 0 a) at to
+  pub entries_done : n ≤ i → Measured (reduce_fields fixed) size_fields (fields_at l n 0 a) at to
   entries_done h =
       let e = gone l i n at v.least a v.fs h v.read in
-      is_measured (reduceFields fixed) size_fields (fields_at l n 0 a) v.all at to v.whole
+      is_measured (reduce_fields fixed) size_fields (fields_at l n 0 a) v.all at to v.whole
       (omega (arith, v.sizes, ap size_fields e, size_none))
-      (omega (arith, v.short, ap (λ (z : Fields). size_fields (reduceFields fixed z)) e ∙ ap size_fields reduce_no_fields, size_none))
+      (omega (arith, v.short, ap (λ (z : Fields). size_fields (reduce_fields fixed z)) e ∙ ap size_fields reduce_no_fields, size_none))
 
 -- ---- parameters and result
 pub record ParametersInv (l : ℕ) (a : List ℕ) (n at to i : ℕ) : Type 0 where
@@ -299,19 +299,19 @@ module _ {l : ℕ} {a : List ℕ} {n at to i : ℕ} (v : ParametersInv l a n at 
     abbrev N : Param l (n - (i + 1)) at a v.f
     N = param_at l i n at a v.f h v.within v.read
 
-    pub parameter-there : Ok (type_at l (behind at a))
-    parameter-there = is_ok (type_at l (behind at a)) N.x (item_behind N)
+    pub parameter_there : Ok (type_at l (behind at a))
+    parameter_there = is_ok (type_at l (behind at a)) N.x (item_behind N)
 
     module _ (r s : ℕ) (m : Measured (reduce fixed) size (type_at l (behind at a)) r s) where
-      parameter-is : (r ≡ size N.x) × (s ≡ size (reduce fixed N.x))
-      parameter-is = measured_is (reduce fixed) size (type_at l (behind at a)) N.x r s (item_behind N) m
+      parameter_is : (r ≡ size N.x) × (s ≡ size (reduce fixed N.x))
+      parameter_is = measured_is (reduce fixed) size (type_at l (behind at a)) N.x r s (item_behind N) m
 
-      pub parameter-ends : (at + r ≤ length a) × (to + s ≤ length a)
-      parameter-ends = let g = parameter-is in (omega (arith, g.0, N.fits), omega (arith, g.1, N.fits, v.low, size-reduce fixed N.x))
+      pub parameter_ends : (at + r ≤ length a) × (to + s ≤ length a)
+      parameter_ends = let g = parameter_is in (omega (arith, g.0, N.fits), omega (arith, g.1, N.fits, v.low, size_reduce fixed N.x))
 
-      pub parameter-next : ParametersInv l a n (at + r) (to + s) (i + 1)
-      parameter-next =
-          let g = parameter-is in
+      pub parameter_next : ParametersInv l a n (at + r) (to + s) (i + 1)
+      parameter_next =
+          let g = parameter_is in
           let shorter = ap (λ (z : Sig). size_sig (reduce_sig z)) N.is ∙ ap size_sig (reduce_cons N.x N.more) ∙ size_cons (reduce fixed N.x) (reduce_sig N.more) in
           record {
             all = v.all;
@@ -319,7 +319,7 @@ module _ {l : ℕ} {a : List ℕ} {n at to i : ℕ} (v : ParametersInv l a n at 
             whole = v.whole;
             below = omega arith;
             within = omega (arith, g.0, N.fits);
-            low = omega (arith, g.0, g.1, v.low, size-reduce fixed N.x);
+            low = omega (arith, g.0, g.1, v.low, size_reduce fixed N.x);
             read = ap (λ (z : ℕ). sig_at l (n - (i + 1)) (drop (at + z) a)) g.0 ∙ N.second;
             sizes = omega (arith, v.sizes, N.sized, g.0);
             short = omega (arith, v.short, shorter, g.1);
@@ -329,19 +329,19 @@ module _ {l : ℕ} {a : List ℕ} {n at to i : ℕ} (v : ParametersInv l a n at 
     abbrev R : Last l at a v.f
     R = last l i n at a v.f h v.within v.read
 
-    pub result-there : Ok (type_at l (behind at a))
-    result-there = is_ok (type_at l (behind at a)) R.t R.first
+    pub result_there : Ok (type_at l (behind at a))
+    result_there = is_ok (type_at l (behind at a)) R.t R.first
 
     module _ (r s : ℕ) (m : Measured (reduce fixed) size (type_at l (behind at a)) r s) where
-      result-is : (r ≡ size R.t) × (s ≡ size (reduce fixed R.t))
-      result-is = measured_is (reduce fixed) size (type_at l (behind at a)) R.t r s R.first m
+      result_is : (r ≡ size R.t) × (s ≡ size (reduce fixed R.t))
+      result_is = measured_is (reduce fixed) size (type_at l (behind at a)) R.t r s R.first m
 
       pub result_fits : (at + r ≤ length a) × (to + s ≤ length a)
-      result_fits = let g = result-is in (omega (arith, g.0, R.fits), omega (arith, g.1, R.fits, v.low, size-reduce fixed R.t))
+      result_fits = let g = result_is in (omega (arith, g.0, R.fits), omega (arith, g.1, R.fits, v.low, size_reduce fixed R.t))
 
-      pub parameters-done : Measured reduce_sig size_sig (sig_at l n a) (at + r) (to + s)
-      parameters-done =
-          let g = result-is in
+      pub parameters_done : Measured reduce_sig size_sig (sig_at l n a) (at + r) (to + s)
+      parameters_done =
+          let g = result_is in
           let shorter = ap (λ (z : Sig). size_sig (reduce_sig z)) R.is ∙ ap size_sig (reduce_result R.t) ∙ size_result (reduce fixed R.t) in
           is_measured reduce_sig size_sig (sig_at l n a) v.all (at + r) (to + s) v.whole (omega (arith, v.sizes, R.sized, g.0)) (omega (arith, v.short, shorter, g.1))
 
@@ -356,7 +356,7 @@ module _ (l : ℕ) (s : List ℕ) (room : ℕ) (p : Ok (type_at l s)) where
 
   -- the type itself has room
   pub room_enough : length s ≤ room → Roomy (type_at l s) room true
-  room_enough h = is_roomy true λ t e. sym (le-leb (size (reduce fixed t)) room (omega (arith, h, size-reduce fixed t, (t_good l s t e).1)))
+  room_enough h = is_roomy true λ t e. sym (le-leb (size (reduce fixed t)) room (omega (arith, h, size_reduce fixed t, (t_good l s t e).1)))
 
   pub room_measured : (i j : ℕ) → Measured (reduce fixed) size (type_at l s) i j → (q : Bool) → q ≡ leb j room → Roomy (type_at l s) room q
   room_measured i j m q e = is_roomy q λ t f. e ∙ ap (λ (k : ℕ). leb k room) (measured_is (reduce fixed) size (type_at l s) t i j f m).1

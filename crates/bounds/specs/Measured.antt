@@ -5,13 +5,13 @@ use Rattle.std.proofs.Math.Option.{Option}
 use Rattle.form.specs.Trees.{Ty}
 use Rattle.form.specs.Options.{WhereRead}
 use Rattle.order.specs.Order.{fixed}
-use Rattle.order.specs.Types.{reduce, reduceTys}
+use Rattle.order.specs.Types.{reduce, reduce_tys}
 use Rattle.order.specs.Size.{size}
 use Rattle.types.specs.At.{Sig, sig}
 
 -- ---- reduced forms
 unfoldable pub reduce_sig : Sig → Sig
-reduce_sig (sig ps r) = sig (reduceTys fixed ps) (reduce fixed r)
+reduce_sig (sig ps r) = sig (reduce_tys fixed ps) (reduce fixed r)
 
 -- the size of what stands there, and of its reduced form
 unfoldable pub Measured : {X : Type 0} → (X → X) → (X → ℕ) → Option X → ℕ → ℕ → Type 0

@@ -2,7 +2,7 @@
 ghost use Rattle.std.specs.Prelude.{◌+◌, ◌<◌, ◌/◌, length};
 ghost use Rattle.form.specs.Form.{bytes};
 ghost use Rattle.order.specs.Order.{fixed};
-ghost use Rattle.order.specs.Types.{reduce, reduceFields};
+ghost use Rattle.order.specs.Types.{reduce, reduce_fields};
 ghost use Rattle.order.specs.Size.{size, size_fields};
 ghost use Rattle.types.specs.At.{type_at, fields_at, sig_at, size_sig, Ok};
 ghost use Rattle.bounds.specs.Measured.{reduce_sig, Measured, Roomy};
@@ -59,7 +59,7 @@ fn measure(s: &[u8], left: usize) -> Sizes
 #[cycle(measure_measure_fields_measure_sig)]
 fn measure_fields(s: &[u8], n: usize, left: usize) -> Sizes
     requires { Ok (fields_at left n 0 s.now) }
-    ensures { Measured (reduceFields fixed) size_fields (fields_at left n 0 s.now) result.read result.short }
+    ensures { Measured (reduce_fields fixed) size_fields (fields_at left n 0 s.now) result.read result.short }
 {
     let mut at: usize = 0;
     let mut to: usize = 0;

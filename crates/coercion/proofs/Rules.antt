@@ -1,8 +1,8 @@
 -- The rules of coercion, one by one, as the code asks them; and the results that they give.
 -- Idea: each helper says a test of the two trees (`SaysAt`); the result is the definition's at those answers.
 -- Index: `value_says`, `function_says`, `bif_function`, `bif_sqrt`, `bif_any` (conformance); `keeps_definition`, `keeps_built_in`, `keeps_other` (`keeps`); `listed`, `one_item`, `item_no`,
--- `item_says` (`takes_item`); `inner_no`, `inner_says` (`meets_inner`); `give_conformant`, `give_same`, `give_item`, `give_no_item`, `give-single`, `give-failed` (results);
--- `wrap_long`, `wrap-deep`, `wrap-short`, `wrap-done` (`wrap`); `first_refused`, `second_refused`, `ready` (arguments).
+-- `item_says` (`takes_item`); `inner_no`, `inner_says` (`meets_inner`); `give_conformant`, `give_same`, `give_item`, `give_no_item`, `give_single`, `give_failed` (results);
+-- `wrap_long`, `wrap_deep`, `wrap_short`, `wrap_done` (`wrap`); `first_refused`, `second_refused`, `ready` (arguments).
 -- Assumes nothing.
 use Prim.Native.Nat.{ℕ, zero, suc, ◌+◌, ◌-◌, ◌<◌, ◌≤◌}
 use native.Mathlib.Omega.{arith}
@@ -387,13 +387,13 @@ module _ (t v : List ℕ) (A : Accepted t v) where
         go (is_decimal_lem x p e) = refl
 
     module _ (c : get_or v 0 0 ≡ 0x0A → ⊥) (q : Bool) (g : SaysAt inner_conforms v t q) where
-      pub give-failed : q ≡ false → (room : ℕ) → fits room (0 ∷ 1 ∷ []) ≡ coerced_call v t room
-      give-failed f room =
+      pub give_failed : q ≡ false → (room : ℕ) → fits room (0 ∷ 1 ∷ []) ≡ coerced_call v t room
+      give_failed f room =
           let z : to_single A.value A.type ≡ failed = ap (λ b. cond b (single A.value) failed) (sym (was inner_conforms q g) ∙ f) in
           sym (call_is room ∙ ap (result room) (changed ∙ other_is c ∙ z) ∙ failed_is room)
 
-      pub give-single : q ≡ true → (lv : ℕ) → lv ≡ level_v A.value → (room : ℕ) → wrapped v lv room ≡ coerced_call v t room
-      give-single f lv l room =
+      pub give_single : q ≡ true → (lv : ℕ) → lv ≡ level_v A.value → (room : ℕ) → wrapped v lv room ≡ coerced_call v t room
+      give_single f lv l room =
           let z : to_single A.value A.type ≡ single A.value = ap (λ b. cond b (single A.value) failed) (sym (was inner_conforms q g) ∙ f) in
           sym (call_is room ∙ ap (result room) (changed ∙ other_is c ∙ z) ∙ single_result room A.value v lv accepted_value.0 l)
 
@@ -416,41 +416,41 @@ module _ (v : List ℕ) (lv : ℕ) (old : List ℕ) where
   wrap_long h = built_refused (wrapped v lv (length old)) 17 old (rw (lt-leb (length v + 3) most_bytes h))
 
   module _ (h : length v + 3 ≤ most_bytes) where
-    pub wrap-deep : value_levels < lv + 1 → Built (wrapped v lv (length old)) old old (written_is.Refused 17)
+    pub wrap_deep : value_levels < lv + 1 → Built (wrapped v lv (length old)) old old (written_is.Refused 17)
     unfolding ◌>>◌
-    wrap-deep k = built_refused (wrapped v lv (length old)) 17 old (rw (le-leb (length v + 3) most_bytes h, lt-leb (lv + 1) value_levels k))
+    wrap_deep k = built_refused (wrapped v lv (length old)) 17 old (rw (le-leb (length v + 3) most_bytes h, lt-leb (lv + 1) value_levels k))
 
     module _ (k : lv + 1 ≤ value_levels) where
-      wrap-is : wrapped v lv (length old) ≡ fits (length old) (0x0A ∷ 1 ∷ 0 ∷ v)
+      wrap_is : wrapped v lv (length old) ≡ fits (length old) (0x0A ∷ 1 ∷ 0 ∷ v)
       unfolding ◌>>◌
-      wrap-is = rw (le-leb (length v + 3) most_bytes h, le-leb (lv + 1) value_levels k)
+      wrap_is = rw (le-leb (length v + 3) most_bytes h, le-leb (lv + 1) value_levels k)
 
-      pub wrap-short : length old < length v + 3 → Built (wrapped v lv (length old)) old old (written_is.Refused 18)
-      wrap-short l = built_short (wrapped v lv (length old)) (0x0A ∷ 1 ∷ 0 ∷ v) old wrap-is (omega arith)
+      pub wrap_short : length old < length v + 3 → Built (wrapped v lv (length old)) old old (written_is.Refused 18)
+      wrap_short l = built_short (wrapped v lv (length old)) (0x0A ∷ 1 ∷ 0 ∷ v) old wrap_is (omega arith)
 
       module _ (l : length v + 3 ≤ length old) where
-        pub wrap-three : 3 ≤ length (set (set (set old 0 10) 1 1) 2 0)
-        wrap-three = simp (length-set, length-set, length-set) (omega arith)
+        pub wrap_three : 3 ≤ length (set (set (set old 0 10) 1 1) 2 0)
+        wrap_three = simp (length-set, length-set, length-set) (omega arith)
 
-        head-is : set (set (set old 0 10) 1 1) 2 0 ≡ onto (10 ∷ 1 ∷ 0 ∷ []) old
-        head-is = onto_three old 10 1 0 (omega arith)
+        head_is : set (set (set old 0 10) 1 1) 2 0 ≡ onto (10 ∷ 1 ∷ 0 ∷ []) old
+        head_is = onto_three old 10 1 0 (omega arith)
 
-        pub wrap-room : length v ≤ length (take (length (set (set (set old 0 10) 1 1) 2 0) - 3) (drop 3 (set (set (set old 0 10) 1 1) 2 0)))
-        wrap-room = omega (arith, length_rest (set (set (set old 0 10) 1 1) 2 0) 3, length_three)
+        pub wrap_room : length v ≤ length (take (length (set (set (set old 0 10) 1 1) 2 0) - 3) (drop 3 (set (set (set old 0 10) 1 1) 2 0)))
+        wrap_room = omega (arith, length_rest (set (set (set old 0 10) 1 1) 2 0) 3, length_three)
           where
             length_three : length (set (set (set old 0 10) 1 1) 2 0) ≡ length old
             length_three = simp (length-set, length-set, length-set) refl
 
         module _ (ys : List ℕ) (q : ys ≡ onto v (take (length (set (set (set old 0 10) 1 1) 2 0) - 3) (drop 3 (set (set (set old 0 10) 1 1) 2 0)))) where
           new_is : put_mid 3 (length (set (set (set old 0 10) 1 1) 2 0) - 3) (set (set (set old 0 10) 1 1) 2 0) ys ≡ onto (10 ∷ 1 ∷ 0 ∷ v) old
-          new_is = back (10 ∷ 1 ∷ 0 ∷ []) v old (set (set (set old 0 10) 1 1) 2 0) ys 3 head-is refl (omega arith) q
+          new_is = back (10 ∷ 1 ∷ 0 ∷ []) v old (set (set (set old 0 10) 1 1) 2 0) ys 3 head_is refl (omega arith) q
 
           pub wrap-same : length (put_mid 3 (length (set (set (set old 0 10) 1 1) 2 0) - 3) (set (set (set old 0 10) 1 1) 2 0) ys) ≡ length old
           wrap-same = ap length new_is ∙ length_onto (10 ∷ 1 ∷ 0 ∷ v) old (omega arith)
 
-          pub wrap-done : Built (wrapped v lv (length old)) old (put_mid 3 (length (set (set (set old 0 10) 1 1) 2 0) - 3) (set (set (set old 0 10) 1 1) 2 0) ys) (written_is.Bytes (length v + 3))
-          wrap-done = built_wrote (wrapped v lv (length old)) (0x0A ∷ 1 ∷ 0 ∷ v) old (put_mid 3 (length (set (set (set old 0 10) 1 1) 2 0) - 3) (set (set (set old 0 10) 1 1) 2 0) ys)
-              (length v + 3) wrap-is (omega arith) (omega arith) new_is
+          pub wrap_done : Built (wrapped v lv (length old)) old (put_mid 3 (length (set (set (set old 0 10) 1 1) 2 0) - 3) (set (set (set old 0 10) 1 1) 2 0) ys) (written_is.Bytes (length v + 3))
+          wrap_done = built_wrote (wrapped v lv (length old)) (0x0A ∷ 1 ∷ 0 ∷ v) old (put_mid 3 (length (set (set (set old 0 10) 1 1) 2 0) - 3) (set (set (set old 0 10) 1 1) 2 0) ys)
+              (length v + 3) wrap_is (omega arith) (omega arith) new_is
 
 -- ---- arguments that are refused
 pub first_refused : (v t : List ℕ) (n k : ℕ) → read_value v ≡ refused n → coerced_call v t k ≡ refused n

@@ -7,7 +7,7 @@ use Rattle.form.specs.Trees.{Ty, leaf, built, list, range, context, function, Le
 use Rattle.form.specs.Trees.{v_built_in, v_type, v_irrelevant, Vals, no_items, item}
 use Rattle.order.specs.Order.{fixed}
 use Rattle.order.specs.Types.{cmp}
-use Rattle.order.specs.Values.{conforms, isDataBy, areData}
+use Rattle.order.specs.Values.{conforms, is_data_by, are_data}
 use Rattle.order.specs.Dmn.{dmn_conforms_to}
 use Rattle.order.specs.Inferred.{value_conforms_to, is_data, least_type}
 use Rattle.order.proofs.Bools.{or_right}
@@ -151,14 +151,14 @@ dmn_to_is v (built (range u)) h = refl
 dmn_to_is v (built (context fs)) h = refl
 dmn_to_is v (built (function ps r)) h = refl
 
-dmn_from_is : (vs : Vals) (t : Ty) → areData fixed vs ≡ true → cond (sole_item_conforms vs t) (first_item vs) failed ≡ dmn_from vs t
-unfolding isDataBy
+dmn_from_is : (vs : Vals) (t : Ty) → are_data fixed vs ≡ true → cond (sole_item_conforms vs t) (first_item vs) failed ≡ dmn_from vs t
+unfolding is_data_by
 dmn_from_is no_items t h = refl
 dmn_from_is (item v no_items) t h = ap (λ q. cond q v failed) (data_is_dmn v t (and_left (is_data v) true h))
 dmn_from_is (item v (item w vs)) t h = refl
 
 dmn_is : (v : Val) (t : Ty) → is_data v ≡ true → converted v t ≡ dmn_converted v t
-unfolding isDataBy
+unfolding is_data_by
 dmn_is (v_leaf l) t h = dmn_to_is (v_leaf l) t h
 dmn_is (v_range i j v w) t h = dmn_to_is (v_range i j v w) t h
 dmn_is (v_list vs) t h = dmn_from_is vs t h
@@ -169,7 +169,7 @@ dmn_is (v_type a) t h = absurd (false≢true h)
 dmn_is v_irrelevant t h = absurd (false≢true h)
 
 data_unchanged : (v : Val) (t : Ty) → is_data v ≡ true → unchanged v t ≡ dmn_conforms_to (least_type v) t
-unfolding isDataBy
+unfolding is_data_by
 data_unchanged v t h = go v h ∙ data_is_dmn v t h
   where
     go : (w : Val) → is_data w ≡ true → unchanged w t ≡ value_conforms_to w t

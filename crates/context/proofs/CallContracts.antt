@@ -1,11 +1,11 @@
 -- The calls: refusals in their order, and the answer.
 -- Idea: the walk along the path says what an update changes and leaves; so the size and the level of the answer are known before it is written (`size_is`, `level_is`), and 17 and 18 with them.
--- Index: `result_small`, `result_long`, `result_deep` (a result as a value); `within_long`, `within-deep`, `within-done` (`give_within`); `few_room`, `all_room` (spare places);
--- `place_copy`, `place-cuts`, `place_rest`, `place-text`, `place-err`, `place-long`, `place-deep`, `place_short`, `place-done`, `along`, `place_asks` (`place`); `judged_refused`,
--- `judged_told`, `told`, `told_byte` (an accepted value); `call_refused`; `update_first`, `update-names`, `update-second`, `update_other`, `update-small`, `update-value`, `update-level`,
--- `update-context`, `update-done` (`update`); `set_is`, `null_is`, `set_built`, `null_built` (set); `join_first`, `join-second`, `join_other`, `join-others`, `join-done`, `merge_holds`,
--- `merge_room` (zip, overwrite); `find_other`, `find_context`, `taken`, `Takes`, `taken_none`, `taken_some` (`find`); `without_short`, `without_done`, `remove_copy`, `remove-done` (remove);
--- `move_copy`, `move_small`, `rest_ok`, `part-ok`, `part-level`, `move-done`, `cut_inside_lem`, `cut_is`, `cut_ok`, `cut_small` (move); `some_entry`; `not_strict`, `no_name_left`,
+-- Index: `result_small`, `result_long`, `result_deep` (a result as a value); `within_long`, `within_deep`, `within_done` (`give_within`); `few_room`, `all_room` (spare places);
+-- `place_copy`, `place_cuts`, `place_rest`, `place_text`, `place_err`, `place_long`, `place-deep`, `place_short`, `place-done`, `along`, `place_asks` (`place`); `judged_refused`,
+-- `judged_told`, `told`, `told_byte` (an accepted value); `call_refused`; `update_first`, `update_names`, `update_second`, `update_other`, `update_small`, `update_value`, `update_level`,
+-- `update-context`, `update-done` (`update`); `set_is`, `null_is`, `set_built`, `null_built` (set); `join_first`, `join_second`, `join_other`, `join_others`, `join-done`, `merge_holds`,
+-- `merge_room` (zip, overwrite); `find_other`, `find_context`, `taken`, `Takes`, `taken_none`, `taken_some` (`find`); `without_short`, `without_done`, `remove_copy`, `remove_done` (remove);
+-- `move_copy`, `move_small`, `rest_ok`, `part_ok`, `part_level`, `move_done`, `cut_inside_lem`, `cut_is`, `cut_ok`, `cut_small` (move); `some_entry`; `not_strict`, `no_name_left`,
 -- `one_name_left` (`is_err`).
 -- Assumes nothing.
 use Prim.Native.Nat.{ℕ, ◌+◌, ◌-◌, ◌<◌, ◌≤◌, max, min}
@@ -47,7 +47,7 @@ use Rattle.paths.specs.declared.way.Cut.{Cut}
 use Rattle.paths.specs.Calls.{context_of}
 use Rattle.paths.proofs.Whole.{whole_is, whole_text, is_whole, of_context, given_is, context_read, read_context, Ctx, ctx_of}
 use Rattle.paths.proofs.PathSearch.{WholeContext, whole_context, whole_other, Hit, hit_whole, hit_inside, hit_start, Miss}
-use Rattle.paths.proofs.CallContracts.{opened_short, Opened, read_whole_lem, held_byte, refused-other, refused-not}
+use Rattle.paths.proofs.CallContracts.{opened_short, Opened, read_whole_lem, held_byte, refused_other, refused_not}
 use Rattle.paths.proofs.Along.{stays_level, surveyed_is}
 use Rattle.paths.proofs.SplitContext.{Around, well_context, well_entries, text_context, count_context, around_some}
 use Rattle.updates.specs.Update.{create, apply, zip, overwrite, remove, moved, move_entry, set_entry, set_null, remove_entry}
@@ -85,11 +85,11 @@ module _ (spare : List ℕ) (n d : ℕ) (w : Val) (H : Holds spare n d w) (old :
   within_long h = built_refused (result (length old) w) 17 old (result_long (length old) w (omega (arith, H.long)))
 
   module _ (k : n ≤ most_bytes) where
-    pub within-deep : value_levels < d → Built (result (length old) w) old old (written_is.Refused 17)
-    within-deep h = built_refused (result (length old) w) 17 old (result_deep (length old) w (omega (arith, H.long)) (omega (arith, H.deep)))
+    pub within_deep : value_levels < d → Built (result (length old) w) old old (written_is.Refused 17)
+    within_deep h = built_refused (result (length old) w) 17 old (result_deep (length old) w (omega (arith, H.long)) (omega (arith, H.deep)))
 
-    pub within-done : d ≤ value_levels → (new : List ℕ) (a : Written) → Built (fits (length old) (take n spare)) old new a → Built (result (length old) w) old new a
-    within-done l new a B =
+    pub within_done : d ≤ value_levels → (new : List ℕ) (a : Written) → Built (fits (length old) (take n spare)) old new a → Built (result (length old) w) old new a
+    within_done l new a B =
         subst (λ o. Built o old new a)
         (ap (fits (length old)) (H.text k) ∙ result_small (length old) w (omega (arith, H.long)) (omega (arith, H.deep))) B
 
@@ -139,60 +139,60 @@ module _ (strict : Bool) (c p v old : List ℕ) (es : Entries) (x : Val) (ec : c
     whole : WfV (v_context es)
     whole = well_context value_levels c es bc C
 
-    text-c : c ≡ enc_v (v_context es)
-    text-c = text_context value_levels c es bc C
+    text_c : c ≡ enc_v (v_context es)
+    text_c = text_context value_levels c es bc C
 
-    pub place-cuts : Cuts c p k
-    place-cuts =
-        subst (λ (s : List ℕ). Cuts s p k) (sym text-c)
-        (subst (λ j. Cuts (enc_v (v_context es)) p j) (sym ek) (cuts_is p es whole (omega (arith, ap length text-c)) named))
+    pub place_cuts : Cuts c p k
+    place_cuts =
+        subst (λ (s : List ℕ). Cuts s p k) (sym text_c)
+        (subst (λ j. Cuts (enc_v (v_context es)) p j) (sym ek) (cuts_is p es whole (omega (arith, ap length text_c)) named))
 
     pub place_rest : rest ≤ most_bytes
     place_rest = omega (arith, er, stays_level p (v_context es), context_low c es ec bc)
 
-    pub place-text : spliced c k p v ≡ enc_v (v_context (create p x es))
-    place-text =
-        ap (λ (s : List ℕ). spliced s k p v) text-c
+    pub place_text : spliced c k p v ≡ enc_v (v_context (create p x es))
+    place_text =
+        ap (λ (s : List ℕ). spliced s k p v) text_c
         ∙ ap (λ j. spliced (enc_v (v_context es)) j p v) ek
         ∙ ap (λ (s : List ℕ). spliced (enc_v (v_context es)) (cut_of p (v_context es)) p s) (whole_text value_levels v x bv ex)
         ∙ spliced_is p x es whole named
 
-    apply-cut : apply p x es ≡ cond (ltb k.names (length p) && ltb 0 k.gone) none (some (create p x es))
-    apply-cut = blocked_is p x es named ∙ ap (λ j. cond (blocked p j) none (some (create p x es))) (sym ek)
+    apply_cut : apply p x es ≡ cond (ltb k.names (length p) && ltb 0 k.gone) none (some (create p x es))
+    apply_cut = blocked_is p x es named ∙ ap (λ j. cond (blocked p j) none (some (create p x es))) (sym ek)
 
-    pub place-err : (strict && (ltb k.names (length p) && ltb 0 k.gone)) ≡ true → Built (answered (length old) (updated strict p x es)) old old (written_is.Refused 16)
+    pub place_err : (strict && (ltb k.names (length p) && ltb 0 k.gone)) ≡ true → Built (answered (length old) (updated strict p x es)) old old (written_is.Refused 16)
     unfolding ◌>>=◌
-    place-err e = built_refused (answered (length old) (updated strict p x es)) 16 old (ap (answered (length old)) (go strict e))
+    place_err e = built_refused (answered (length old) (updated strict p x es)) 16 old (ap (answered (length old)) (go strict e))
       where
         go : (t : Bool) → (t && (ltb k.names (length p) && ltb 0 k.gone)) ≡ true → updated t p x es ≡ none
-        go true q = apply-cut ∙ ap (λ b. cond b none (some (create p x es))) q
+        go true q = apply_cut ∙ ap (λ b. cond b none (some (create p x es))) q
         go false q = absurd (let z : ◌≡◌ {A = ℕ} 0 1 = ap (λ b. cond b 1 0) q in omega arith)
 
     module _ (e : (strict && (ltb k.names (length p) && ltb 0 k.gone)) ≡ false) (d : ℕ) (ed : d ≡ level_v x) where
       abbrev new_is : Val
       new_is = v_context (create p x es)
 
-      updated-is : updated strict p x es ≡ some (create p x es)
-      updated-is = go strict e
+      updated_is : updated strict p x es ≡ some (create p x es)
+      updated_is = go strict e
         where
           go : (t : Bool) → (t && (ltb k.names (length p) && ltb 0 k.gone)) ≡ false → updated t p x es ≡ some (create p x es)
-          go true q = apply-cut ∙ ap (λ b. cond b none (some (create p x es))) q
+          go true q = apply_cut ∙ ap (λ b. cond b none (some (create p x es))) q
           go false q = refl
 
       given : (new : List ℕ) (a : Written) → Built (result (length old) new_is) old new a → Built (answered (length old) (updated strict p x es)) old new a
       unfolding ◌>>=◌
-      given new a B = subst (λ o. Built (answered (length old) o) old new a) (sym updated-is) B
+      given new a B = subst (λ o. Built (answered (length old) o) old new a) (sym updated_is) B
 
       -- the size and the level that are told are those of the value that is built
       module _ (m l : ℕ) (em : m ≡ length (spliced c k p v)) (el : l ≡ max rest (length p + d)) where
         size_is : length (enc_v new_is) ≡ m
-        size_is = sym (em ∙ ap length place-text)
+        size_is = sym (em ∙ ap length place_text)
 
         level_is : level_v new_is ≡ l
         level_is = created_level p x es whole named ∙ ap₂ max (sym er) (ap (λ (z : ℕ). length p + z) (sym ed)) ∙ sym el
 
-        pub place-long : most_bytes < m → Built (answered (length old) (updated strict p x es)) old old (written_is.Refused 17)
-        place-long h = given old (written_is.Refused 17) (built_refused (result (length old) new_is) 17 old (result_long (length old) new_is (omega (arith, size_is))))
+        pub place_long : most_bytes < m → Built (answered (length old) (updated strict p x es)) old old (written_is.Refused 17)
+        place_long h = given old (written_is.Refused 17) (built_refused (result (length old) new_is) 17 old (result_long (length old) new_is (omega (arith, size_is))))
 
         module _ (s : m ≤ most_bytes) where
           pub place-deep : value_levels < l → Built (answered (length old) (updated strict p x es)) old old (written_is.Refused 17)
@@ -214,8 +214,8 @@ module _ (strict : Bool) (c p v old : List ℕ) (es : Entries) (x : Val) (ec : c
             place-done h n new en eo =
                 let z : length (enc_v new_is) ≤ length old = omega (arith, size_is) in
                 given new (written_is.Bytes n) (subst (λ o. Built o old new (written_is.Bytes n)) fits_is
-                (built_wrote (fits (length old) (enc_v new_is)) (enc_v new_is) old new n refl (en ∙ ap length place-text) z
-                (eo ∙ ap (λ (b : List ℕ). fill b old) place-text ∙ ap (λ (b : List ℕ). onto b old) (take_all (length old) (enc_v new_is) z))))
+                (built_wrote (fits (length old) (enc_v new_is)) (enc_v new_is) old new n refl (en ∙ ap length place_text) z
+                (eo ∙ ap (λ (b : List ℕ). fill b old) place_text ∙ ap (λ (b : List ℕ). onto b old) (take_all (length old) (enc_v new_is) z))))
 
 -- what the walk told of the context
 pub along : (c p : List ℕ) (rest : ℕ) (k : Cut) (es : Entries) → context_at value_levels c ≡ some es → Surveyed p (whole_at value_levels c) rest k
@@ -234,7 +234,7 @@ place_asks c p v rest d k oc ov S T f bc bv z =
     let B = ok_got (whole_at value_levels v) ov in
     let W = along c p rest k A.0 A.1 T in
     let low = (enc_read_v value_levels v bv B.0 (length v) (whole_is value_levels v B.0 B.1)).low in (
-      place-cuts false c p v [] A.0 B.0 A.1 B.1 bc bv S.bytes_c z rest k W.0 W.1,
+      place_cuts false c p v [] A.0 B.0 A.1 B.1 bc bv S.bytes_c z rest k W.0 W.1,
       (place_rest false c p v [] A.0 B.0 A.1 B.1 bc bv S.bytes_c z rest k W.0 W.1, omega (arith, f B.0 B.1, low)),
     )
 
@@ -270,14 +270,14 @@ module _ (strict : Bool) (c p v old : List ℕ) where
   update_first n e = update_refused n (rw e)
 
   module _ {e : ℕ} (A : ValueTold c e) where
-    pub update-names : most_names < length p → Built (update_call strict c p v (length old)) old old (written_is.Refused 11)
+    pub update_names : most_names < length p → Built (update_call strict c p v (length old)) old old (written_is.Refused 11)
     unfolding given_of ◌>>=◌ ◌>>◌
-    update-names h = update_refused 11 (rw (A.reads, lt-leb (length p) most_names h))
+    update_names h = update_refused 11 (rw (A.reads, lt-leb (length p) most_names h))
 
     module _ (h : length p ≤ most_names) where
-      pub update-second : (n : ℕ) → read_value v ≡ refused n → Built (update_call strict c p v (length old)) old old (written_is.Refused n)
+      pub update_second : (n : ℕ) → read_value v ≡ refused n → Built (update_call strict c p v (length old)) old old (written_is.Refused n)
       unfolding given_of ◌>>=◌ ◌>>◌
-      update-second n q = update_refused n (rw (A.reads, le-leb (length p) most_names h, q))
+      update_second n q = update_refused n (rw (A.reads, le-leb (length p) most_names h, q))
 
       module _ {d : ℕ} (B : ValueTold v d) where
         pub update_other : (get_or c 0 0 ≡ 11 → ⊥) → Built (update_call strict c p v (length old)) old old (written_is.Refused 12)
@@ -285,14 +285,14 @@ module _ (strict : Bool) (c p v old : List ℕ) where
         update_other f =
             update_refused 12 (rw (A.reads, le-leb (length p) most_names h, B.reads, whole_other value_levels c A.tree (read_whole_lem c A.tree A.reads) f))
 
-        pub update-small : Small c p v
-        update-small = record { bytes_c = A.accepted.short; names = h; bytes_v = B.accepted.short }
+        pub update_small : Small c p v
+        update_small = record { bytes_c = A.accepted.short; names = h; bytes_v = B.accepted.short }
 
-        pub update-value : Ok (whole_at value_levels v)
-        update-value = is_ok (whole_at value_levels v) B.tree (read_whole_lem v B.tree B.reads)
+        pub update_value : Ok (whole_at value_levels v)
+        update_value = is_ok (whole_at value_levels v) B.tree (read_whole_lem v B.tree B.reads)
 
-        pub update-level : (x : Val) → whole_at value_levels v ≡ some x → d ≡ level_v x
-        update-level x q = sym B.deep ∙ ap level_v (some_same (sym (read_whole_lem v B.tree B.reads) ∙ q))
+        pub update_level : (x : Val) → whole_at value_levels v ≡ some x → d ≡ level_v x
+        update_level x q = sym B.deep ∙ ap level_v (some_same (sym (read_whole_lem v B.tree B.reads) ∙ q))
 
         module _ (f : get_or c 0 0 ≡ 11) where
           abbrev G : WholeContext value_levels c A.tree
@@ -394,8 +394,8 @@ module _ (all : Bool) (c o old : List ℕ) where
   join_first n e = joined_refused all c o n old (first_refused c o n e)
 
   module _ (A : held.Holds c) where
-    pub join-second : (n : ℕ) → read_value o ≡ refused n → Built (joined_call all c o (length old)) old old (written_is.Refused n)
-    join-second n e = joined_refused all c o n old (second_refused c o A.v n A.whole e)
+    pub join_second : (n : ℕ) → read_value o ≡ refused n → Built (joined_call all c o (length old)) old old (written_is.Refused n)
+    join_second n e = joined_refused all c o n old (second_refused c o A.v n A.whole e)
 
     module _ (B : held.Holds o) where
       pub join_other : (get_or c 0 0 ≡ 11 → ⊥) → Built (joined_call all c o (length old)) old old (written_is.Refused 12)
@@ -405,11 +405,11 @@ module _ (all : Bool) (c o old : List ℕ) where
         abbrev K : WholeContext value_levels c A.v
         K = whole_context value_levels c A.v (read_whole_lem c A.v A.whole) d
 
-        pub join-context : Ok (context_at value_levels c)
-        join-context = is_ok (context_at value_levels c) K.es K.read
+        pub join_context : Ok (context_at value_levels c)
+        join_context = is_ok (context_at value_levels c) K.es K.read
 
-        pub join-others : (get_or o 0 0 ≡ 11 → ⊥) → Built (joined_call all c o (length old)) old old (written_is.Refused 12)
-        join-others f =
+        pub join_others : (get_or o 0 0 ≡ 11 → ⊥) → Built (joined_call all c o (length old)) old old (written_is.Refused 12)
+        join_others f =
             joined_refused all c o 12 old (second_other c o A.v B.v K.es A.whole B.whole (ap entries_of K.is) (whole_other value_levels o B.v (read_whole_lem o B.v B.whole) f))
 
         module _ (f : get_or o 0 0 ≡ 11) where
@@ -472,10 +472,10 @@ merge_room all c o spare mid n d oc oo M k =
 -- `find`: its refusals
 module _ (c : List ℕ) {d : ℕ} (A : ValueTold c d) where
   pub find_other : (get_or c 0 0 ≡ 11 → ⊥) → 12 ≡ lent_code (context_of c 0)
-  find_other f = refused-other c 0 A.reads (omega arith) f
+  find_other f = refused_other c 0 A.reads (omega arith) f
 
   pub find_context : get_or c 0 0 ≡ 11 → 0 ≡ lent_code (context_of c 0)
-  find_context f = refused-not c 0 A.reads (omega arith) f
+  find_context f = refused_not c 0 A.reads (omega arith) f
 
 -- and the entry of the name
 pub taken : (c : List ℕ) (n rest : ℕ) (k : Cut) → Surveyed (n ∷ []) (whole_at value_levels c) rest k → Taken n (context_at value_levels c) k
@@ -595,21 +595,21 @@ module _ (c old : List ℕ) (n : ℕ) (O : Opened c 0) (bc : Bytes c) where
         (subst (λ (z : ℕ). Around n c H.es z (z + name_width + size_val H.x)) (sym H.start) (around_some value_levels n c H.es H.x bc H.ctx H.value)))
         (omega (arith, ec, count_context value_levels c H.es bc H.ctx, count_less n 0 H.es (well_entries value_levels c H.es bc H.ctx) H.x H.value))
 
-    closed-short : length (closed count c at to) ≤ length c
-    closed-short = omega (arith, length_closed count c at to (omega (arith, H.start)) (omega (arith, hit_start H bc)) (hit_inside H bc), hit_start H bc)
+    closed_short : length (closed count c at to) ≤ length c
+    closed_short = omega (arith, length_closed count c at to (omega (arith, H.start)) (omega (arith, hit_start H bc)) (hit_inside H bc), hit_start H bc)
 
-    rest-level : level_v (v_context left) ≤ value_levels
-    rest-level = omega (arith, level_removed n H.es, context_low c H.es H.ctx.read bc)
+    rest_level : level_v (v_context left) ≤ value_levels
+    rest_level = omega (arith, level_removed n H.es, context_low c H.es H.ctx.read bc)
 
-    same-es : O.es ≡ H.es
-    same-es = ctx_same value_levels c O.es H.es O.ctx H.ctx
+    same_es : O.es ≡ H.es
+    same_es = ctx_same value_levels c O.es H.es O.ctx H.ctx
 
-    pub remove-done : (new : List ℕ) (a : Written) → Built (fits (length old) (closed count c at to)) old new a → Built (remove_entry_call c n (length old)) old new a
-    remove-done new a B =
+    pub remove_done : (new : List ℕ) (a : Written) → Built (fits (length old) (closed count c at to)) old new a → Built (remove_entry_call c n (length old)) old new a
+    remove_done new a B =
         subst (λ o. Built o old new a)
         (ap (fits (length old)) text
-        ∙ result_small (length old) (v_context left) (omega (arith, closed-short, short, ap length text)) rest-level
-        ∙ ap (λ x. result (length old) (v_context (remove n x))) (sym same-es)
+        ∙ result_small (length old) (v_context left) (omega (arith, closed_short, short, ap length text)) rest_level
+        ∙ ap (λ x. result (length old) (v_context (remove n x))) (sym same_es)
         ∙ sym (changed c (remove_entry n) (length old) O.es O.is)) B
 
     -- ---- the rest of the context, and the value
@@ -617,10 +617,10 @@ module _ (c old : List ℕ) (n : ℕ) (O : Opened c 0) (bc : Bytes c) where
     rest_read =
         ap (context_at value_levels) (text ∙ sym (append-nil (enc_v (v_context left))))
         ∙ read_context value_levels (enc_v (v_context left) ++ []) left
-        (read_enc_v (v_context left) value_levels [] (well_removed n H.es well) rest-level ∙ ap (λ (z : ℕ). got (v_context left) z) (ap length (sym (append-nil (enc_v (v_context left))))))
+        (read_enc_v (v_context left) value_levels [] (well_removed n H.es well) rest_level ∙ ap (λ (z : ℕ). got (v_context left) z) (ap length (sym (append-nil (enc_v (v_context left))))))
 
-    part-read : whole_at value_levels (value_in c at to) ≡ some H.x
-    part-read =
+    part_read : whole_at value_levels (value_in c at to) ≡ some H.x
+    part_read =
         is_whole value_levels (value_in c at to) H.x
         (read_up_v (value_levels - 1) value_levels (value_in c at to) (bytes_take (to - (at + name_width)) (drop (at + name_width) c) (bytes_drop (at + name_width) c bc))
         H.x (length (value_in c at to)) (omega arith) (whole_is (value_levels - 1) (value_in c at to) H.x (hit_whole H bc)))
@@ -628,22 +628,22 @@ module _ (c old : List ℕ) (n : ℕ) (O : Opened c 0) (bc : Bytes c) where
     pub rest_ok : Ok (context_at value_levels (closed count c at to))
     rest_ok = is_ok (context_at value_levels (closed count c at to)) left rest_read
 
-    pub part-ok : Ok (whole_at value_levels (value_in c at to))
-    part-ok = is_ok (whole_at value_levels (value_in c at to)) H.x part-read
+    pub part_ok : Ok (whole_at value_levels (value_in c at to))
+    part_ok = is_ok (whole_at value_levels (value_in c at to)) H.x part_read
 
-    pub part-level : (d : ℕ) → d ≡ level_v H.x → (x : Val) → whole_at value_levels (value_in c at to) ≡ some x → d ≡ level_v x
-    part-level d e x ex = e ∙ ap level_v (some_same (sym part-read ∙ ex))
+    pub part_level : (d : ℕ) → d ≡ level_v H.x → (x : Val) → whole_at value_levels (value_in c at to) ≡ some x → d ≡ level_v x
+    part_level d e x ex = e ∙ ap level_v (some_same (sym part_read ∙ ex))
 
-    pub move-done : (parent : ℕ) (new : List ℕ) (a : Written)
+    pub move_done : (parent : ℕ) (new : List ℕ) (a : Written)
         → ((es : Entries) (x : Val) → context_at value_levels (closed count c at to) ≡ some es → whole_at value_levels (value_in c at to) ≡ some x
         → Built (answered (length old) (updated false (parent ∷ n ∷ []) x es)) old new a)
         → Built (move_entry_call c n parent (length old)) old new a
     unfolding ◌>>=◌
-    move-done parent new a F =
+    move_done parent new a F =
         subst (λ o. Built o old new a)
         (sym (ap (λ x. result (length old) (v_context (moved n parent H.es x))) H.value)
-        ∙ ap (λ x. result (length old) (v_context (move_entry n parent x))) (sym same-es)
-        ∙ sym (changed c (move_entry n parent) (length old) O.es O.is)) (F left H.x rest_read part-read)
+        ∙ ap (λ x. result (length old) (v_context (move_entry n parent x))) (sym same_es)
+        ∙ sym (changed c (move_entry n parent) (length old) O.es O.is)) (F left H.x rest_read part_read)
 
 -- `move_in`: the rest of the context in a spare place
 module _ (count : ℕ) (c : List ℕ) (at to : ℕ) (l : 3 ≤ at) (h : at + name_width ≤ to) (k : to ≤ length c) (spare mid : List ℕ) (n : ℕ)

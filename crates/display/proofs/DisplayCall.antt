@@ -1,6 +1,6 @@
 -- The text of an accepted type over an accepted table: refusals in their order, and the answer.
 -- Idea: the call is computed from what the readers and the writer of the text said.
--- Index: `display_first`, `display-second`, `display-accepted` (refusals); `call-err`, `call-handed`, `call_short`, `call-again`, `call_done` (the text); `type_short`, `type_ok`, `table_ok`.
+-- Index: `display_first`, `display_second`, `display_accepted` (refusals); `call_err`, `call_handed`, `call_short`, `call_again`, `call_done` (the text); `type_short`, `type_ok`, `table_ok`.
 -- Assumes nothing.
 use Prim.Native.Nat.{ℕ, ◌<◌, ◌≤◌}
 use native.Mathlib.Omega.{arith}
@@ -63,16 +63,16 @@ module _ (t table : List ℕ) (A : Accepted t table) where
 
   -- ---- over a spare place first
   module _ (old was spare : List ℕ) (r : Shown) (g : Shows of_types (type_at type_levels t) (read_table table) was spare r) where
-    pub call-err : r ≡ No → Built (display_call t table (length old)) old old (written_is.Refused 20)
-    call-err p = built_refused (display_call t table (length old)) 20 old (display_err (length old) (gave_no of_types A.texts A.type was spare r (gave was spare r g) p))
+    pub call_err : r ≡ No → Built (display_call t table (length old)) old old (written_is.Refused 20)
+    call_err p = built_refused (display_call t table (length old)) 20 old (display_err (length old) (gave_no of_types A.texts A.type was spare r (gave was spare r g) p))
 
     module _ (a n : ℕ) (p : r ≡ Yes a n) where
       F : Got of_types A.texts A.type was spare a n
       F = gave_yes of_types A.texts A.type was spare r (gave was spare r g) a n p
 
       -- it stands there whole, and is handed on
-      pub call-handed : n ≤ length spare → (new : List ℕ) (w : Written) → Built (fits (length old) (take n spare)) old new w → Built (display_call t table (length old)) old new w
-      call-handed l new w b =
+      pub call_handed : n ≤ length spare → (new : List ℕ) (w : Written) → Built (fits (length old) (take n spare)) old new w → Built (display_call t table (length old)) old new w
+      call_handed l new w b =
           handed (display_call t table (length old)) F.bs spare was old new n w (display_is (length old) F.bs F.is) F.out F.long
           (omega (arith, gave_length of_types A.texts A.type was spare r (gave was spare r g))) b
 
@@ -81,8 +81,8 @@ module _ (t table : List ℕ) (A : Accepted t table) where
 
       module _ (l : n ≤ length old) (new : List ℕ) (q : Shown) (h : Shows of_types (type_at type_levels t) (read_table table) old new q) where
         -- the second run answers the same
-        pub call-again : q ≡ No → Built (display_call t table (length old)) old new (written_is.Refused 20)
-        call-again z =
+        pub call_again : q ≡ No → Built (display_call t table (length old)) old new (written_is.Refused 20)
+        call_again z =
             let u : ◌≡◌ {A = Option (List ℕ)} none (some F.bs) = sym (gave_no of_types A.texts A.type old new q (gave old new q h) z) ∙ F.is in
             absurd (let y : ◌≡◌ {A = ℕ} 0 1 = cc in omega arith)
 
@@ -111,8 +111,8 @@ module _ (t table old : List ℕ) where
 
   module _ (b : Bytes t) (u : Ty) (e : read_type t ≡ done u) (q : Bool) (eq : q ≡ is_read (read_table table)) where
     -- the table is refused
-    pub display-second : not q ≡ true → Built (display_call t table (length old)) old old (written_is.Refused 19)
-    display-second h = built_refused (display_call t table (length old)) 19 old (display_unread t table u (length old) e (unread (read_table table) (sym eq ∙ not-true q h)))
+    pub display_second : not q ≡ true → Built (display_call t table (length old)) old old (written_is.Refused 19)
+    display_second h = built_refused (display_call t table (length old)) 19 old (display_unread t table u (length old) e (unread (read_table table) (sym eq ∙ not-true q h)))
 
-    pub display-accepted : not q ≡ false → Accepted t table
-    display-accepted h = let R = read_some (read_table table) (sym eq ∙ not-false q h) in record { bytes = b; type = u; texts = R.0; read_t_lem = e; read_table_lem = R.1 }
+    pub display_accepted : not q ≡ false → Accepted t table
+    display_accepted h = let R = read_some (read_table table) (sym eq ∙ not-false q h) in record { bytes = b; type = u; texts = R.0; read_t_lem = e; read_table_lem = R.1 }

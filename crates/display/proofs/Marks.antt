@@ -1,7 +1,7 @@
 -- The walk over a table from text to text: what stands at a place, where the text with a number stands, how long a text is, and how many there are.
 -- Idea: at each mark what is read from there on are the texts from its number on.
--- Index: `TextAt`, `text_there` (a text at a place); `Table`, `table`, `table_named`, `table_two`, `table_few`, `texts_counted`, `beyond` (a table that was read); `first_stands`, `next-stands`,
--- `stands_fits`, `stands-found`, `not_there`, `located` (where a text stands); `MarkInv`, `mark_start`, `mark_next`, `mark_done` (`mark_texts`); `text_fits`, `text_found` (`text_at`).
+-- Index: `TextAt`, `text_there` (a text at a place); `Table`, `table`, `table_named`, `table_two`, `table_few`, `texts_counted`, `beyond` (a table that was read); `first_stands`, `next_stands`,
+-- `stands_fits`, `stands_found`, `not_there`, `located` (where a text stands); `MarkInv`, `mark_start`, `mark_next`, `mark_done` (`mark_texts`); `text_fits`, `text_found` (`text_at`).
 -- Assumes nothing.
 use Prim.Native.Nat.{ℕ, zero, suc, ◌+◌, ◌-◌, ◌*◌, ◌<◌, ◌≤◌}
 use mathlib.Core.Path.{◌≡◌, refl, sym, ap, subst, ◌∙◌}
@@ -182,8 +182,8 @@ module _ {a : List ℕ} {i at : ℕ} (Q : Stands a i at) (h : i < num_at 2 0 a) 
   stands_fits = (A.fits, (table a Q.all Q.whole).most)
 
   module _ (n : ℕ) (e : n ≡ get_or a at 0) where
-    pub next-stands : Stands a (i + 1) (at + 1 + n)
-    next-stands =
+    pub next_stands : Stands a (i + 1) (at + 1 + n)
+    next_stands =
         record {
           all = Q.all;
           left = A.more;
@@ -198,8 +198,8 @@ module _ {a : List ℕ} {i at : ℕ} (Q : Stands a i at) (h : i < num_at 2 0 a) 
               ∙ ap (nth Q.all) z;
         }
 
-    pub stands-found : Locates (read_table a) i a (span-is.At (at + 1) (at + 1 + n))
-    stands-found =
+    pub stands_found : Locates (read_table a) i a (span-is.At (at + 1) (at + 1 + n))
+    stands_found =
         let z : i + 0 ≡ i = omega arith in
         let k : at + 1 + n - (at + 1) ≡ get_or a at 0 = omega arith in
         locates a i Q.all (span-is.At (at + 1) (at + 1 + n)) Q.whole
@@ -235,7 +235,7 @@ module _ {a old marks : List ℕ} {count at i : ℕ} (Q : MarkInv a old marks co
         kept = length-set marks i at ∙ Q.kept;
         room = omega (arith, Q.room, length-set marks i at);
         below = omega arith;
-        here = next-stands Q.here (omega (arith, Q.counted)) n e;
+        here = next_stands Q.here (omega (arith, Q.counted)) n e;
         stands = λ j l. go j l (ltb j i) refl;
       }
     where
@@ -260,7 +260,7 @@ module _ {a marks : List ℕ} (M : Marked a marks) (number count at : ℕ) (ec :
   text_fits = stands_fits at_mark (omega arith)
 
   pub text_found : (n : ℕ) → n ≡ get_or a at 0 → Locates (read_table a) number a (span-is.At (at + 1) (at + 1 + n))
-  text_found n e = stands-found at_mark (omega arith) n e
+  text_found n e = stands_found at_mark (omega arith) n e
 
 -- room for m marks
 pub room_for : (count n m l : ℕ) → count ≡ n → count ≤ m → l ≡ m → n ≤ l

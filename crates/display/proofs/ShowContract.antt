@@ -1,7 +1,7 @@
 -- The contract of a call that shows, in and out; and a text between what stands in front of it and behind it.
 -- Idea: one law for list, range, context and function, over the two pieces around the inner text.
--- Index: `shows`, `shows_is`, `gave_some`, `gave_none` (the contract); `Got`, `gave_yes`, `gave_no`, `gave_length` (what a callee gave); `Wrap`, `wrap_ok`, `wrap-no`, `wrap-ends`, `wrap-done`,
--- `wrap-open` (a text between two pieces).
+-- Index: `shows`, `shows_is`, `gave_some`, `gave_none` (the contract); `Got`, `gave_yes`, `gave_no`, `gave_length` (what a callee gave); `Wrap`, `wrap_ok`, `wrap_no`, `wrap_ends`, `wrap_done`,
+-- `wrap_open` (a text between two pieces).
 -- Assumes nothing.
 use Prim.Native.Nat.{ℕ, ◌+◌, ◌-◌, ◌*◌, ◌≤◌, min}
 use mathlib.Core.Path.{◌≡◌, refl, sym, ap, subst, ◌∙◌}
@@ -111,8 +111,8 @@ module _ {X Y : Type 0} {S : Showing X} {R : Showing Y} {front back : List ℕ} 
     kept : length (put_mid p (length one - p) one ys) ≡ length old
     kept = back_length p one ys (gave_length S W.ts W.x (behind p one) ys r gave) ∙ ap length opened ∙ length_fill front old
 
-    pub wrap-no : r ≡ No → Shows R gy o old (put_mid p (length one - p) one ys) No
-    wrap-no e =
+    pub wrap_no : r ≡ No → Shows R gy o old (put_mid p (length one - p) one ys) No
+    wrap_no e =
         shows R gy o W.y W.ts old (put_mid p (length one - p) one ys) No W.whole W.tabled
         (gave_none R W.ts W.y old (put_mid p (length one - p) one ys)
         (W.said ∙ ap (map (λ s. front ++ (s ++ back))) (gave_no S W.ts W.x (behind p one) ys r gave e)) kept)
@@ -121,32 +121,32 @@ module _ {X Y : Type 0} {S : Showing X} {R : Showing Y} {front back : List ℕ} 
       got : Got S W.ts W.x (behind p one) ys a c
       got = gave_yes S W.ts W.x (behind p one) ys r gave a c e
 
-      pub wrap-ends : (a + k ≤ most_bytes + 1) × (c ≤ most_bytes * a + 1)
-      wrap-ends = (omega (arith, got.size, W.room), omega (arith, got.size, got.long, W.most got.bs got.is))
+      pub wrap_ends : (a + k ≤ most_bytes + 1) × (c ≤ most_bytes * a + 1)
+      wrap_ends = (omega (arith, got.size, W.room), omega (arith, got.size, got.long, W.most got.bs got.is))
 
       module _ (ep : p ≡ min from (length one)) where
         written : put_mid p (length one - p) one ys ≡ fill (front ++ got.bs) old
         written = fill_then front got.bs old one ys from p opened (omega arith) ep got.out
 
-        said-is : R.said W.ts W.y ≡ some (front ++ (got.bs ++ back))
-        said-is = W.said ∙ ap (map (λ s. front ++ (s ++ back))) got.is
+        said_is : R.said W.ts W.y ≡ some (front ++ (got.bs ++ back))
+        said_is = W.said ∙ ap (map (λ s. front ++ (s ++ back))) got.is
 
-        sized-is : a + k ≡ R.sized W.y
-        sized-is = omega (arith, got.size, W.sized)
+        sized_is : a + k ≡ R.sized W.y
+        sized_is = omega (arith, got.size, W.sized)
 
         -- and `back` behind it
-        pub wrap-done : (to : ℕ) (new : List ℕ) → to ≡ from + c + length back → new ≡ puts (from + c) back (put_mid p (length one - p) one ys) → Shows R gy o old new (Yes (a + k) to)
-        wrap-done to new et en =
+        pub wrap_done : (to : ℕ) (new : List ℕ) → to ≡ from + c + length back → new ≡ puts (from + c) back (put_mid p (length one - p) one ys) → Shows R gy o old new (Yes (a + k) to)
+        wrap_done to new et en =
             shows R gy o W.y W.ts old new (Yes (a + k) to) W.whole W.tabled
-            (gave_some R W.ts W.y old new (front ++ (got.bs ++ back)) (a + k) to said-is sized-is
+            (gave_some R W.ts W.y old new (front ++ (got.bs ++ back)) (a + k) to said_is sized_is
             (omega (arith, got.long, length-append front (got.bs ++ back), length-append got.bs back))
             (put_then (front ++ got.bs) back old (put_mid p (length one - p) one ys) new (from + c) written (omega (arith, got.long, length-append front got.bs)) en
             ∙ ap (λ (z : List ℕ). fill z old) (append_assoc front got.bs back)))
 
         -- or nothing
-        pub wrap-open : back ≡ [] → Shows R gy o old (put_mid p (length one - p) one ys) (Yes (a + k) (from + c))
-        wrap-open n =
+        pub wrap_open : back ≡ [] → Shows R gy o old (put_mid p (length one - p) one ys) (Yes (a + k) (from + c))
+        wrap_open n =
             let z : front ++ (got.bs ++ back) ≡ front ++ got.bs = ap (λ (b : List ℕ). front ++ (got.bs ++ b)) n ∙ ap (λ (b : List ℕ). front ++ b) (append-nil got.bs) in
             shows R gy o W.y W.ts old (put_mid p (length one - p) one ys) (Yes (a + k) (from + c)) W.whole W.tabled
-            (gave_some R W.ts W.y old (put_mid p (length one - p) one ys) (front ++ got.bs) (a + k) (from + c) (said-is ∙ ap some z) sized-is
+            (gave_some R W.ts W.y old (put_mid p (length one - p) one ys) (front ++ got.bs) (a + k) (from + c) (said_is ∙ ap some z) sized_is
             (omega (arith, got.long, length-append front got.bs)) written)

@@ -1,6 +1,6 @@
 -- The loop that shows the entries of a context type: what is left of them, and what was written of their text.
 -- Idea: what was written and the text of what is left make the whole text.
--- Index: `FieldsInv`, `fields_start`, `fields_kept`, `fields_done` (the loop); `name_there`, `name-missing`, `name-inside`, `name-room` (a name); `type_there`, `type-missing`, `type-kept`,
+-- Index: `FieldsInv`, `fields_start`, `fields_kept`, `fields_done` (the loop); `name_there`, `name_missing`, `name_inside`, `name_room` (a name); `type_there`, `type-missing`, `type-kept`,
 -- `field-ends`, `field_next` (its type).
 -- Assumes nothing.
 use Prim.Native.Nat.{ℕ, suc, ◌+◌, ◌-◌, ◌*◌, ◌<◌, ◌≤◌, ◌^◌, min}
@@ -108,34 +108,34 @@ module _ {l : ℕ} {s : List ℕ} {count : ℕ} {tab old out : List ℕ} {at to 
       found : Located (nth Q.ts A.name) tab r
       found = subst (λ (k : ℕ). Located (nth Q.ts k) tab r) (en ∙ sym A.named) (located tab n Q.ts r Q.tabled L)
 
-      pub name-missing : r ≡ span-is.None → Shows of_fields (fields_at l count 0 s) (read_table tab) old out No
-      name-missing e =
+      pub name_missing : r ≡ span-is.None → Shows of_fields (fields_at l count 0 s) (read_table tab) old out No
+      name_missing e =
           let m : nth Q.ts A.name ≡ none = sym found.text ∙ ap (cut tab) e in
           failed out (ap (fields_from i Q.ts) A.is ∙ no_name i Q.ts A.name A.x A.more m) fields_kept
 
       module _ (b e : ℕ) (er : r ≡ span-is.At b e) where
-        pub name-inside : (b ≤ e) × (e ≤ length tab)
-        name-inside = subst (λ (z : Span). Inside (length tab) z) er found.inside
+        pub name_inside : (b ≤ e) × (e ≤ length tab)
+        name_inside = subst (λ (z : Span). Inside (length tab) z) er found.inside
 
         abbrev name : List ℕ
         name = take (e - b) (drop b tab)
 
-        name-is : nth Q.ts A.name ≡ some name
-        name-is = sym found.text ∙ ap (cut tab) er
+        name_is : nth Q.ts A.name ≡ some name
+        name_is = sym found.text ∙ ap (cut tab) er
 
-        name-short : length name ≤ most_bytes
-        name-short = subst (λ (z : Option (List ℕ)). Most most_bytes z) name-is (table_named tab Q.ts Q.tabled A.name)
+        name_short : length name ≤ most_bytes
+        name_short = subst (λ (z : Option (List ℕ)). Most most_bytes z) name_is (table_named tab Q.ts Q.tabled A.name)
 
-        pub name-room : to + length name + 4 < 2 ^ 64
-        name-room = omega (arith, fields_room, name-short)
+        pub name_room : to + length name + 4 < 2 ^ 64
+        name_room = omega (arith, fields_room, name_short)
 
-        label-length : length (label i name) ≤ length name + 4
-        label-length = omega (arith, length-append (gap i) (name ++ colon), length-append name colon, gap_length i)
+        label_length : length (label i name) ≤ length name + 4
+        label_length = omega (arith, length-append (gap i) (name ++ colon), length-append name colon, gap_length i)
 
         -- ---- its type
         module _ (k : ℕ) (one : List ℕ) (ek : k ≡ to + length (label i name)) (eo : one ≡ puts to (label i name) out) where
           labelled : k ≤ most_bytes * (at + 1) + 4
-          labelled = omega (arith, label-length, name-short, Q.low)
+          labelled = omega (arith, label_length, name_short, Q.low)
 
           one_is : one ≡ fill (Q.done ++ label i name) old
           one_is = put_then Q.done (label i name) old out one to Q.state Q.long eo
@@ -181,7 +181,7 @@ module _ {l : ℕ} {s : List ℕ} {count : ℕ} {tab old out : List ℕ} {at to 
                     read = ap (λ (z : ℕ). fields_at l (count - (i + 1)) (suc A.name) (drop (at + name_width + z) s)) G.size ∙ A.second;
                     sizes = omega (arith, Q.sizes, A.sized, G.size);
                     goes =
-                        sym (ap (λ (z : Fields). after Q.done (fields_from i Q.ts z)) A.is ∙ one_field i Q.done Q.ts A.name A.x A.more name G.bs name-is G.is)
+                        sym (ap (λ (z : Fields). after Q.done (fields_from i Q.ts z)) A.is ∙ one_field i Q.done Q.ts A.name A.x A.more name G.bs name_is G.is)
                         ∙ Q.goes;
                     long = omega (arith, length-append (Q.done ++ label i name) G.bs, kl, G.long);
                     state = fill_then (Q.done ++ label i name) G.bs old one ys k p one_is kl ep G.out;

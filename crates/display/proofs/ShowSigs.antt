@@ -1,6 +1,6 @@
 -- The loop that shows the parameters of a function type, and then its result: what is left of them, and what was written of their text.
 -- Idea: what was written and the text of what is left make the whole text.
--- Index: `SigInv`, `sig_start`; `param-there`, `param-missing`, `param-ends`, `param_next` (a parameter); `result-there`, `result-missing`, `result-ends`, `sig_done` (the result).
+-- Index: `SigInv`, `sig_start`; `param_there`, `param_missing`, `param_ends`, `param_next` (a parameter); `result_there`, `result_missing`, `result_ends`, `sig_done` (the result).
 -- Assumes nothing.
 use Prim.Native.Nat.{ℕ, ◌+◌, ◌-◌, ◌*◌, ◌<◌, ◌≤◌, min}
 use mathlib.Core.Path.{◌≡◌, refl, sym, ap, ◌∙◌}
@@ -85,8 +85,8 @@ module _ {l : ℕ} {s : List ℕ} {count : ℕ} {tab old out : List ℕ} {at to 
     abbrev N : Param l (count - (i + 1)) at s Q.f
     N = param_at l i count at s Q.f h Q.in_s Q.read
 
-    pub param-there : Ok (type_at l (behind at s))
-    param-there = is_ok (type_at l (behind at s)) N.x (item_behind N)
+    pub param_there : Ok (type_at l (behind at s))
+    param_there = is_ok (type_at l (behind at s)) N.x (item_behind N)
 
     module _ (k : ℕ) (one : List ℕ) (ek : k ≡ to + length (gap i)) (eo : one ≡ puts to (gap i) out) where
       one_is : one ≡ fill (Q.done ++ gap i) old
@@ -96,14 +96,14 @@ module _ {l : ℕ} {s : List ℕ} {count : ℕ} {tab old out : List ℕ} {at to 
         gave : Gave of_types Q.ts N.x (behind p one) ys x
         gave = shows_is of_types (type_at l (behind at s)) (read_table tab) N.x Q.ts (behind p one) ys x (item_behind N) Q.tabled T
 
-        pub param-kept : length (put_mid p (length one - p) one ys) ≡ length old
-        param-kept = back_length p one ys (gave_length of_types Q.ts N.x (behind p one) ys x gave) ∙ ap length one_is ∙ length_fill (Q.done ++ gap i) old
+        pub param_kept : length (put_mid p (length one - p) one ys) ≡ length old
+        param_kept = back_length p one ys (gave_length of_types Q.ts N.x (behind p one) ys x gave) ∙ ap length one_is ∙ length_fill (Q.done ++ gap i) old
 
-        pub param-missing : x ≡ No → Shows of_sigs (sig_at l count s) (read_table tab) old (put_mid p (length one - p) one ys) No
-        param-missing ex =
+        pub param_missing : x ≡ No → Shows of_sigs (sig_at l count s) (read_table tab) old (put_mid p (length one - p) one ys) No
+        param_missing ex =
             failed (put_mid p (length one - p) one ys)
             (ap (sig_from i Q.ts) N.is ∙ no_param i Q.ts N.x N.more (gave_no of_types Q.ts N.x (behind p one) ys x gave ex))
-            param-kept
+            param_kept
 
         module _ (a c : ℕ) (ex : x ≡ Yes a c) where
           G : Got of_types Q.ts N.x (behind p one) ys a c
@@ -112,8 +112,8 @@ module _ {l : ℕ} {s : List ℕ} {count : ℕ} {tab old out : List ℕ} {at to 
           most : c + 2 ≤ most_bytes * a
           most = omega (arith, G.size, G.long, text_most Q.ts (table_named tab Q.ts Q.tabled) N.x G.bs G.is)
 
-          pub param-ends : (at + a ≤ length s) × (k + c ≤ most_bytes * (at + a))
-          param-ends = (omega (arith, G.size, N.fits), omega (arith, most, gap_length i, Q.low))
+          pub param_ends : (at + a ≤ length s) × (k + c ≤ most_bytes * (at + a))
+          param_ends = (omega (arith, G.size, N.fits), omega (arith, most, gap_length i, Q.low))
 
           pub param_next : p ≡ min k (length one) → SigInv l s count tab old (put_mid p (length one - p) one ys) (at + a) (k + c) (i + 1)
           param_next ep =
@@ -127,8 +127,8 @@ module _ {l : ℕ} {s : List ℕ} {count : ℕ} {tab old out : List ℕ} {at to 
                 tabled = Q.tabled;
                 short = Q.short;
                 below = omega arith;
-                in_s = param-ends.0;
-                low = param-ends.1;
+                in_s = param_ends.0;
+                low = param_ends.1;
                 read = ap (λ (z : ℕ). sig_at l (count - (i + 1)) (drop (at + z) s)) G.size ∙ N.second;
                 sizes = omega (arith, Q.sizes, N.sized, G.size);
                 goes =
@@ -143,32 +143,32 @@ module _ {l : ℕ} {s : List ℕ} {count : ℕ} {tab old out : List ℕ} {at to 
     abbrev Z : Last l at s Q.f
     Z = last l i count at s Q.f h Q.in_s Q.read
 
-    pub result-there : Ok (type_at l (behind at s))
-    result-there = is_ok (type_at l (behind at s)) Z.t Z.first
+    pub result_there : Ok (type_at l (behind at s))
+    result_there = is_ok (type_at l (behind at s)) Z.t Z.first
 
     module _ (k : ℕ) (one : List ℕ) (ek : k ≡ to + length arrow) (eo : one ≡ puts to arrow out) where
-      arrow-is : one ≡ fill (Q.done ++ arrow) old
-      arrow-is = put_then Q.done arrow old out one to Q.state Q.long eo
+      arrow_is : one ≡ fill (Q.done ++ arrow) old
+      arrow_is = put_then Q.done arrow old out one to Q.state Q.long eo
 
       module _ (p : ℕ) (ys : List ℕ) (x : Shown) (T : Shows of_types (type_at l (behind at s)) (read_table tab) (behind p one) ys x) where
         told : Gave of_types Q.ts Z.t (behind p one) ys x
         told = shows_is of_types (type_at l (behind at s)) (read_table tab) Z.t Q.ts (behind p one) ys x Z.first Q.tabled T
 
-        pub result-kept : length (put_mid p (length one - p) one ys) ≡ length old
-        result-kept = back_length p one ys (gave_length of_types Q.ts Z.t (behind p one) ys x told) ∙ ap length arrow-is ∙ length_fill (Q.done ++ arrow) old
+        pub result_kept : length (put_mid p (length one - p) one ys) ≡ length old
+        result_kept = back_length p one ys (gave_length of_types Q.ts Z.t (behind p one) ys x told) ∙ ap length arrow_is ∙ length_fill (Q.done ++ arrow) old
 
-        pub result-missing : x ≡ No → Shows of_sigs (sig_at l count s) (read_table tab) old (put_mid p (length one - p) one ys) No
-        result-missing ex =
+        pub result_missing : x ≡ No → Shows of_sigs (sig_at l count s) (read_table tab) old (put_mid p (length one - p) one ys) No
+        result_missing ex =
             failed (put_mid p (length one - p) one ys)
             (ap (sig_from i Q.ts) Z.is ∙ no_result i Q.ts Z.t (gave_no of_types Q.ts Z.t (behind p one) ys x told ex))
-            result-kept
+            result_kept
 
         module _ (a c : ℕ) (ex : x ≡ Yes a c) where
           H : Got of_types Q.ts Z.t (behind p one) ys a c
           H = gave_yes of_types Q.ts Z.t (behind p one) ys x told a c ex
 
-          pub result-ends : (at + a ≤ length s) × (k + c ≤ most_bytes * (at + a) + 1)
-          result-ends = (
+          pub result_ends : (at + a ≤ length s) × (k + c ≤ most_bytes * (at + a) + 1)
+          result_ends = (
             omega (arith, H.size, Z.fits),
             omega (arith, H.size, H.long, text_most Q.ts (table_named tab Q.ts Q.tabled) Z.t H.bs H.is, Q.low),
           )
@@ -182,4 +182,4 @@ module _ {l : ℕ} {s : List ℕ} {count : ℕ} {tab old out : List ℕ} {at to 
               (sym Q.goes ∙ ap (λ (z : Sig). after Q.done (sig_from i Q.ts z)) Z.is ∙ one_result i Q.done Q.ts Z.t H.bs H.is)
               (omega (arith, Q.sizes, Z.sized, H.size))
               (omega (arith, length-append (Q.done ++ arrow) H.bs, kl, H.long))
-              (fill_then (Q.done ++ arrow) H.bs old one ys k p arrow-is kl ep H.out))
+              (fill_then (Q.done ++ arrow) H.bs old one ys k p arrow_is kl ep H.out))

@@ -1,6 +1,6 @@
 -- The table of texts: the rules of a text, byte by byte, and the reader's loop under those rules.
--- Index: `printable_ended`, `printable_below`, `printable-above`, `printable-next` (`is_printable`); `untidy`, `tidy-empty`, `untidy-first`, `tidy-last` (`is_tidy`); `less_ended`, `less-short`,
--- `less-differs`, `less-next` (`is_less`); `Tabled`, `table_start`, `table_first`, `table-ascends`, `table-descends`, `table_untidy`, `table_long`, `table_empty` (`check_table`).
+-- Index: `printable_ended`, `printable_below`, `printable_above`, `printable_next` (`is_printable`); `untidy`, `tidy_empty`, `untidy_first`, `tidy_last` (`is_tidy`); `less_ended`, `less_short`,
+-- `less_differs`, `less_next` (`is_less`); `Tabled`, `table_start`, `table_first`, `table_ascends`, `table_descends`, `table_untidy`, `table_long`, `table_empty` (`check_table`).
 -- Assumes nothing.
 use Prim.Native.Nat.{ℕ, zero, suc, ◌+◌, ◌-◌, ◌*◌, ◌<◌, ◌≤◌}
 use native.Mathlib.Omega.{arith}
@@ -17,7 +17,7 @@ use Rattle.form.specs.Form.{num_at}
 use Rattle.form.specs.Limits.{most_bytes}
 use Rattle.form.proofs.Numbers.{word_is}
 use Rattle.names.specs.Reader.{first, last, provided, read_texts, is_read}
-use Rattle.names.proofs.Reader.{cut_is, Left, left-bad, left-next}
+use Rattle.names.proofs.Reader.{cut_is, Left, left_bad, left_next}
 use Rattle.display.specs.Tables.{printable, tidy, less_text, above, in_table, counted_texts, read_table}
 
 -- ---- bytes 20 to 7E
@@ -43,11 +43,11 @@ module _ (s : List ℕ) (i : ℕ) (e : printable s ≡ printable (drop i s)) (h 
     low : printable s ≡ leb (get_or s i 0) 0x7E && printable (drop (suc i) s)
     low = at_byte ∙ ap (λ q. (q && leb (get_or s i 0) 0x7E) && printable (drop (suc i) s)) (le-leb 0x20 (get_or s i 0) k)
 
-    pub printable-above : 0x7E < get_or s i 0 → false ≡ printable s
-    printable-above l = sym (low ∙ ap (λ q. q && printable (drop (suc i) s)) (lt-leb (get_or s i 0) 0x7E l))
+    pub printable_above : 0x7E < get_or s i 0 → false ≡ printable s
+    printable_above l = sym (low ∙ ap (λ q. q && printable (drop (suc i) s)) (lt-leb (get_or s i 0) 0x7E l))
 
-    pub printable-next : get_or s i 0 ≤ 0x7E → printable s ≡ printable (drop (i + 1) s)
-    printable-next l = low ∙ ap (λ q. q && printable (drop (suc i) s)) (le-leb (get_or s i 0) 0x7E l) ∙ ap (λ (k : ℕ). printable (drop k s)) (sym (add-one i))
+    pub printable_next : get_or s i 0 ≤ 0x7E → printable s ≡ printable (drop (i + 1) s)
+    printable_next l = low ∙ ap (λ q. q && printable (drop (suc i) s)) (le-leb (get_or s i 0) 0x7E l) ∙ ap (λ (k : ℕ). printable (drop k s)) (sym (add-one i))
 
 -- ---- neither first nor last a space
 module _ (s : List ℕ) (p : Bool) (e : p ≡ printable s) where
@@ -58,18 +58,18 @@ module _ (s : List ℕ) (p : Bool) (e : p ≡ printable s) where
     printed : (not (eqb (first s) 0x20) && not (eqb (last s) 0x20)) ≡ tidy s
     printed = sym (ap (λ q. q && (not (eqb (first s) 0x20) && not (eqb (last s) 0x20))) (sym e ∙ not-false p h))
 
-    pub tidy-empty : length s ≡ 0 → true ≡ tidy s
-    tidy-empty z = go s z ∙ printed
+    pub tidy_empty : length s ≡ 0 → true ≡ tidy s
+    tidy_empty z = go s z ∙ printed
       where
         go : (s : List ℕ) → length s ≡ 0 → true ≡ (not (eqb (first s) 0x20) && not (eqb (last s) 0x20))
         go [] z = refl
         go (b ∷ s) z = absurd (omega arith)
 
-    pub untidy-first : get_or s 0 0 ≡ 0x20 → false ≡ tidy s
-    untidy-first f = sym (ap (λ q. not q && not (eqb (last s) 0x20)) (eq-eqb (first s) 0x20 f)) ∙ printed
+    pub untidy_first : get_or s 0 0 ≡ 0x20 → false ≡ tidy s
+    untidy_first f = sym (ap (λ q. not q && not (eqb (last s) 0x20)) (eq-eqb (first s) 0x20 f)) ∙ printed
 
-    pub tidy-last : (get_or s 0 0 ≡ 0x20 → ⊥) → not (eqb (get_or s (length s - 1) 0) 0x20) ≡ tidy s
-    tidy-last f = sym (ap (λ q. not q && not (eqb (last s) 0x20)) (ne_eqb (first s) 0x20 f)) ∙ printed
+    pub tidy_last : (get_or s 0 0 ≡ 0x20 → ⊥) → not (eqb (get_or s (length s - 1) 0) 0x20) ≡ tidy s
+    tidy_last f = sym (ap (λ q. not q && not (eqb (last s) 0x20)) (ne_eqb (first s) 0x20 f)) ∙ printed
 
 -- ---- below
 pub less_nil : (s : List ℕ) → less_text s [] ≡ false
@@ -90,18 +90,18 @@ module _ (s t : List ℕ) (i : ℕ) (e : less_text s t ≡ less_text (drop i s) 
   less_ended h = sym (e ∙ ap (less_text (drop i s)) (drop_of_length-le t h) ∙ less_nil (drop i s))
 
   module _ (h : i < length t) where
-    pub less-short : length s ≤ i → true ≡ less_text s t
-    less-short k = sym (e ∙ ap₂ less_text (drop_of_length-le s k) (drop-cons t i 0 h) ∙ less_begin (get_or t i 0) (drop (suc i) t))
+    pub less_short : length s ≤ i → true ≡ less_text s t
+    less_short k = sym (e ∙ ap₂ less_text (drop_of_length-le s k) (drop-cons t i 0 h) ∙ less_begin (get_or t i 0) (drop (suc i) t))
 
     module _ (k : i < length s) where
       less_byte : less_text s t ≡ cond (eqb (get_or s i 0) (get_or t i 0)) (less_text (drop (suc i) s) (drop (suc i) t)) (ltb (get_or s i 0) (get_or t i 0))
       less_byte = e ∙ ap₂ less_text (drop-cons s i 0 k) (drop-cons t i 0 h) ∙ less_cons (get_or s i 0) (get_or t i 0) (drop (suc i) s) (drop (suc i) t)
 
-      pub less-differs : (get_or s i 0 ≡ get_or t i 0 → ⊥) → ltb (get_or s i 0) (get_or t i 0) ≡ less_text s t
-      less-differs d = sym (less_byte ∙ ap (λ q. cond q (less_text (drop (suc i) s) (drop (suc i) t)) (ltb (get_or s i 0) (get_or t i 0))) (ne_eqb (get_or s i 0) (get_or t i 0) d))
+      pub less_differs : (get_or s i 0 ≡ get_or t i 0 → ⊥) → ltb (get_or s i 0) (get_or t i 0) ≡ less_text s t
+      less_differs d = sym (less_byte ∙ ap (λ q. cond q (less_text (drop (suc i) s) (drop (suc i) t)) (ltb (get_or s i 0) (get_or t i 0))) (ne_eqb (get_or s i 0) (get_or t i 0) d))
 
-      pub less-next : get_or s i 0 ≡ get_or t i 0 → less_text s t ≡ less_text (drop (i + 1) s) (drop (i + 1) t)
-      less-next d =
+      pub less_next : get_or s i 0 ≡ get_or t i 0 → less_text s t ≡ less_text (drop (i + 1) s) (drop (i + 1) t)
+      less_next d =
           less_byte
           ∙ ap (λ q. cond q (less_text (drop (suc i) s) (drop (suc i) t)) (ltb (get_or s i 0) (get_or t i 0))) (eq-eqb (get_or s i 0) (get_or t i 0) d)
           ∙ ap (λ (k : ℕ). less_text (drop k s) (drop k t)) (sym (add-one i))
@@ -155,7 +155,7 @@ module _ {s : List ℕ} {count b at i : ℕ} (Q : Tabled s count b at i) (h : i 
   tidy_is = e ∙ ap tidy (cut_is s at n)
 
   pub table_untidy : not p ≡ true → false ≡ is_read (read_table s)
-  table_untidy r = left-bad Q.left h k n en l (ap (λ q. q && above (before_at i b at s) this) (sym tidy_is ∙ not-true p r))
+  table_untidy r = left_bad Q.left h k n en l (ap (λ q. q && above (before_at i b at s) this) (sym tidy_is ∙ not-true p r))
 
   module _ (r : not p ≡ false) where
     ruled : in_table (before_at i b at s) this ≡ above (before_at i b at s) this
@@ -163,7 +163,7 @@ module _ {s : List ℕ} {count b at i : ℕ} (Q : Tabled s count b at i) (h : i 
 
     next : above (before_at i b at s) this ≡ true → Tabled s count (at + 1) (at + 1 + n) (i + 1)
     next a =
-        let N = left-next Q.left h k n en l (ruled ∙ a) in
+        let N = left_next Q.left h k n en l (ruled ∙ a) in
         let z : before_at (i + 1) (at + 1) (at + 1 + n) s ≡ some this = ap (λ (j : ℕ). before_at j (at + 1) (at + 1 + n) s) (add-one i) ∙ ap some (cut_is s at n) in
         record {
           from = omega arith;
@@ -175,13 +175,13 @@ module _ {s : List ℕ} {count b at i : ℕ} (Q : Tabled s count b at i) (h : i 
     table_first z = let y : i ≡ 0 = omega arith in next (ap (λ (j : ℕ). above (before_at j b at s) this) y)
 
     module _ (z : 0 < i) (q : Bool) (f : q ≡ less_text (take (at - b) (drop b s)) (take (at + 1 + n - (at + 1)) (drop (at + 1) s))) where
-      above-is : above (before_at i b at s) this ≡ q
-      above-is =
+      above_is : above (before_at i b at s) this ≡ q
+      above_is =
           let y : i ≡ suc (i - 1) = omega arith in
           ap (λ (j : ℕ). above (before_at j b at s) this) y ∙ sym (f ∙ ap (less_text (take (at - b) (drop b s))) (cut_is s at n))
 
-      pub table-descends : not q ≡ true → false ≡ is_read (read_table s)
-      table-descends t = left-bad Q.left h k n en l (ruled ∙ above-is ∙ not-true q t)
+      pub table_descends : not q ≡ true → false ≡ is_read (read_table s)
+      table_descends t = left_bad Q.left h k n en l (ruled ∙ above_is ∙ not-true q t)
 
-      pub table-ascends : not q ≡ false → Tabled s count (at + 1) (at + 1 + n) (i + 1)
-      table-ascends t = next (above-is ∙ not-false q t)
+      pub table_ascends : not q ≡ false → Tabled s count (at + 1) (at + 1 + n) (i + 1)
+      table_ascends t = next (above_is ∙ not-false q t)

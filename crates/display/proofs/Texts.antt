@@ -238,34 +238,34 @@ module _ (ts : List (List ℕ)) (named : (n : ℕ) → Most most_bytes (nth ts n
   mutual
     unfolding text size commas
 
-    text-short : (t : Ty) → Short (most_bytes * size t) (text ts t)
-    text-short (leaf x) = omega (arith, leaf_short x)
-    text-short (built x) = built_short x
+    text_short : (t : Ty) → Short (most_bytes * size t) (text ts t)
+    text_short (leaf x) = omega (arith, leaf_short x)
+    text_short (built x) = built_short x
 
     built_short : (x : Built) → Short (most_bytes * size_built x) (text_built ts x)
-    built_short (list t) = short_as _ _ (map (within list_open) (text ts t)) (omega arith) (within_short list_open (omega arith) (most_bytes * size t) (text ts t) (text-short t))
-    built_short (range t) = short_as _ _ (map (within range_open) (text ts t)) (omega arith) (within_short range_open (omega arith) (most_bytes * size t) (text ts t) (text-short t))
+    built_short (list t) = short_as _ _ (map (within list_open) (text ts t)) (omega arith) (within_short list_open (omega arith) (most_bytes * size t) (text ts t) (text_short t))
+    built_short (range t) = short_as _ _ (map (within range_open) (text ts t)) (omega arith) (within_short range_open (omega arith) (most_bytes * size t) (text ts t) (text_short t))
     built_short (context fs) =
         short_as _ _ (map (λ es. within context_open (join es)) (texts_of_fields ts fs)) (omega arith)
-        (entries_short (most_bytes * size_fields fs) (texts_of_fields ts fs) (fields-short fs))
+        (entries_short (most_bytes * size_fields fs) (texts_of_fields ts fs) (fields_short fs))
     built_short (function ps r) =
         short_as _ _ (map (λ s. function_open ++ s) (both signature_text (texts_of_tys ts ps) (text ts r))) (omega arith)
-        (function_short (most_bytes * size_tys ps) (most_bytes * size r) (texts_of_tys ts ps) (text ts r) (tys-short ps) (text-short r))
+        (function_short (most_bytes * size_tys ps) (most_bytes * size r) (texts_of_tys ts ps) (text ts r) (tys_short ps) (text_short r))
 
-    fields-short : (fs : Fields) → Shorts (most_bytes * size_fields fs) (texts_of_fields ts fs)
-    fields-short no_fields = omega arith
-    fields-short (field n t fs) =
+    fields_short : (fs : Fields) → Shorts (most_bytes * size_fields fs) (texts_of_fields ts fs)
+    fields_short no_fields = omega arith
+    fields_short (field n t fs) =
         shorts_as _ _ (both ◌∷◌ (both entry_text (nth ts n) (text ts t)) (texts_of_fields ts fs)) (omega arith)
-        (entry_short (most_bytes * size t) (most_bytes * size_fields fs) (nth ts n) (text ts t) (texts_of_fields ts fs) (named n) (text-short t) (fields-short fs))
+        (entry_short (most_bytes * size t) (most_bytes * size_fields fs) (nth ts n) (text ts t) (texts_of_fields ts fs) (named n) (text_short t) (fields_short fs))
 
-    tys-short : (ps : Tys) → Shorts (most_bytes * size_tys ps) (texts_of_tys ts ps)
-    tys-short no_params = omega arith
-    tys-short (param t ps) =
+    tys_short : (ps : Tys) → Shorts (most_bytes * size_tys ps) (texts_of_tys ts ps)
+    tys_short no_params = omega arith
+    tys_short (param t ps) =
         shorts_as _ _ (both ◌∷◌ (text ts t) (texts_of_tys ts ps)) (omega arith)
-        (param_short (most_bytes * size t) (most_bytes * size_tys ps) (text ts t) (texts_of_tys ts ps) (text-short t) (tys-short ps))
+        (param_short (most_bytes * size t) (most_bytes * size_tys ps) (text ts t) (texts_of_tys ts ps) (text_short t) (tys_short ps))
 
   pub text_most : (t : Ty) (bs : List ℕ) → text ts t ≡ some bs → length bs + 2 ≤ most_bytes * size t
-  text_most t bs e = subst (λ (o : Option (List ℕ)). Short (most_bytes * size t) o) e (text-short t)
+  text_most t bs e = subst (λ (o : Option (List ℕ)). Short (most_bytes * size t) o) e (text_short t)
 
   fields_of : (n : ℕ) (o : Option (List (List ℕ))) (bs : List ℕ) → Shorts n o → map join o ≡ some bs → length bs ≤ n
   fields_of n none bs h e = absurd (none_some e)
@@ -273,7 +273,7 @@ module _ (ts : List (List ℕ)) (named : (n : ℕ) → Most most_bytes (nth ts n
 
   pub fields_most : (fs : Fields) (bs : List ℕ) → text_fields ts fs ≡ some bs → length bs ≤ most_bytes * size_fields fs
   unfolding text_fields
-  fields_most fs bs e = fields_of (most_bytes * size_fields fs) (texts_of_fields ts fs) bs (fields-short fs) e
+  fields_most fs bs e = fields_of (most_bytes * size_fields fs) (texts_of_fields ts fs) bs (fields_short fs) e
 
   sig_of : (n m : ℕ) (o : Option (List (List ℕ))) (p : Option (List ℕ)) (bs : List ℕ) → Shorts n o → Short m p → both signature_text o p ≡ some bs → length bs ≤ n + m + 1
   sig_of n m none p bs h k e = absurd (none_some e)
@@ -284,4 +284,4 @@ module _ (ts : List (List ℕ)) (named : (n : ℕ) → Most most_bytes (nth ts n
 
   pub sig_most : (f : Sig) (bs : List ℕ) → text_sig ts f ≡ some bs → length bs ≤ most_bytes * size_sig f + 1
   unfolding text_sig
-  sig_most (sig ps r) bs e = omega (arith, sig_of (most_bytes * size_tys ps) (most_bytes * size r) (texts_of_tys ts ps) (text ts r) bs (tys-short ps) (text-short r) e)
+  sig_most (sig ps r) bs e = omega (arith, sig_of (most_bytes * size_tys ps) (most_bytes * size r) (texts_of_tys ts ps) (text ts r) bs (tys_short ps) (text_short r) e)

@@ -29,8 +29,8 @@ use Rattle.order.specs.Values.{least}
 use Rattle.order.specs.Inferred.{type_of}
 use Rattle.order.specs.Size.{size, size_val}
 use Rattle.order.proofs.Simple.{and_left}
-use Rattle.order.proofs.Size.{length_enc, size_sup, size_sub, size-reduce}
-use Rattle.order.proofs.LeastSize.{length_enc_v, size-least}
+use Rattle.order.proofs.Size.{length_enc, size_sup, size_sub, size_reduce}
+use Rattle.order.proofs.LeastSize.{length_enc_v, size_least}
 use Rattle.order.proofs.TypeOf.{size_type_of}
 use Rattle.order.proofs.WellFormed.{asc_of}
 use Rattle.form.proofs.Options.{none_some}
@@ -121,7 +121,7 @@ combined_written answer h a b scratch room ba bb =
     (λ t et. behind (check 14 (leb (length a + length b) scratch)) _ (type_fitted room (answer s t) (omega (arith, h s t a ba es, type_small a s ba es, type_small b t bb et)))))
 
 reduced_written : (t : List ℕ) (room : ℕ) → Bytes t → Written (reduced_call t room)
-reduced_written t room bs = after (read_type t) _ (λ u e. type_fitted room (reduced_form u) (omega (arith, size-reduce fixed u, type_small t u bs e)))
+reduced_written t room bs = after (read_type t) _ (λ u e. type_fitted room (reduced_form u) (omega (arith, size_reduce fixed u, type_small t u bs e)))
 
 bound_written : (O : Order) (d : Dir) (a b : List ℕ) (scratch room : ℕ) → Bytes a → Bytes b → Written (combined (order.pick d (sup O) (sub O)) a b scratch room)
 bound_written O up a b scratch room ba bb = combined_written (sup O) (λ s t x bx e. size_sup O s t (asc_of s (type_accepted x bx s e).well)) a b scratch room ba bb
@@ -130,7 +130,7 @@ bound_written O down a b scratch room ba bb = combined_written (sub O) (λ s t x
 least_written : (O : Order) (v : List ℕ) (scratch room : ℕ) → Bytes v → Written (least_type_by O v scratch room)
 unfolding least_type_by
 least_written O v scratch room bs =
-    after (read_value v) _ (λ w e. behind _ _ (behind _ _ (type_fitted room (least O w) (omega (arith, size-least O w (value_accepted v bs w e).well, value_small v w bs e)))))
+    after (read_value v) _ (λ w e. behind _ _ (behind _ _ (type_fitted room (least O w) (omega (arith, size_least O w (value_accepted v bs w e).well, value_small v w bs e)))))
 
 type_of_written : (v : List ℕ) (scratch room : ℕ) → Bytes v → Written (type_of_call v scratch room)
 unfolding type_of_call

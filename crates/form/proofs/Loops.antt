@@ -1,6 +1,6 @@
 -- The loops over children, whatever is read: what a turn, a fault and the end owe, from what the child's walk told.
 -- Idea: the answer of the whole is the answer from here (`RunInv` of Runs); each exit of a loop is one law, for runs with and without names.
--- Index: `items_short`, `items_walk`, `items_fault`, `items_end` (children one behind the other); `names-short`, `names-walk`, `names_none`, `names-fall`, `names-fault`,
+-- Index: `items_short`, `items_walk`, `items_fault`, `items_end` (children one behind the other); `names_short`, `names_walk`, `names_none`, `names_fall`, `names_fault`,
 -- `names_end` (each behind its name); `DeepInv`, `deep_start`, `deep_turn`, `deep_is` (loops whose `deep` starts at 1); `none_told` (no children); `fits`, `level_some`.
 -- Assumes nothing.
 use Prim.Native.Nat.{ℕ, ◌+◌, ◌-◌, ◌<◌, ◌≤◌, max}
@@ -15,7 +15,7 @@ use Rattle.form.specs.Form.{num_at}
 use Rattle.form.specs.Read.{Got, got, bad, read_run, read_named}
 use Rattle.form.specs.Walks.{Walk, walk_of, walk_by, up, Told, Short}
 use Rattle.form.specs.Walks as walk
-use Rattle.form.proofs.Runs.{RunInv, run_start, run_done, run_fault, run_turn, run_none, item-fault, item-turn, named_none, named-ends, named-names, named-fault, named-turn}
+use Rattle.form.proofs.Runs.{RunInv, run_start, run_done, run_fault, run_turn, run_none, item_fault, item_turn, named_none, named_ends, named_names, named_fault, named_turn}
 use Rattle.form.proofs.WalkAnswers.{told_end, short_end, told_part, told_stop, told_fault, told_run}
 
 -- what a child's walk told on the part from a
@@ -46,7 +46,7 @@ stopped f whole k m r t e p q = told_stop f (sym (ap (up k) e)) p q
 module _ {X R : Type 0} (lx : X → ℕ) (lr : R → ℕ) (nil : R) (cons : X → R → R) (law : (x : X) (r : R) → lr (cons x r) ≡ max (lx x) (lr r)) (flat : lr nil ≡ 0) (child : List ℕ → Got X) {whole : Walk}
     {s : List ℕ} {count at deep i : ℕ} (v : RunInv lr whole (read_run nil cons child) s count at deep i) where
   turn : (n l d : ℕ) → i < count → walk_of lx (child (drop at s)) ≡ walk.End n l → (n ≤ length s - at) × (l ≤ n) → d ≡ max deep l → RunInv lr whole (read_run nil cons child) s count (at + n) d (i + 1)
-  turn n l d q w z e = run_turn v (read_run nil cons child) at d n l q e z (omega arith) v.inside (item-turn lx lr nil cons law child s at deep n l w)
+  turn n l d q w z e = run_turn v (read_run nil cons child) at d n l q e z (omega arith) v.inside (item_turn lx lr nil cons law child s at deep n l w)
 
   pub items_short : (isLeaf : X → Bool) → ((x : X) → isLeaf x ≡ true → lx x ≡ 1) → (n d : ℕ) → i < count
       → Short isLeaf (child (drop at s)) n (length s - at) → (n ≡ 0 → ⊥) → d ≡ max deep 1 → RunInv lr whole (read_run nil cons child) s count (at + n) d (i + 1)
@@ -56,7 +56,7 @@ module _ {X R : Type 0} (lx : X → ℕ) (lr : R → ℕ) (nil : R) (cons : X �
   items_walk r t d q h z e = let a = told_end (walk_of lx (child (drop at s))) (length s - at) r t (here lx child s at r t h) (omega arith) in turn r t d q a.0 a.1 e
 
   pub items_fault : (r t k m : ℕ) → i < count → ToldAt lx child s at r t → r ≡ 0 → Told (up k whole) m 0 t
-  items_fault r t k m q h z = faulted lx child s at r t k m whole h z (λ f e. run_fault v f q (item-fault lx lr nil cons law child s at deep f e))
+  items_fault r t k m q h z = faulted lx child s at r t k m whole h z (λ f e. run_fault v f q (item_fault lx lr nil cons law child s at deep f e))
 
   pub items_end : (k r t : ℕ) → count ≤ i → 1 ≤ k → r ≡ at + k → t ≡ deep + 1 → Told (up k whole) (length s + k) r t
   items_end k r t q o p e = told_run whole (length s) at deep k (run_done v nil flat (run_none lx lr nil cons law child) q) v.inside v.shallow o p e
@@ -68,30 +68,30 @@ module _ {X R : Type 0} (lx : X → ℕ) (lr : R → ℕ) (nil : R) (cons : ℕ 
   names_end k r t q o p e = told_run whole (length s) at deep k (run_done v nil flat (named_none lx lr nil cons next law child least) q) v.inside v.shallow o p e
 
   pub names_none : (k m r t : ℕ) → i < count → length s - at < name_width → r ≡ 0 → t ≡ 1 → Told (up k whole) m r t
-  names_none k m r t q h p e = stopped Shape whole k m r t (run_fault v Shape q (named-ends lx lr nil cons next law child s at deep least h)) p e
+  names_none k m r t q h p e = stopped Shape whole k m r t (run_fault v Shape q (named_ends lx lr nil cons next law child s at deep least h)) p e
 
   module _ (name : ℕ) (named : name ≡ num_at name_width at s) (two : name_width ≤ length s - at) (q : i < count) where
-    pub names-fall : (k m r t : ℕ) → name < least → r ≡ 0 → t ≡ 2 → Told (up k whole) m r t
-    names-fall k m r t h p e = stopped Names whole k m r t (run_fault v Names q (named-names lx lr nil cons next law child s at deep least name named two h)) p e
+    pub names_fall : (k m r t : ℕ) → name < least → r ≡ 0 → t ≡ 2 → Told (up k whole) m r t
+    names_fall k m r t h p e = stopped Names whole k m r t (run_fault v Names q (named_names lx lr nil cons next law child s at deep least name named two h)) p e
 
     module _ (above : least ≤ name) where
       named_on : (n l d : ℕ) → walk_of lx (child (drop (at + name_width) s)) ≡ walk.End n l → (n ≤ length s - (at + name_width)) × (l ≤ n) → d ≡ max deep l
           → RunInv lr whole (λ (j : ℕ). read_named nil cons next child j (next name)) s count (at + name_width + n) d (i + 1)
       named_on n l d w z e = let a = v.inside in run_turn v (λ (j : ℕ). read_named nil cons next child j (next name)) (at + name_width) d n l q e z (omega arith) (omega arith)
-          (named-turn lx lr nil cons next law child s at deep least name named two n l above w)
+          (named_turn lx lr nil cons next law child s at deep least name named two n l above w)
 
-      pub names-short : (isLeaf : X → Bool) → ((x : X) → isLeaf x ≡ true → lx x ≡ 1) → (n d : ℕ)
+      pub names_short : (isLeaf : X → Bool) → ((x : X) → isLeaf x ≡ true → lx x ≡ 1) → (n d : ℕ)
           → Short isLeaf (child (drop (at + name_width) s)) n (length s - (at + name_width)) → (n ≡ 0 → ⊥) → d ≡ max deep 1
           → RunInv lr whole (λ (j : ℕ). read_named nil cons next child j (next name)) s count (at + name_width + n) d (i + 1)
-      names-short isLeaf one n d h z e = named_on n 1 d (short_end lx isLeaf one (child (drop (at + name_width) s)) n (length s - (at + name_width)) h z) (h.room, omega arith) e
+      names_short isLeaf one n d h z e = named_on n 1 d (short_end lx isLeaf one (child (drop (at + name_width) s)) n (length s - (at + name_width)) h z) (h.room, omega arith) e
 
-      pub names-walk : (r t d : ℕ) → ToldAt lx child s (at + name_width) r t → (r ≡ 0 → ⊥) → d ≡ max deep t
+      pub names_walk : (r t d : ℕ) → ToldAt lx child s (at + name_width) r t → (r ≡ 0 → ⊥) → d ≡ max deep t
           → RunInv lr whole (λ (j : ℕ). read_named nil cons next child j (next name)) s count (at + name_width + r) d (i + 1)
-      names-walk r t d h z e = let a = told_end (walk_of lx (child (drop (at + name_width) s))) (length s - (at + name_width)) r t (here lx child s (at + name_width) r t h) (omega arith) in named_on r t d
+      names_walk r t d h z e = let a = told_end (walk_of lx (child (drop (at + name_width) s))) (length s - (at + name_width)) r t (here lx child s (at + name_width) r t h) (omega arith) in named_on r t d
           a.0 a.1 e
 
-      pub names-fault : (r t k m : ℕ) → ToldAt lx child s (at + name_width) r t → r ≡ 0 → Told (up k whole) m 0 t
-      names-fault r t k m h z = faulted lx child s (at + name_width) r t k m whole h z (λ f e. run_fault v f q (named-fault lx lr nil cons next law child s at deep least name named two f above e))
+      pub names_fault : (r t k m : ℕ) → ToldAt lx child s (at + name_width) r t → r ≡ 0 → Told (up k whole) m 0 t
+      names_fault r t k m h z = faulted lx child s (at + name_width) r t k m whole h z (λ f e. run_fault v f q (named_fault lx lr nil cons next law child s at deep least name named two f above e))
 
 -- ---- a run of one child or more, whose `deep` starts at 1: every child has level 1 at least, so leaves need not touch it
 pub record DeepInv {X : Type 0} (lv : X → ℕ) (whole : Walk) (now : ℕ → List ℕ → Got X) (s : List ℕ) (count at deep i : ℕ) : Type 0 where

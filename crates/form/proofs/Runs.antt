@@ -1,7 +1,7 @@
 -- The reader's equations in the terms of the code. One law for each combinator and each kind of run, whatever is read.
 -- Idea: a loop over children keeps that the answer of the whole is the answer from here (`RunInv`).
--- Index: `front_up`, `front_run`, `then-end`, `then_fault`, `then_up`, `pair_end`, `pair_fault` (combinators); `RunInv`, `run_start`, `run_turn`, `run_fault`, `run_done` (a loop);
--- `item-turn`, `item-fault`, `run-snoc` (a run); `named-turn`, `named-ends`, `named-names`, `named-fault` (a named run); `operand_at`, `operand_short`, `counted_is`, `counted_short`.
+-- Index: `front_up`, `front_run`, `then_end`, `then_fault`, `then_up`, `pair_end`, `pair_fault` (combinators); `RunInv`, `run_start`, `run_turn`, `run_fault`, `run_done` (a loop);
+-- `item_turn`, `item_fault`, `run_snoc` (a run); `named_turn`, `named_ends`, `named_names`, `named_fault` (a named run); `operand_at`, `operand_short`, `counted_is`, `counted_short`.
 -- Assumes nothing.
 use Prim.Native.Nat.{ℕ, zero, suc, ◌+◌, ◌-◌, ◌<◌, ◌≤◌, max}
 use mathlib.Core.Path.{◌≡◌, refl, sym, ap, ap₂, ◌∙◌}
@@ -54,9 +54,9 @@ module _ {X Z : Type 0} (lx : X → ℕ) (lz : Z → ℕ) (g : X → Z) (k : ℕ
 
 module _ {X Y Z : Type 0} (lx : X → ℕ) (ly : Y → ℕ) (lz : Z → ℕ) (f : X → Y → Z) (k : ℕ) (s : List ℕ) (more : List ℕ → Got Y) where
   module _ (law : (x : X) (y : Y) → lz (f x y) ≡ max (lx x) (ly y)) where
-    pub then-end : (at deep size lv : ℕ) (r : Got X) → walk_of lx r ≡ walk.End size lv → walk_by lz at deep (and_then f k s more r) ≡ walk_by ly (at + k + size) (max deep lv) (more (drop size s))
+    pub then_end : (at deep size lv : ℕ) (r : Got X) → walk_of lx r ≡ walk.End size lv → walk_by lz at deep (and_then f k s more r) ≡ walk_by ly (at + k + size) (max deep lv) (more (drop size s))
     unfolding walk_of walk_by and_then front
-    then-end at deep size lv (got x n) e =
+    then_end at deep size lv (got x n) e =
         let p : n ≡ size = cc in
         let q : lx x ≡ lv = cc in
         rw (← p, ← q) (go (more (drop n s)))
@@ -64,7 +64,7 @@ module _ {X Y Z : Type 0} (lx : X → ℕ) (ly : Y → ℕ) (lz : Z → ℕ) (f 
         go : (y : Got Y) → walk_by lz at deep (front (f x) (k + n) y) ≡ walk_by ly (at + k + n) (max deep (lx x)) y
         go (got y m) = end_is (omega arith) (omega (arith, law x y))
         go (bad e) = refl
-    then-end at deep size lv (bad e') e = absurd (end_stop (sym e))
+    then_end at deep size lv (bad e') e = absurd (end_stop (sym e))
 
   pub then_fault : (at deep : ℕ) (e : Fault) (r : Got X) → walk_of lx r ≡ walk.Stop e → walk_by lz at deep (and_then f k s more r) ≡ walk.Stop e
   unfolding walk_of walk_by and_then
@@ -120,14 +120,14 @@ module _ {X R : Type 0} (lx : X → ℕ) (lr : R → ℕ) (nil : R) (cons : X �
   run_none r = refl
 
   module _ (s : List ℕ) (at deep : ℕ) where
-    pub item-fault : (f : Fault) → walk_of lx (child (drop at s)) ≡ walk.Stop f → (n : ℕ) → walk_by lr at deep (read_run nil cons child (suc n) (drop at s)) ≡ walk.Stop f
+    pub item_fault : (f : Fault) → walk_of lx (child (drop at s)) ≡ walk.Stop f → (n : ℕ) → walk_by lr at deep (read_run nil cons child (suc n) (drop at s)) ≡ walk.Stop f
     unfolding read_run
-    item-fault f w n = then_fault lx lr lr cons 0 (drop at s) (read_run nil cons child n) at deep f (child (drop at s)) w
+    item_fault f w n = then_fault lx lr lr cons 0 (drop at s) (read_run nil cons child n) at deep f (child (drop at s)) w
 
-    pub item-turn : (size lv : ℕ) → walk_of lx (child (drop at s)) ≡ walk.End size lv → (n : ℕ)
+    pub item_turn : (size lv : ℕ) → walk_of lx (child (drop at s)) ≡ walk.End size lv → (n : ℕ)
         → walk_by lr at deep (read_run nil cons child (suc n) (drop at s)) ≡ walk_by lr (at + size) (max deep lv) (read_run nil cons child n (drop (at + size) s))
     unfolding read_run
-    item-turn size lv w n = rw (← drop-drop size at s) (rw add-zero at (then-end lx lr lr cons 0 (drop at s) (read_run nil cons child n) law at deep size lv (child (drop at s)) w))
+    item_turn size lv w n = rw (← drop-drop size at s) (rw add-zero at (then_end lx lr lr cons 0 (drop at s) (read_run nil cons child n) law at deep size lv (child (drop at s)) w))
 
   -- one more behind a run is a longer run
   module _ (flat : lr nil ≡ 0) where
@@ -135,36 +135,36 @@ module _ {X R : Type 0} (lx : X → ℕ) (lr : R → ℕ) (nil : R) (cons : X �
     on k d (walk.End n l) = walk.End (k + n) (max d l)
     on k d (walk.Stop f) = walk.Stop f
 
-    on-front : (x : X) (k : ℕ) (y : Got R) → walk_by lr 0 0 (front (cons x) (0 + k) y) ≡ on k (lx x) (walk_by lr 0 0 y)
+    on_front : (x : X) (k : ℕ) (y : Got R) → walk_by lr 0 0 (front (cons x) (0 + k) y) ≡ on k (lx x) (walk_by lr 0 0 y)
     unfolding walk_by front on
-    on-front x k (got r n) = end_is (omega arith) (omega (arith, law x r))
-    on-front x k (bad f) = refl
+    on_front x k (got r n) = end_is (omega arith) (omega (arith, law x r))
+    on_front x k (bad f) = refl
 
-    on-by : (k d j l : ℕ) (y : Got X) → on k d (walk_by lx j l y) ≡ walk_by lx (0 + k + j) (max d l) y
+    on_by : (k d j l : ℕ) (y : Got X) → on k d (walk_by lx j l y) ≡ walk_by lx (0 + k + j) (max d l) y
     unfolding walk_by on
-    on-by k d j l (got x n) = end_is (omega arith) (omega arith)
-    on-by k d j l (bad f) = refl
+    on_by k d j l (got x n) = end_is (omega arith) (omega arith)
+    on_by k d j l (bad f) = refl
 
-    snoc-first : (s : List ℕ) (y : Got X) → walk_by lr 0 0 (and_then cons 0 s (read_run nil cons child 0) y) ≡ walk_by lx 0 (lr nil) y
+    snoc_first : (s : List ℕ) (y : Got X) → walk_by lr 0 0 (and_then cons 0 s (read_run nil cons child 0) y) ≡ walk_by lx 0 (lr nil) y
     unfolding walk_by and_then front read_run
-    snoc-first s (got x k) = end_is (omega arith) (omega (arith, law x nil, flat))
-    snoc-first s (bad f) = refl
+    snoc_first s (got x k) = end_is (omega arith) (omega (arith, law x nil, flat))
+    snoc_first s (bad f) = refl
 
-    snoc-rest : (s : List ℕ) (x : X) (k : ℕ) (w : Walk) (y : Got R) → w ≡ pair_walk lr lx (drop k s) child y → on k (lx x) w ≡ pair_walk lr lx s child (front (cons x) (0 + k) y)
+    snoc_rest : (s : List ℕ) (x : X) (k : ℕ) (w : Walk) (y : Got R) → w ≡ pair_walk lr lx (drop k s) child y → on k (lx x) w ≡ pair_walk lr lx s child (front (cons x) (0 + k) y)
     unfolding pair_walk front on
-    snoc-rest s x k w (got r j) e =
+    snoc_rest s x k w (got r j) e =
         let z : 0 + k + j ≡ k + j = omega arith in
-        rw (e, law x r, z, ← drop-drop j k s) (rw z at (on-by k (lx x) j (lr r) (child (drop j (drop k s)))))
-    snoc-rest s x k w (bad f) e = rw e
+        rw (e, law x r, z, ← drop-drop j k s) (rw z at (on_by k (lx x) j (lr r) (child (drop j (drop k s)))))
+    snoc_rest s x k w (bad f) e = rw e
 
-    pub run-snoc : (n : ℕ) (s : List ℕ) → walk_by lr 0 0 (read_run nil cons child (suc n) s) ≡ pair_walk lr lx s child (read_run nil cons child n s)
+    pub run_snoc : (n : ℕ) (s : List ℕ) → walk_by lr 0 0 (read_run nil cons child (suc n) s) ≡ pair_walk lr lx s child (read_run nil cons child n s)
     unfolding read_run pair_walk and_then
-    run-snoc zero s = snoc-first s (child s)
-    run-snoc (suc n) s = go (child s) (λ (k : ℕ). run-snoc n (drop k s))
+    run_snoc zero s = snoc_first s (child s)
+    run_snoc (suc n) s = go (child s) (λ (k : ℕ). run_snoc n (drop k s))
       where
         go : (y : Got X) → ((k : ℕ) → walk_by lr 0 0 (read_run nil cons child (suc n) (drop k s)) ≡ pair_walk lr lx (drop k s) child (read_run nil cons child n (drop k s)))
             → walk_by lr 0 0 (and_then cons 0 s (read_run nil cons child (suc n)) y) ≡ pair_walk lr lx s child (and_then cons 0 s (read_run nil cons child n) y)
-        go (got x k) ih = on-front x k (read_run nil cons child (suc n) (drop k s)) ∙ snoc-rest s x k (walk_by lr 0 0 (read_run nil cons child (suc n) (drop k s))) (read_run nil cons child n (drop k s))
+        go (got x k) ih = on_front x k (read_run nil cons child (suc n) (drop k s)) ∙ snoc_rest s x k (walk_by lr 0 0 (read_run nil cons child (suc n) (drop k s))) (read_run nil cons child n (drop k s))
             (ih k)
         go (bad f) ih = by_bad lr f
 
@@ -188,9 +188,9 @@ module _ {X R : Type 0} (lx : X → ℕ) (lr : R → ℕ) (nil : R) (cons : ℕ 
   named_none least r = refl
 
   module _ (s : List ℕ) (at deep least : ℕ) where
-    pub named-ends : length s - at < name_width → (n : ℕ) → walk_by lr at deep (read_named nil cons next child (suc n) least (drop at s)) ≡ walk.Stop Shape
+    pub named_ends : length s - at < name_width → (n : ℕ) → walk_by lr at deep (read_named nil cons next child (suc n) least (drop at s)) ≡ walk.Stop Shape
     unfolding walk_by read_named
-    named-ends h n = rw (operand_short name_width (named cons (λ m. read_named nil cons next child n (next m)) child least) (drop at s) (simp length-drop h))
+    named_ends h n = rw (operand_short name_width (named cons (λ m. read_named nil cons next child n (next m)) child least) (drop at s) (simp length-drop h))
 
     module _ (m : ℕ) (e : m ≡ num_at name_width at s) (h : name_width ≤ length s - at) where
       opened : (n : ℕ) → read_named nil cons next child (suc n) least (drop at s) ≡ or_else Names (leb least m)
@@ -198,22 +198,22 @@ module _ {X R : Type 0} (lx : X → ℕ) (lr : R → ℕ) (nil : R) (cons : ℕ 
       unfolding read_named named
       opened n = operand_at name_width (named cons (λ j. read_named nil cons next child n (next j)) child least) s at m e h
 
-      pub named-names : m < least → (n : ℕ) → walk_by lr at deep (read_named nil cons next child (suc n) least (drop at s)) ≡ walk.Stop Names
+      pub named_names : m < least → (n : ℕ) → walk_by lr at deep (read_named nil cons next child (suc n) least (drop at s)) ≡ walk.Stop Names
       unfolding walk_by or_else
-      named-names k n = rw (opened n, lt-leb least m k)
+      named_names k n = rw (opened n, lt-leb least m k)
 
-      pub named-fault : (f : Fault) → least ≤ m → walk_of lx (child (drop (at + name_width) s)) ≡ walk.Stop f → (n : ℕ)
+      pub named_fault : (f : Fault) → least ≤ m → walk_of lx (child (drop (at + name_width) s)) ≡ walk.Stop f → (n : ℕ)
           → walk_by lr at deep (read_named nil cons next child (suc n) least (drop at s)) ≡ walk.Stop f
       unfolding or_else
-      named-fault f k w n = rw (opened n, le-leb least m k) (then_fault lx lr lr (cons m) name_width (drop (at + name_width) s) (read_named nil cons next child n (next m)) at deep f
+      named_fault f k w n = rw (opened n, le-leb least m k) (then_fault lx lr lr (cons m) name_width (drop (at + name_width) s) (read_named nil cons next child n (next m)) at deep f
           (child (drop (at + name_width) s)) w)
 
-      pub named-turn : (size lv : ℕ) → least ≤ m → walk_of lx (child (drop (at + name_width) s)) ≡ walk.End size lv → (n : ℕ)
+      pub named_turn : (size lv : ℕ) → least ≤ m → walk_of lx (child (drop (at + name_width) s)) ≡ walk.End size lv → (n : ℕ)
           → walk_by lr at deep (read_named nil cons next child (suc n) least (drop at s)) ≡ walk_by lr (at + name_width + size) (max deep lv)
           (read_named nil cons next child n (next m) (drop (at + name_width + size) s))
       unfolding or_else
-      named-turn size lv k w n = rw (opened n, le-leb least m k, ← drop-drop size (at + name_width) s)
-          (then-end lx lr lr (cons m) name_width (drop (at + name_width) s) (read_named nil cons next child n (next m)) (law m) at deep size lv (child (drop (at + name_width) s)) w)
+      named_turn size lv k w n = rw (opened n, le-leb least m k, ← drop-drop size (at + name_width) s)
+          (then_end lx lr lr (cons m) name_width (drop (at + name_width) s) (read_named nil cons next child n (next m)) (law m) at deep size lv (child (drop (at + name_width) s)) w)
 
 -- ---- a counted run, behind its command
 pub counted_is : {R Z : Type 0} (lr : R → ℕ) (lz : Z → ℕ) (g : R → Z) (law : (x : R) → lz (g x) ≡ suc (lr x)) (run : ℕ → List ℕ → Got R) (s : List ℕ) (m : ℕ) → m ≡ num_at 2 1 s → 2 ≤ length s - 1

@@ -1,7 +1,7 @@
 -- The reader of values in the terms of the code: what its walk says by the length, the level that is left and the command.
 -- Idea: one step of `read_v`, and the laws of Runs at the kind of the command.
--- Index: `v_none`, `v_level`, `v_step`, `step_short`, `v_short`, `v_other` (the start); `v-leaf-is`, `leaf_is`, `v-built-in-is`, `v_irrelevant_is` (leaves);
--- `v-range-is`, `v-list-is`, `v-context-is`, `v-definition`, `v_type_is` (parents); `vals_law`, `entries_law`, `params_law`, `value_level`, `leaf_level` (levels).
+-- Index: `v_none`, `v_level`, `v_step`, `step_short`, `v_short`, `v_other` (the start); `v_leaf_is`, `leaf_is`, `v_built_in_is`, `v_irrelevant_is` (leaves);
+-- `v_range_is`, `v_list_is`, `v_context_is`, `v_definition`, `v_type_is` (parents); `vals_law`, `entries_law`, `params_law`, `value_level`, `leaf_level` (levels).
 -- Assumes nothing.
 use Prim.Native.Nat.{ℕ, zero, suc, ◌+◌, ◌-◌, ◌<◌, ◌≤◌, max}
 use mathlib.Core.Path.{◌≡◌, refl, sym, ap, ◌∙◌}
@@ -287,40 +287,40 @@ module _ (l : ℕ) (s : List ℕ) (h : 0 < length s) (p : 0 < l) where
     unfolding operands
     off k e = there (get_or s 0 0) (length s - 1) (of_value k) e o
 
-    off-drop : (k : ValueKind) → kind_of (get_or s 0 0) ≡ of_value k → operands_v k ≤ length (drop 1 s)
-    off-drop k e = simp length-drop (off k e)
+    off_drop : (k : ValueKind) → kind_of (get_or s 0 0) ≡ of_value k → operands_v k ≤ length (drop 1 s)
+    off_drop k e = simp length-drop (off k e)
 
-    wide-as : (k : ValueKind) → kind_of (get_or s 0 0) ≡ of_value k → width_of (get_or s 0 0) ≡ operands_v k
+    wide_as : (k : ValueKind) → kind_of (get_or s 0 0) ≡ of_value k → width_of (get_or s 0 0) ≡ operands_v k
     unfolding operands
-    wide-as k e = width_is (get_or s 0 0) (of_value k) e
+    wide_as k e = width_is (get_or s 0 0) (of_value k) e
 
-    pub v-built-in-is : kind_of (get_or s 0 0) ≡ of_value k_built_in → walk_of level_v (read_v l s) ≡ flag_walk (get_or s 1 0) 85 2
+    pub v_built_in_is : kind_of (get_or s 0 0) ≡ of_value k_built_in → walk_of level_v (read_v l s) ≡ flag_walk (get_or s 1 0) 85 2
     unfolding step_value operands_v level_v
-    v-built-in-is e = v_kind k_built_in e ∙ rw (← get_or-drop 1 s 0 0) (flag_is 85 v_built_in (λ x. refl) (drop 1 s) (off-drop k_built_in e))
+    v_built_in_is e = v_kind k_built_in e ∙ rw (← get_or-drop 1 s 0 0) (flag_is 85 v_built_in (λ x. refl) (drop 1 s) (off_drop k_built_in e))
 
     -- a leaf of data: its last operand byte is within its bound. That of a number, a text or a temporal is any byte
-    flag-here : (m n : ℕ) → walk_of level_v (read_v l s) ≡ flag_walk (get_or s n 0) m (n + 1) → width_of (get_or s 0 0) ≡ n → operand_end (get_or s 0 0) ≡ m
+    flag_here : (m n : ℕ) → walk_of level_v (read_v l s) ≡ flag_walk (get_or s n 0) m (n + 1) → width_of (get_or s 0 0) ≡ n → operand_end (get_or s 0 0) ≡ m
         → walk_of level_v (read_v l s) ≡ flag_walk (get_or s (width_of (get_or s 0 0)) 0) (operand_end (get_or s 0 0)) (width_of (get_or s 0 0) + 1)
-    flag-here m n e w o = rw (w, o) e
+    flag_here m n e w o = rw (w, o) e
 
     module _ (y : get_or s (width_of (get_or s 0 0)) 0 ≤ 255) where
-      any-byte : operand_end (get_or s 0 0) ≡ 255 → walk_of level_v (read_v l s) ≡ walk.End (width_of (get_or s 0 0) + 1) 1
+      any_byte : operand_end (get_or s 0 0) ≡ 255 → walk_of level_v (read_v l s) ≡ walk.End (width_of (get_or s 0 0) + 1) 1
           → walk_of level_v (read_v l s) ≡ flag_walk (get_or s (width_of (get_or s 0 0)) 0) (operand_end (get_or s 0 0)) (width_of (get_or s 0 0) + 1)
-      any-byte o e = rw (o, le-leb (get_or s (width_of (get_or s 0 0)) 0) 255 y) e
+      any_byte o e = rw (o, le-leb (get_or s (width_of (get_or s 0 0)) 0) 255 y) e
 
       leaf_kind : (k : ValueKind) → ViewV (get_or s 0 0) k → kind_of (get_or s 0 0) ≡ of_value k → is_leaf_command (get_or s 0 0) ≡ true
           → walk_of level_v (read_v l s) ≡ flag_walk (get_or s (width_of (get_or s 0 0)) 0) (operand_end (get_or s 0 0)) (width_of (get_or s 0 0) + 1)
       unfolding step_value operands_v level_v operand_end
       leaf_kind k (is_null e) f i =
-          flag-here 3 1 (v_kind k_null f ∙ rw (← get_or-drop 1 s 0 0) (flag_is 3 (λ x. v_leaf (l_null x)) (λ x. refl) (drop 1 s) (off-drop k_null f))) (wide-as k_null f) (ap operand_end e)
+          flag_here 3 1 (v_kind k_null f ∙ rw (← get_or-drop 1 s 0 0) (flag_is 3 (λ x. v_leaf (l_null x)) (λ x. refl) (drop 1 s) (off_drop k_null f))) (wide_as k_null f) (ap operand_end e)
       leaf_kind k (is_boolean e) f i =
-          flag-here 1 1 (v_kind k_boolean f ∙ rw (← get_or-drop 1 s 0 0) (flag_is 1 (λ x. v_leaf (l_boolean (eqb x 1))) (λ x. refl) (drop 1 s) (off-drop k_boolean f))) (wide-as k_boolean f)
+          flag_here 1 1 (v_kind k_boolean f ∙ rw (← get_or-drop 1 s 0 0) (flag_is 1 (λ x. v_leaf (l_boolean (eqb x 1))) (λ x. refl) (drop 1 s) (off_drop k_boolean f))) (wide_as k_boolean f)
           (ap operand_end e)
-      leaf_kind k (is_number e) f i = any-byte (ap operand_end e) (v_kind k_number f ∙ key_is 8 (λ x. v_leaf (l_number x)) (λ x. refl) s (off k_number f) _ (wide-as k_number f))
-      leaf_kind k (is_string e) f i = any-byte (ap operand_end e) (v_kind k_string f ∙ key_is name_width (λ x. v_leaf (l_string x)) (λ x. refl) s (off k_string f) _ (wide-as k_string f))
+      leaf_kind k (is_number e) f i = any_byte (ap operand_end e) (v_kind k_number f ∙ key_is 8 (λ x. v_leaf (l_number x)) (λ x. refl) s (off k_number f) _ (wide_as k_number f))
+      leaf_kind k (is_string e) f i = any_byte (ap operand_end e) (v_kind k_string f ∙ key_is name_width (λ x. v_leaf (l_string x)) (λ x. refl) s (off k_string f) _ (wide_as k_string f))
       leaf_kind k (is_temporal a b) f i =
-          any-byte (rw (ne_eqb (get_or s 0 0) 0 (λ e. omega arith), ne_eqb (get_or s 0 0) 1 (λ e. omega arith), ne_eqb (get_or s 0 0) 16 (λ e. omega arith)))
-          (v_kind k_temporal f ∙ key_is 8 (λ x. v_leaf (l_temporal (decode_temporal (get_or s 0 0 - 0x04)) x)) (λ x. refl) s (off k_temporal f) _ (wide-as k_temporal f))
+          any_byte (rw (ne_eqb (get_or s 0 0) 0 (λ e. omega arith), ne_eqb (get_or s 0 0) 1 (λ e. omega arith), ne_eqb (get_or s 0 0) 16 (λ e. omega arith)))
+          (v_kind k_temporal f ∙ key_is 8 (λ x. v_leaf (l_temporal (decode_temporal (get_or s 0 0 - 0x04)) x)) (λ x. refl) s (off k_temporal f) _ (wide_as k_temporal f))
       leaf_kind k (is_range e) f i = absurd (false≢true (no_leaf e i))
       leaf_kind k (is_list e) f i = absurd (false≢true (no_leaf e i))
       leaf_kind k (is_context e) f i = absurd (false≢true (no_leaf e i))
@@ -328,45 +328,45 @@ module _ (l : ℕ) (s : List ℕ) (h : 0 < length s) (p : 0 < l) where
       leaf_kind k (is_built_in e) f i = absurd (false≢true (no_leaf e i))
       leaf_kind k (is_feel_type e) f i = absurd (false≢true (no_leaf e i))
       leaf_kind k (is_irrelevant e) f i = absurd (false≢true (no_leaf e i))
-      leaf_kind k (is_decimal e) f i = flag-here most_exponent 9 (v_kind k_decimal f ∙ decimal_is s (off k_decimal f)) (wide-as k_decimal f) (ap operand_end e)
+      leaf_kind k (is_decimal e) f i = flag_here most_exponent 9 (v_kind k_decimal f ∙ decimal_is s (off k_decimal f)) (wide_as k_decimal f) (ap operand_end e)
 
-      leaf-view : (j : Kind) → View (get_or s 0 0) j → kind_of (get_or s 0 0) ≡ j → is_leaf_command (get_or s 0 0) ≡ true
+      leaf_view : (j : Kind) → View (get_or s 0 0) j → kind_of (get_or s 0 0) ≡ j → is_leaf_command (get_or s 0 0) ≡ true
           → walk_of level_v (read_v l s) ≡ flag_walk (get_or s (width_of (get_or s 0 0)) 0) (operand_end (get_or s 0 0)) (width_of (get_or s 0 0) + 1)
-      leaf-view j (is_value k v) f i = leaf_kind k v f i
-      leaf-view j (is_type k v) f i = let t = type_within (get_or s 0 0) k v in absurd (beyond_leaf (get_or s 0 0) (omega arith) i)
-      leaf-view j (is_gap a b) f i = absurd (beyond_leaf (get_or s 0 0) a i)
-      leaf-view j (is_beyond a) f i = absurd (beyond_leaf (get_or s 0 0) (omega arith) i)
+      leaf_view j (is_value k v) f i = leaf_kind k v f i
+      leaf_view j (is_type k v) f i = let t = type_within (get_or s 0 0) k v in absurd (beyond_leaf (get_or s 0 0) (omega arith) i)
+      leaf_view j (is_gap a b) f i = absurd (beyond_leaf (get_or s 0 0) a i)
+      leaf_view j (is_beyond a) f i = absurd (beyond_leaf (get_or s 0 0) (omega arith) i)
 
-      pub v-leaf-is : is_leaf_command (get_or s 0 0) ≡ true → walk_of level_v (read_v l s) ≡ flag_walk (get_or s (width_of (get_or s 0 0)) 0) (operand_end (get_or s 0 0)) (width_of (get_or s 0 0) + 1)
-      v-leaf-is i = leaf-view (kind_of (get_or s 0 0)) (view (get_or s 0 0)) refl i
+      pub v_leaf_is : is_leaf_command (get_or s 0 0) ≡ true → walk_of level_v (read_v l s) ≡ flag_walk (get_or s (width_of (get_or s 0 0)) 0) (operand_end (get_or s 0 0)) (width_of (get_or s 0 0) + 1)
+      v_leaf_is i = leaf_view (kind_of (get_or s 0 0)) (view (get_or s 0 0)) refl i
 
-    pub v-range-is : kind_of (get_or s 0 0) ≡ of_value k_range → get_or s 1 0 ≤ 3 → get_or s 2 0 ≤ 3 → walk_of level_v (read_v l s) ≡ up 3 (walk_by level_vals 0 0 (read_vals (read_v (l - 1)) 2 (drop 3 s)))
+    pub v_range_is : kind_of (get_or s 0 0) ≡ of_value k_range → get_or s 1 0 ≤ 3 → get_or s 2 0 ≤ 3 → walk_of level_v (read_v l s) ≡ up 3 (walk_by level_vals 0 0 (read_vals (read_v (l - 1)) 2 (drop 3 s)))
     unfolding step_value operands_v
-    v-range-is e x y =
+    v_range_is e x y =
         v_kind k_range e ∙
         rw (two_are (read_v (l - 1)) (drop 3 s), ← drop-drop 2 1 s)
-        (range_is (read_v (l - 1)) (drop 1 s) (off-drop k_range e) (rw get_or-drop x) (rw get_or-drop y))
+        (range_is (read_v (l - 1)) (drop 1 s) (off_drop k_range e) (rw get_or-drop x) (rw get_or-drop y))
 
-    pub v-range-first : kind_of (get_or s 0 0) ≡ of_value k_range → 3 < get_or s 1 0 → walk_of level_v (read_v l s) ≡ walk.Stop Shape
+    pub v_range_first : kind_of (get_or s 0 0) ≡ of_value k_range → 3 < get_or s 1 0 → walk_of level_v (read_v l s) ≡ walk.Stop Shape
     unfolding step_value operands_v
-    v-range-first e x = v_kind k_range e ∙ range_first (read_v (l - 1)) (drop 1 s) (off-drop k_range e) (rw get_or-drop x)
+    v_range_first e x = v_kind k_range e ∙ range_first (read_v (l - 1)) (drop 1 s) (off_drop k_range e) (rw get_or-drop x)
 
-    pub v-range-second : kind_of (get_or s 0 0) ≡ of_value k_range → get_or s 1 0 ≤ 3 → 3 < get_or s 2 0 → walk_of level_v (read_v l s) ≡ walk.Stop Shape
+    pub v_range_second : kind_of (get_or s 0 0) ≡ of_value k_range → get_or s 1 0 ≤ 3 → 3 < get_or s 2 0 → walk_of level_v (read_v l s) ≡ walk.Stop Shape
     unfolding step_value operands_v
-    v-range-second e x y = v_kind k_range e ∙ range_second (read_v (l - 1)) (drop 1 s) (off-drop k_range e) (rw get_or-drop x) (rw get_or-drop y)
+    v_range_second e x y = v_kind k_range e ∙ range_second (read_v (l - 1)) (drop 1 s) (off_drop k_range e) (rw get_or-drop x) (rw get_or-drop y)
 
-    pub v-list-is : (m : ℕ) → m ≡ num_at 2 1 s → kind_of (get_or s 0 0) ≡ of_value k_list → walk_of level_v (read_v l s) ≡ up 3 (walk_by level_vals 0 0 (read_vals (read_v (l - 1)) m (drop 3 s)))
+    pub v_list_is : (m : ℕ) → m ≡ num_at 2 1 s → kind_of (get_or s 0 0) ≡ of_value k_list → walk_of level_v (read_v l s) ≡ up 3 (walk_by level_vals 0 0 (read_vals (read_v (l - 1)) m (drop 3 s)))
     unfolding step_value operands_v level_v
-    v-list-is m me e = v_kind k_list e ∙ counted_is level_vals level_v v_list (λ x. refl) (λ c r. read_vals (read_v (l - 1)) c r) s m me (off k_list e)
+    v_list_is m me e = v_kind k_list e ∙ counted_is level_vals level_v v_list (λ x. refl) (λ c r. read_vals (read_v (l - 1)) c r) s m me (off k_list e)
 
-    pub v-context-is : (m : ℕ) → m ≡ num_at 2 1 s → kind_of (get_or s 0 0) ≡ of_value k_context → walk_of level_v (read_v l s) ≡ up 3 (walk_by level_entries 0 0 (read_entries (read_v (l - 1)) m 0 (drop 3 s)))
+    pub v_context_is : (m : ℕ) → m ≡ num_at 2 1 s → kind_of (get_or s 0 0) ≡ of_value k_context → walk_of level_v (read_v l s) ≡ up 3 (walk_by level_entries 0 0 (read_entries (read_v (l - 1)) m 0 (drop 3 s)))
     unfolding step_value operands_v level_v
-    v-context-is m me e = v_kind k_context e ∙ counted_is level_entries level_v v_context (λ x. refl) (λ c r. read_entries (read_v (l - 1)) c 0 r) s m me (off k_context e)
+    v_context_is m me e = v_kind k_context e ∙ counted_is level_entries level_v v_context (λ x. refl) (λ c r. read_entries (read_v (l - 1)) c 0 r) s m me (off k_context e)
 
-    pub v-definition : (c : ℕ) → c ≡ get_or s 1 0 → kind_of (get_or s 0 0) ≡ of_value k_definition
+    pub v_definition : (c : ℕ) → c ≡ get_or s 1 0 → kind_of (get_or s 0 0) ≡ of_value k_definition
         → walk_of level_v (read_v l s) ≡ up 4 (pair_walk level level_params (drop 4 s) (read_params (read_t (l - 1)) c 0) (read_t (l - 1) (drop 4 s)))
     unfolding step_value operands_v
-    v-definition c ce e = v_kind k_definition e ∙ rw ce (definition_is (read_t (l - 1)) s (off k_definition e))
+    v_definition c ce e = v_kind k_definition e ∙ rw ce (definition_is (read_t (l - 1)) s (off k_definition e))
 
 -- ---- the short way past a leaf of data
 end_small : (b : ℕ) → operand_end b ≤ 255
@@ -383,4 +383,4 @@ pub leaf_is : (l : ℕ) (s : List ℕ) → 0 < length s → 0 < l → width_of (
     → walk_of level_v (read_v l s) ≡ walk.End (width_of (get_or s 0 0) + 1) 1
 leaf_is l s h p o q i =
     let y : get_or s (width_of (get_or s 0 0)) 0 ≤ 255 = omega (arith, end_small (get_or s 0 0)) in
-    v-leaf-is l s h p o y i ∙ rw (le-leb (get_or s (width_of (get_or s 0 0)) 0) (operand_end (get_or s 0 0)) q)
+    v_leaf_is l s h p o y i ∙ rw (le-leb (get_or s (width_of (get_or s 0 0)) 0) (operand_end (get_or s 0 0)) q)

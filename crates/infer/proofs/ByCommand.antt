@@ -1,6 +1,6 @@
 -- What the writer of a value's type asks and leaves, by the value's command.
 -- Idea: every built value is one case: a part of the value is written behind a front that stands already (`Under`).
--- Index: `Under`, `under_head`, `under_room`, `under_free`, `under-read`, `under-wrote`, `under-kept`, `under-done`, `Part`, `part_fits` (the one case); `in_range`, `in_list`, `in_context`,
+-- Index: `Under`, `under_head`, `under_room`, `under_free`, `under_read`, `under_wrote`, `under_kept`, `under_done`, `Part`, `part_fits` (the one case); `in_range`, `in_list`, `in_context`,
 -- `in_definition`, `in_type`, `type_done` (built values); `leaf_done`, `other_done` (one byte); `plain_free`, `plain_put`, `plain_told` (the short way past a leaf).
 -- Assumes nothing.
 use Prim.Native.Nat.{ℕ, ◌+◌, ◌-◌, ◌/◌, ◌%◌, ◌<◌, ◌≤◌}
@@ -22,7 +22,7 @@ use Rattle.form.proofs.Exact.{bytes_drop}
 use Rattle.form.proofs.Runs.{rest, length_rest}
 use Rattle.order.specs.Order.{Order}
 use Rattle.order.specs.Size.{size, size_val, size_vals, size_entries}
-use Rattle.order.specs.Values.{leaf_type, isDataBy, areData, holdData}
+use Rattle.order.specs.Values.{leaf_type, is_data_by, are_data, hold_data}
 use Rattle.order.proofs.Bools.{and_true}
 use Rattle.order.proofs.Ends.{Ends}
 use Rattle.order.proofs.Size.{length_enc, size_positive}
@@ -67,26 +67,26 @@ module _ {O : Order} {m : Bool} {l : ℕ} {s old : List ℕ} {X : Type 0} {sz : 
     abbrev W : Wrote sz text U.x (behind k xs) ys e w
     W = typed_is r U.x (behind k xs) ys e w U.part T
 
-    pub under-read : e + j ≤ length s
-    under-read = omega (arith, W.all, U.sized, v_inside l s U.v U.read)
+    pub under_read : e + j ≤ length s
+    under_read = omega (arith, W.all, U.sized, v_inside l s U.v U.read)
 
-    all-long : w + k ≡ length (type_text O m U.v)
-    all-long = omega (arith, W.long, U.long, ap length U.is, length-append U.front (text U.x))
+    all_long : w + k ≡ length (type_text O m U.v)
+    all_long = omega (arith, W.long, U.long, ap length U.is, length-append U.front (text U.x))
 
-    pub under-wrote : w + k ≤ length s
-    under-wrote = omega (arith, all-long, length_enc (type_by O m U.v), U.short, v_inside l s U.v U.read)
+    pub under_wrote : w + k ≤ length s
+    under_wrote = omega (arith, all_long, length_enc (type_by O m U.v), U.short, v_inside l s U.v U.read)
 
-    pub under-kept : length (put_mid k (length xs - k) xs ys) ≡ length old
-    under-kept = same_len_mid k (length xs - k) xs ys W.kept ∙ U.same
+    pub under_kept : length (put_mid k (length xs - k) xs ys) ≡ length old
+    under_kept = same_len_mid k (length xs - k) xs ys W.kept ∙ U.same
 
-    pub under-done : Typed size_val (type_text O m) (value_at l s) old (put_mid k (length xs - k) xs ys) (e + j) (w + k)
-    under-done =
+    pub under_done : Typed size_val (type_text O m) (value_at l s) old (put_mid k (length xs - k) xs ys) (e + j) (w + k)
+    under_done =
         typed (value_at l s) U.v old (put_mid k (length xs - k) xs ys) (e + j) (w + k) U.read
         (record {
           all = omega (arith, W.all, U.sized);
-          long = all-long;
+          long = all_long;
           out = subst (λ (z : List ℕ). Starts z (put_mid k (length xs - k) xs ys)) (sym U.is) (lent_starts U.front (text U.x) xs ys k U.there U.long W.out);
-          kept = under-kept;
+          kept = under_kept;
         })
 
 -- with what a call on the part asks
@@ -155,7 +155,7 @@ module _ (O : Order) (m : Bool) (l : ℕ) (s : List ℕ) where
 -- ---- the built values
 module _ (O : Order) (m : Bool) (l : ℕ) (s old : List ℕ) (spare : ℕ) (bs : Bytes s) where
   abbrev Given : Val → Type 0
-  Given v = (value_at l s ≡ some v) × (Fits WfV (isDataBy O) size_val m v (length old) spare)
+  Given v = (value_at l s ≡ some v) × (Fits WfV (is_data_by O) size_val m v (length old) spare)
 
   low : (v : Val) → Given v → size (type_by O m v) ≤ size_val v
   low v G = (fine O m v G.1.well (omega (arith, G.1.small))).short
@@ -164,10 +164,10 @@ module _ (O : Order) (m : Bool) (l : ℕ) (s old : List ℕ) (spare : ℕ) (bs :
   one v G = omega (arith, low v G, size_positive (type_by O m v), G.1.roomy)
 
   abbrev Ranges : Type 0
-  Ranges = Part O m l s old spare WfVals (areData O) (λ vs. size_vals vs + 1) size_vals (inner_text O m true) (items_at (l - 1) 2 (behind 3 s)) 3 1 (set old 0 43)
+  Ranges = Part O m l s old spare WfVals (are_data O) (λ vs. size_vals vs + 1) size_vals (inner_text O m true) (items_at (l - 1) 2 (behind 3 s)) 3 1 (set old 0 43)
 
   range_of_lem : (v : Val) → Given v → IsVal l s k_range v → Ranges
-  unfolding enc size_val WfV isDataBy
+  unfolding enc size_val WfV is_data_by
   range_of_lem v G (is_range_lem i j a b c k e) =
       record {
         under = record {
@@ -186,7 +186,7 @@ module _ (O : Order) (m : Bool) (l : ℕ) (s old : List ℕ) (spare : ℕ) (bs :
         };
         fits = record {
           well = (G.1.well.1.1.0, (G.1.well.1.1.1, tt));
-          apt = λ q. ap (λ (z : Bool). isDataBy O a && z) (and_true (isDataBy O b)) ∙ G.1.apt q;
+          apt = λ q. ap (λ (z : Bool). is_data_by O a && z) (and_true (is_data_by O b)) ∙ G.1.apt q;
           roomy = omega (arith, G.1.roomy);
           spared = omega (arith, G.1.spared);
           small = omega (arith, G.1.small);
@@ -194,10 +194,10 @@ module _ (O : Order) (m : Bool) (l : ℕ) (s old : List ℕ) (spare : ℕ) (bs :
       }
 
   abbrev Lists : ℕ → Type 0
-  Lists n = Part O m l s old spare WfVals (areData O) (λ vs. size_vals vs + 1) size_vals (inner_text O m false) (items_at (l - 1) n (behind 3 s)) 3 1 (set old 0 42)
+  Lists n = Part O m l s old spare WfVals (are_data O) (λ vs. size_vals vs + 1) size_vals (inner_text O m false) (items_at (l - 1) n (behind 3 s)) 3 1 (set old 0 42)
 
   list_of : Ends O → (n : ℕ) → n ≡ num_at 2 1 s → (v : Val) → Given v → IsVal l s k_list v → Lists n
-  unfolding enc size_val WfV isDataBy
+  unfolding enc size_val WfV is_data_by
   list_of L n w v G (is_list_lem vs c k e) =
       record {
         under = record {
@@ -227,7 +227,7 @@ module _ (O : Order) (m : Bool) (l : ℕ) (s old : List ℕ) (spare : ℕ) (bs :
   three = set (set (set old 0 44) 1 (get_or s 1 0)) 2 (get_or s 2 0)
 
   abbrev Contexts : ℕ → Type 0
-  Contexts n = Part O m l s old spare (λ es. WfEntries es 0) (holdData O) size_entries size_entries (fields_text O m) (entries_at (l - 1) n 0 (behind 3 s)) 3 3 three
+  Contexts n = Part O m l s old spare (λ es. WfEntries es 0) (hold_data O) size_entries size_entries (fields_text O m) (entries_at (l - 1) n 0 (behind 3 s)) 3 3 three
 
   -- the count is the value's
   context_text_lem : (es : Entries) → value_at l s ≡ some (v_context es) → type_text O m (v_context es) ≡ 44 ∷ get_or s 1 0 ∷ get_or s 2 0 ∷ fields_text O m es
@@ -239,7 +239,7 @@ module _ (O : Order) (m : Bool) (l : ℕ) (s old : List ℕ) (spare : ℕ) (bs :
       ∙ ap₂ (λ (y z : ℕ). 44 ∷ y ∷ z ∷ fields_text O m es) (sym (ap (λ (z : List ℕ). get_or z 1 0) F.bytes)) (sym (ap (λ (z : List ℕ). get_or z 2 0) F.bytes))
 
   context_of_lem : (n : ℕ) → n ≡ num_at 2 1 s → (v : Val) → Given v → IsVal l s k_context v → Contexts n
-  unfolding size_val WfV isDataBy
+  unfolding size_val WfV is_data_by
   context_of_lem n w v G (is_context_lem es c k e) =
       record {
         under = record {
@@ -271,7 +271,7 @@ module _ (O : Order) (m : Bool) (l : ℕ) (s old : List ℕ) (spare : ℕ) (bs :
   abbrev Defines : ℕ → Type 0
   Defines n = Under O m l s old size_definition signature_text (definition_at (l - 1) n (behind 4 s)) 4 2 two
 
-  function_text : (ps : Params) (b : ℕ) (r : Ty) → value_at l s ≡ some (v_function ps b r) → (m ≡ true → isDataBy O (v_function ps b r) ≡ true)
+  function_text : (ps : Params) (b : ℕ) (r : Ty) → value_at l s ≡ some (v_function ps b r) → (m ≡ true → is_data_by O (v_function ps b r) ≡ true)
       → type_text O m (v_function ps b r) ≡ 45 ∷ get_or s 1 0 ∷ signature_text (definition r ps)
   unfolding enc enc_v bytes
   function_text ps b r read d =
@@ -340,7 +340,7 @@ module _ (O : Order) (m : Bool) (l : ℕ) (s old : List ℕ) (spare : ℕ) (bs :
 
 -- ---- by the command, from what was asked
 module _ (O : Order) (m : Bool) (l : ℕ) (s old spare : List ℕ) (p : FitVal O m (value_at l s) (length old) (length spare)) (bs : Bytes s) where
-  abbrev G : Opened WfV (isDataBy O) size_val m (value_at l s) (length old) (length spare)
+  abbrev G : Opened WfV (is_data_by O) size_val m (value_at l s) (length old) (length spare)
   G = open_fit (value_at l s) (length old) (length spare) p
 
   abbrev given : Given O m l s old (length spare) bs G.x
@@ -366,8 +366,8 @@ module _ (O : Order) (m : Bool) (l : ℕ) (s old spare : List ℕ) (p : FitVal O
 
   -- a leaf; b is the command of its type
   module _ (h : is_leaf_command (get_or s 0 0) ≡ true) where
-    pub leaf-ends : width_of (get_or s 0 0) + 1 ≤ length s
-    leaf-ends = simply_ends _ _ (leaf_of O m l s G.x G.read h)
+    pub leaf_ends : width_of (get_or s 0 0) + 1 ≤ length s
+    leaf_ends = simply_ends _ _ (leaf_of O m l s G.x G.read h)
 
     pub leaf_done : (b : ℕ) → b ≡ leaf_type_command (get_or s 0 0) → (k : ℕ) → k ≡ width_of (get_or s 0 0) → Typed size_val (type_text O m) (value_at l s) old (set old 0 b) (k + 1) 1
     leaf_done b t = simply_done b _ (subst (λ (z : ℕ). Simply O m G.x z (width_of (get_or s 0 0))) (sym t) (leaf_of O m l s G.x G.read h))
@@ -377,8 +377,8 @@ module _ (O : Order) (m : Bool) (l : ℕ) (s old spare : List ℕ) (p : FitVal O
       subst (λ (z : ℕ). Typed size_val (type_text O m) (value_at l s) old (set old 0 b) z 1) (sym P.size) (leaf_done (leaf_low (get_or s 0 0) P.low) b t (width_of (get_or s 0 0)) refl)
 
   module _ (other : Other O m l s) where
-    pub other-ends : 9 ≤ get_or s 0 0 → width_of (get_or s 0 0) + 1 ≤ length s
-    other-ends h = simply_ends _ _ (other_of O m l s G.x kind.1 other h)
+    pub other_ends : 9 ≤ get_or s 0 0 → width_of (get_or s 0 0) + 1 ≤ length s
+    other_ends h = simply_ends _ _ (other_of O m l s G.x kind.1 other h)
 
     pub other_done : 9 ≤ get_or s 0 0 → (k : ℕ) → k ≡ width_of (get_or s 0 0) → Typed size_val (type_text O m) (value_at l s) old (set old 0 32) (k + 1) 1
     other_done h = simply_done _ _ (other_of O m l s G.x kind.1 other h)

@@ -1,7 +1,7 @@
 -- The calls behind the reader: refusals in their order, and the answer from the scratch.
 -- Idea: a value's type is no longer than the value, so a scratch of four times its length is enough.
--- Index: `Fine`, `fine`, `fine_ok` (an accepted value); `ask`, `build-long`, `build-scratch`, `build-ask`, `build-inside`, `build-short`, `build-done` (`build_with`);
--- `type_refused`, `type_done`, `least_refused`, `is-data`, `least_other`, `least_done` (the calls).
+-- Index: `Fine`, `fine`, `fine_ok` (an accepted value); `ask`, `build_long`, `build_scratch`, `build_ask`, `build_inside`, `build_short`, `build_done` (`build_with`);
+-- `type_refused`, `type_done`, `least_refused`, `is_data_lem`, `least_other`, `least_done` (the calls).
 -- Assumes nothing.
 use Prim.Native.Nat.{ℕ, ◌*◌, ◌<◌, ◌≤◌}
 use mathlib.Core.Path.{◌≡◌, refl, sym, ap, subst, ◌∙◌}
@@ -24,7 +24,7 @@ use Rattle.form.proofs.ExactValues.{read_enc_v}
 use Rattle.form.proofs.Values.{value_told, value_accepted}
 use Rattle.order.specs.Size.{size_val}
 use Rattle.order.specs.Order.{Order, fixed}
-use Rattle.order.specs.Values.{isDataBy}
+use Rattle.order.specs.Values.{is_data_by}
 use Rattle.order.proofs.LeastSize.{length_enc_v}
 use Rattle.types.specs.At.{Ok}
 use Rattle.types.proofs.Reading.{got_seen, is_ok}
@@ -75,19 +75,19 @@ type_done s k old new r b = b
 
 module _ (O : Order) where
   -- ---- what `build` asks
-  pub ask : (least : Bool) (s : List ℕ) (F : Fine s) → Bytes s → (least ≡ true → isDataBy O F.v ≡ true) → Ready O least s
+  pub ask : (least : Bool) (s : List ℕ) (F : Fine s) → Bytes s → (least ≡ true → is_data_by O F.v ≡ true) → Ready O least s
   unfolding ReadyFor
   ask least s F bs h = (bs, rw F.reads h)
 
-  abbrev ready_fine : (least : Bool) (s : List ℕ) → Ready O least s → (F : Fine s) × (least ≡ true → isDataBy O F.v ≡ true)
+  abbrev ready_fine : (least : Bool) (s : List ℕ) → Ready O least s → (F : Fine s) × (least ≡ true → is_data_by O F.v ≡ true)
   unfolding ReadyFor
   ready_fine least s h = go (read_value s) refl h.1
     where
-      go : (o : Outcome Val) → read_value s ≡ o → ReadyFor O least o → (F : Fine s) × (least ≡ true → isDataBy O F.v ≡ true)
+      go : (o : Outcome Val) → read_value s ≡ o → ReadyFor O least o → (F : Fine s) × (least ≡ true → is_data_by O F.v ≡ true)
       go (done v) e k = (fine_of s h.0 v e, k)
       go (refused n) e k = absurd k
 
-  fit_of : (least : Bool) (x : Option Val) (v : Val) (room spare : ℕ) → x ≡ some v → Fits WfV (isDataBy O) size_val least v room spare → FitVal O least x room spare
+  fit_of : (least : Bool) (x : Option Val) (v : Val) (room spare : ℕ) → x ≡ some v → Fits WfV (is_data_by O) size_val least v room spare → FitVal O least x room spare
   unfolding Fitting
   fit_of least x v room spare e h = rw e h
 
@@ -99,12 +99,12 @@ module _ (O : Order) where
     abbrev F : Fine s
     F = (ready_fine least s h).0
 
-    pub build-long : length s ≤ most_bytes
-    build-long = F.short
+    pub build_long : length s ≤ most_bytes
+    build_long = F.short
 
-    pub build-scratch : k < 4 * length s → Built (type_call O least s k (length old)) old old (written_is.Refused 14)
+    pub build_scratch : k < 4 * length s → Built (type_call O least s k (length old)) old old (written_is.Refused 14)
     unfolding type_call ◌>>=◌ ◌>>◌
-    build-scratch l = built_refused (type_call O least s k (length old)) 14 old is
+    build_scratch l = built_refused (type_call O least s k (length old)) 14 old is
       where
         is : type_call O least s k (length old) ≡ refused 14
         is = rw (F.reads, lt-leb (wanted s) k l)
@@ -114,8 +114,8 @@ module _ (O : Order) where
       unfolding type_call ◌>>=◌ ◌>>◌
       call_is = rw (F.reads, le-leb (wanted s) k l)
 
-      pub build-ask : (spare : ℕ) → length s ≤ spare → FitVal O least (value_at value_levels s) k spare
-      build-ask spare g =
+      pub build_ask : (spare : ℕ) → length s ≤ spare → FitVal O least (value_at value_levels s) k spare
+      build_ask spare g =
           fit_of least (value_at value_levels s) F.v k spare F.there
           (record { well = F.well; apt = (ready_fine least s h).1; roomy = omega (arith, F.sized); spared = omega (arith, F.sized); small = omega (arith, F.sized, F.short) })
 
@@ -127,15 +127,15 @@ module _ (O : Order) where
         unfolding Starts
         part = ap (take w) W.out ∙ onto_front (enc (type_by O least F.v)) sc2 w W.long
 
-        pub build-inside : w ≤ length sc2
+        pub build_inside : w ≤ length sc2
         unfolding Starts onto
-        build-inside = omega (arith, W.long, ap length W.out, length-append (enc (type_by O least F.v)) (drop (length (enc (type_by O least F.v))) sc2))
+        build_inside = omega (arith, W.long, ap length W.out, length-append (enc (type_by O least F.v)) (drop (length (enc (type_by O least F.v))) sc2))
 
-        pub build-short : length old < w → Built (type_call O least s k (length old)) old old (written_is.Refused 18)
-        build-short b = built_short (type_call O least s k (length old)) (enc (type_by O least F.v)) old call_is (omega (arith, W.long))
+        pub build_short : length old < w → Built (type_call O least s k (length old)) old old (written_is.Refused 18)
+        build_short b = built_short (type_call O least s k (length old)) (enc (type_by O least F.v)) old call_is (omega (arith, W.long))
 
-        pub build-done : (new : List ℕ) → w ≤ length old → new ≡ onto (take w sc2) old → Built (type_call O least s k (length old)) old new (written_is.Bytes w)
-        build-done new b o = built_wrote (type_call O least s k (length old)) (enc (type_by O least F.v)) old new w call_is W.long (omega (arith, W.long))
+        pub build_done : (new : List ℕ) → w ≤ length old → new ≡ onto (take w sc2) old → Built (type_call O least s k (length old)) old new (written_is.Bytes w)
+        build_done new b o = built_wrote (type_call O least s k (length old)) (enc (type_by O least F.v)) old new w call_is W.long (omega (arith, W.long))
             (o ∙ ap (λ (z : List ℕ). onto z old) part)
 
   pub least_refused : (s : List ℕ) (n k : ℕ) (old : List ℕ) → read_value s ≡ refused n → Built (least_type_by O s k (length old)) old old (written_is.Refused n)
@@ -145,21 +145,21 @@ module _ (O : Order) where
       is : least_type_by O s k (length old) ≡ refused n
       is = rw e
 
-  module _ (s : List ℕ) (F : Fine s) (d : Data) (e : d ≡ data_by (isDataBy O) size_val (value_at value_levels s)) where
-    is-told : d ≡ cond (isDataBy O F.v) (Yes (size_val F.v)) No
-    is-told = e ∙ by_got (isDataBy O) size_val (value_at value_levels s) F.v F.there
+  module _ (s : List ℕ) (F : Fine s) (d : Data) (e : d ≡ data_by (is_data_by O) size_val (value_at value_levels s)) where
+    is_told : d ≡ cond (is_data_by O F.v) (Yes (size_val F.v)) No
+    is_told = e ∙ by_got (is_data_by O) size_val (value_at value_levels s) F.v F.there
 
-    pub is-data : (n : ℕ) → d ≡ Yes n → isDataBy O F.v ≡ true
-    is-data n p = (told_yes (isDataBy O F.v) (size_val F.v) n (sym is-told ∙ p)).0
+    pub is_data_lem : (n : ℕ) → d ≡ Yes n → is_data_by O F.v ≡ true
+    is_data_lem n p = (told_yes (is_data_by O F.v) (size_val F.v) n (sym is_told ∙ p)).0
 
     pub least_other : d ≡ No → (k : ℕ) (old : List ℕ) → Built (least_type_by O s k (length old)) old old (written_is.Refused 13)
     unfolding least_type_by ◌>>=◌ ◌>>◌
     least_other p k old = built_refused (least_type_by O s k (length old)) 13 old is
       where
         is : least_type_by O s k (length old) ≡ refused 13
-        is = rw (F.reads, told_no (isDataBy O F.v) (size_val F.v) (sym is-told ∙ p))
+        is = rw (F.reads, told_no (is_data_by O F.v) (size_val F.v) (sym is_told ∙ p))
 
-  pub least_done : (s : List ℕ) (F : Fine s) → isDataBy O F.v ≡ true → (k : ℕ) (old new : List ℕ) (r : Written) → Built (type_call O true s k (length old)) old new r
+  pub least_done : (s : List ℕ) (F : Fine s) → is_data_by O F.v ≡ true → (k : ℕ) (old new : List ℕ) (r : Written) → Built (type_call O true s k (length old)) old new r
       → Built (least_type_by O s k (length old)) old new r
   unfolding type_call least_type_by ◌>>=◌ ◌>>◌
   least_done s F h k old new r b = subst (λ o. Built o old new r) is b

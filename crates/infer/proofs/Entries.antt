@@ -1,7 +1,7 @@
 -- The loop that writes the entries of a context: what is left of them, and what stands at the front of the output.
 -- Idea: what was written and the text of what is left make the text of all entries (`EntriesInv`).
--- Index: `EntriesInv`, `entries_start`, `entries_done`; `entry-name`, `entry_room`, `entry-fits`, `name-len`, `entry_read`, `entry-wrote`, `entry_next` (an entry);
--- `entry_some`, `entry-byte`, `entry_free`, `entry-leaf-read`, `entry-leaf-wrote`, `entry-leaf` (an entry that is a leaf).
+-- Index: `EntriesInv`, `entries_start`, `entries_done`; `entry_name`, `entry_room`, `entry_fits`, `name_len`, `entry_read`, `entry_wrote`, `entry_next` (an entry);
+-- `entry_some`, `entry_byte`, `entry_free`, `entry_leaf_read`, `entry_leaf_wrote`, `entry_leaf` (an entry that is a leaf).
 -- Assumes nothing.
 use Prim.Native.Nat.{ℕ, suc, ◌+◌, ◌-◌, ◌<◌, ◌≤◌}
 use mathlib.Core.Path.{◌≡◌, refl, sym, ap, subst, ◌∙◌}
@@ -20,7 +20,7 @@ use Rattle.form.proofs.Numbers.{length_bytes}
 use Rattle.form.proofs.Runs.{length_rest}
 use Rattle.order.specs.Order.{Order}
 use Rattle.order.specs.Size.{size_val, size_entries}
-use Rattle.order.specs.Values.{isDataBy, holdData}
+use Rattle.order.specs.Values.{is_data_by, hold_data}
 use Rattle.order.proofs.Size.{length_enc}
 use Rattle.types.proofs.ChildAt.{entry_behind}
 use Rattle.types.proofs.Entries.{enc_field, enc_none}
@@ -48,7 +48,7 @@ pub record EntriesInv (O : Order) (m : Bool) (l : ℕ) (v : List ℕ) (n : ℕ) 
   pub text : done ++ fields_text O m left ≡ fields_text O m whole
   pub long : length done ≡ to
   pub low : to ≤ at
-  pub apt : m ≡ true → holdData O left ≡ true
+  pub apt : m ≡ true → hold_data O left ≡ true
   pub room : size_entries whole ≤ length old
   pub spared : size_entries whole ≤ length spare₀
   pub small : size_entries whole ≤ most_bytes
@@ -95,17 +95,17 @@ module _ {O : Order} {m : Bool} {l : ℕ} {s : List ℕ} {n : ℕ} {old spare₀
     texts : fields_text O m Q.left ≡ bytes name_width H.name ++ (type_text O m H.x ++ fields_text O m H.more)
     texts = ap (fields_text O m) H.is ∙ ap enc_fields (fields_entry O m H.name H.x H.more) ∙ enc_field H.name (type_by O m H.x) (fields_by O m H.more)
 
-    apt : (m ≡ true → isDataBy O H.x ≡ true) × (m ≡ true → holdData O H.more ≡ true)
-    apt = data_entry O m H.name H.x H.more (λ q. ap (holdData O) (sym H.is) ∙ Q.apt q)
+    apt : (m ≡ true → is_data_by O H.x ≡ true) × (m ≡ true → hold_data O H.more ≡ true)
+    apt = data_entry O m H.name H.x H.more (λ q. ap (hold_data O) (sym H.is) ∙ Q.apt q)
 
-    pub entry-name : at + name_width ≤ length s
-    entry-name = H.two
+    pub entry_name : at + name_width ≤ length s
+    entry_name = H.two
 
     pub entry_room : to + name_width ≤ length out
     entry_room = omega (arith, Q.room, Q.out_len, Q.low, Q.sized, H.sized)
 
-    pub entry-fits : (xs : List ℕ) → length xs ≡ length out → FitVal O m (value_at l (behind (at + name_width) s)) (length (behind (to + name_width) xs)) (length spare)
-    entry-fits xs e =
+    pub entry_fits : (xs : List ℕ) → length xs ≡ length out → FitVal O m (value_at l (behind (at + name_width) s)) (length (behind (to + name_width) xs)) (length spare)
+    entry_fits xs e =
         fit (value_at l (behind (at + name_width) s)) H.x (length (behind (to + name_width) xs)) (length spare) (entry_behind H)
         (record {
           well = well;
@@ -115,8 +115,8 @@ module _ {O : Order} {m : Bool} {l : ℕ} {s : List ℕ} {n : ℕ} {old spare₀
           small = omega (arith, Q.small, Q.sized, H.sized);
         })
 
-    pub name-len : (xs : List ℕ) → xs ≡ over to (bytes name_width (num_at name_width at s)) out → length xs ≡ length out
-    name-len xs named = ap length named ∙ length_over to (bytes name_width (num_at name_width at s)) out (omega (arith, length_bytes name_width (num_at name_width at s), entry_room))
+    pub name_len : (xs : List ℕ) → xs ≡ over to (bytes name_width (num_at name_width at s)) out → length xs ≡ length out
+    name_len xs named = ap length named ∙ length_over to (bytes name_width (num_at name_width at s)) out (omega (arith, length_bytes name_width (num_at name_width at s), entry_room))
 
     -- the name was copied, and the type written behind it
     module _ (xs ys : List ℕ) (e w : ℕ) (named : xs ≡ over to (bytes name_width (num_at name_width at s)) out)
@@ -130,8 +130,8 @@ module _ {O : Order} {m : Bool} {l : ℕ} {s : List ℕ} {n : ℕ} {old spare₀
       short : w ≤ e
       short = omega (arith, W.all, W.long, length_enc (type_by O m H.x), (fine O m H.x well (omega (arith, Q.small, Q.sized, H.sized))).short)
 
-      pub entry-wrote : to + name_width + w ≤ length s
-      entry-wrote = omega (arith, short, Q.low, entry_read)
+      pub entry_wrote : to + name_width + w ≤ length s
+      entry_wrote = omega (arith, short, Q.low, entry_read)
 
       pub entry_next : (sp : List ℕ) → length sp ≡ length spare → EntriesInv O m l s n old spare₀ (put_mid (to + name_width) (length xs - (to + name_width)) xs ys) sp (at + name_width + e)
           (to + name_width + w) (i + 1)
@@ -160,7 +160,7 @@ module _ {O : Order} {m : Bool} {l : ℕ} {s : List ℕ} {n : ℕ} {old spare₀
             room = Q.room;
             spared = Q.spared;
             small = Q.small;
-            out_len = same_len_mid (to + name_width) (length xs - (to + name_width)) xs ys W.kept ∙ name-len xs named ∙ Q.out_len;
+            out_len = same_len_mid (to + name_width) (length xs - (to + name_width)) xs ys W.kept ∙ name_len xs named ∙ Q.out_len;
             spare_len = k ∙ Q.spare_len;
             state = lent_starts p (type_text O m H.x) xs ys (to + name_width) sx lp W.out;
           }
@@ -169,12 +169,12 @@ module _ {O : Order} {m : Bool} {l : ℕ} {s : List ℕ} {n : ℕ} {old spare₀
     pub entry_some : 0 < length (behind (at + name_width) s)
     entry_some = some_byte l (behind (at + name_width) s) H.x (entry_behind H)
 
-    pub entry-byte : at + name_width < length s
-    entry-byte = omega (arith, entry_some, length_rest s (at + name_width))
+    pub entry_byte : at + name_width < length s
+    entry_byte = omega (arith, entry_some, length_rest s (at + name_width))
 
     module _ (xs : List ℕ) (named : xs ≡ over to (bytes name_width (num_at name_width at s)) out) where
       abbrev fits : FitVal O m (value_at l (behind (at + name_width) s)) (length (behind (to + name_width) xs)) (length spare)
-      fits = entry-fits xs (name-len xs named)
+      fits = entry_fits xs (name_len xs named)
 
       pub entry_free : to + name_width < length xs
       entry_free = plain_free O m l s (at + name_width) xs (to + name_width) spare fits bs
@@ -184,14 +184,14 @@ module _ {O : Order} {m : Bool} {l : ℕ} {s : List ℕ} {n : ℕ} {old spare₀
         told : Typed size_val (type_text O m) (value_at l (behind (at + name_width) s)) (behind (to + name_width) xs) (set (behind (to + name_width) xs) 0 b) k 1
         told = plain_told O m l s (at + name_width) xs (to + name_width) spare fits bs b t k P
 
-        pub entry-leaf-read : at + name_width + k ≤ length s
-        entry-leaf-read = entry_read xs (set (behind (to + name_width) xs) 0 b) k 1 named told
+        pub entry_leaf_read : at + name_width + k ≤ length s
+        entry_leaf_read = entry_read xs (set (behind (to + name_width) xs) 0 b) k 1 named told
 
-        pub entry-leaf-wrote : to + name_width + 1 ≤ length s
-        entry-leaf-wrote = entry-wrote xs (set (behind (to + name_width) xs) 0 b) k 1 named told
+        pub entry_leaf_wrote : to + name_width + 1 ≤ length s
+        entry_leaf_wrote = entry_wrote xs (set (behind (to + name_width) xs) 0 b) k 1 named told
 
-        pub entry-leaf : EntriesInv O m l s n old spare₀ (set xs (to + name_width) b) spare (at + name_width + k) (to + name_width + 1) (i + 1)
-        entry-leaf =
+        pub entry_leaf : EntriesInv O m l s n old spare₀ (set xs (to + name_width) b) spare (at + name_width + k) (to + name_width + 1) (i + 1)
+        entry_leaf =
             subst (λ (z : List ℕ). EntriesInv O m l s n old spare₀ z spare (at + name_width + k) (to + name_width + 1) (i + 1)) (plain_put O m l s (at + name_width) xs (to + name_width) spare fits bs b)
             (entry_next xs (set (behind (to + name_width) xs) 0 b) k 1 named told spare refl)
 

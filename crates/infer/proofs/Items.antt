@@ -1,7 +1,7 @@
 -- The loop that writes one type for all items: what is left of them, and the type so far at the front of the output.
 -- Idea: the type so far, joined with the types of what is left, is the type of all items (`ItemsInv`).
--- Index: `ItemsInv`, `items_none`, `items-first`, `items_start`, `items_done`; `item_room`, `item-fits`, `item_read`, `item-sides`, `item-reduced`, `item-next` (an item);
--- `item_some`, `item-byte`, `item-free`, `leaf-read`, `leaf-sides`, `leaf-reduced`, `leaf-next` (an item that is a leaf).
+-- Index: `ItemsInv`, `items_none`, `items_first`, `items_start`, `items_done`; `item_room`, `item_fits`, `item_read`, `item_sides`, `item_reduced`, `item_next` (an item);
+-- `item_some`, `item_byte`, `item_free`, `leaf_read`, `leaf_sides`, `leaf_reduced`, `leaf_next` (an item that is a leaf).
 -- Assumes nothing.
 use Prim.Native.Nat.{ℕ, ◌+◌, ◌-◌, ◌<◌, ◌≤◌}
 use mathlib.Core.Path.{◌≡◌, refl, sym, ap, subst, ◌∙◌}
@@ -20,7 +20,7 @@ use Rattle.form.proofs.Runs.{length_rest}
 use Rattle.order.specs.Order.{Order}
 use Rattle.order.specs.Types.{reduce}
 use Rattle.order.specs.Size.{size, size_val, size_vals}
-use Rattle.order.specs.Values.{isDataBy, areData}
+use Rattle.order.specs.Values.{is_data_by, are_data}
 use Rattle.order.proofs.Size.{length_enc}
 use Rattle.types.specs.At.{type_at}
 use Rattle.types.proofs.ChildAt.{item_behind}
@@ -48,7 +48,7 @@ pub record ItemsInv (O : Order) (m equal : Bool) (l : ℕ) (v : List ℕ) (n : �
   pub long : size t ≡ to
   pub low : to ≤ at
   pub levels : level t ≤ type_levels
-  pub apt : m ≡ true → areData O left ≡ true
+  pub apt : m ≡ true → are_data O left ≡ true
   pub room : size_vals whole + 1 ≤ length old
   pub spared : size_vals whole + 1 ≤ length spare₀
   pub small : size_vals whole + 1 ≤ most_bytes
@@ -77,7 +77,7 @@ unfolding taken
 taken_item O m equal t v vs = refl
 
 module _ (O : Order) (m equal : Bool) (l : ℕ) (s : List ℕ) (n : ℕ) (old spare₀ : List ℕ) (p : FitItems O m (items_at l n s) (length old) (length spare₀)) where
-  abbrev K : Opened WfVals (areData O) (λ vs. size_vals vs + 1) m (items_at l n s) (length old) (length spare₀)
+  abbrev K : Opened WfVals (are_data O) (λ vs. size_vals vs + 1) m (items_at l n s) (length old) (length spare₀)
   K = open_fit (items_at l n s) (length old) (length spare₀) p
 
   pub items_one : 1 ≤ length old
@@ -100,18 +100,18 @@ module _ (O : Order) (m equal : Bool) (l : ℕ) (s : List ℕ) (n : ℕ) (old sp
     abbrev F : Nth l (n - (0 + 1)) 0 s K.x
     F = let en : n - 0 ≡ n = omega arith in nth l 0 n 0 s K.x (omega arith) (omega arith) (ap (λ (z : ℕ). items_at l z s) en ∙ K.read)
 
-    first-text : Found enc_v WfV level_v l s F.x (size_val F.x)
-    first-text = encoded l s F.x bs F.first
+    first_text : Found enc_v WfV level_v l s F.x (size_val F.x)
+    first_text = encoded l s F.x bs F.first
 
-    first-apt : (m ≡ true → isDataBy O F.x ≡ true) × (m ≡ true → areData O F.more ≡ true)
-    first-apt = data_item O m F.x F.more (λ q. ap (areData O) (sym F.is) ∙ K.fits.apt q)
+    first_apt : (m ≡ true → is_data_by O F.x ≡ true) × (m ≡ true → are_data O F.more ≡ true)
+    first_apt = data_item O m F.x F.more (λ q. ap (are_data O) (sym F.is) ∙ K.fits.apt q)
 
-    pub items-first : FitVal O m (value_at l s) (length old) (length spare₀)
-    items-first =
+    pub items_first : FitVal O m (value_at l s) (length old) (length spare₀)
+    items_first =
         fit (value_at l s) F.x (length old) (length spare₀) F.first
         (record {
-          well = first-text.well;
-          apt = first-apt.0;
+          well = first_text.well;
+          apt = first_apt.0;
           roomy = omega (arith, K.fits.roomy, F.sized);
           spared = omega (arith, K.fits.spared, F.sized);
           small = omega (arith, K.fits.small, F.sized);
@@ -123,7 +123,7 @@ module _ (O : Order) (m equal : Bool) (l : ℕ) (s : List ℕ) (n : ℕ) (old sp
     pub items_start : (out spare : List ℕ) (e w : ℕ) → Typed size_val (type_text O m) (value_at l s) old out e w → length spare ≡ length spare₀ → ItemsInv O m equal l s n out spare out spare e w 1
     items_start out spare e w T k =
         let W = typed_is (value_at l s) F.x old out e w F.first T in
-        let G = fine O m F.x first-text.well (omega (arith, K.fits.small, F.sized)) in
+        let G = fine O m F.x first_text.well (omega (arith, K.fits.small, F.sized)) in
         let z : 0 + size_val F.x ≡ e = omega (arith, W.all) in
         record {
           whole = K.x;
@@ -139,8 +139,8 @@ module _ (O : Order) (m equal : Bool) (l : ℕ) (s : List ℕ) (n : ℕ) (old sp
           reduced = type_reduced O m F.x;
           long = omega (arith, W.long, length_enc (type_by O m F.x));
           low = omega (arith, W.all, W.long, length_enc (type_by O m F.x), G.short);
-          levels = omega (arith, G.low, first-text.low);
-          apt = first-apt.1;
+          levels = omega (arith, G.low, first_text.low);
+          apt = first_apt.1;
           room = omega (arith, K.fits.roomy, W.kept);
           spared = omega (arith, K.fits.spared, k);
           small = K.fits.small;
@@ -161,11 +161,11 @@ module _ {O : Order} {m equal : Bool} {l : ℕ} {s : List ℕ} {n : ℕ} {old sp
     text : Found enc_v WfV level_v l (drop at s) N.x (size_val N.x)
     text = encoded l (drop at s) N.x (bytes_drop at s bs) N.first
 
-    apt : (m ≡ true → isDataBy O N.x ≡ true) × (m ≡ true → areData O N.more ≡ true)
-    apt = data_item O m N.x N.more (λ q. ap (areData O) (sym N.is) ∙ Q.apt q)
+    apt : (m ≡ true → is_data_by O N.x ≡ true) × (m ≡ true → are_data O N.more ≡ true)
+    apt = data_item O m N.x N.more (λ q. ap (are_data O) (sym N.is) ∙ Q.apt q)
 
-    pub item-fits : FitVal O m (value_at l (behind at s)) (length (behind to out)) (length spare)
-    item-fits =
+    pub item_fits : FitVal O m (value_at l (behind at s)) (length (behind to out)) (length spare)
+    item_fits =
         fit (value_at l (behind at s)) N.x (length (behind to out)) (length spare) (item_behind N)
         (record {
           well = text.well;
@@ -203,31 +203,31 @@ module _ {O : Order} {m equal : Bool} {l : ℕ} {s : List ℕ} {n : ℕ} {old sp
       read_u : type_at type_levels (drop to xs) ≡ some u
       read_u = ap (type_at type_levels) (lent_back (enc Q.t) out ys to Q.state front_long) ∙ starts_read type_levels u ys good.wf (omega (arith, good.low, text.low)) W.out
 
-      xs-len : length xs ≡ length out
-      xs-len = same_len_mid to (length out - to) out ys W.kept
+      xs_len : length xs ≡ length out
+      xs_len = same_len_mid to (length out - to) out ys W.kept
 
-      second-size : w ≡ size u
-      second-size = W.long ∙ length_enc u
+      second_size : w ≡ size u
+      second_size = W.long ∙ length_enc u
 
-      pub item-sides : Sides (type_at type_levels xs) (type_at type_levels (drop to xs)) xs to w (length sp)
-      item-sides =
+      pub item_sides : Sides (type_at type_levels xs) (type_at type_levels (drop to xs)) xs to w (length sp)
+      item_sides =
           sides (type_at type_levels xs) (type_at type_levels (drop to xs)) Q.t u xs to w (length sp) read_t_lem read_u
           (record {
             first = sym Q.long;
-            second = second-size;
-            inside = omega (arith, xs-len, second-size, good.short, Q.room, Q.out_len, Q.low, Q.sized, N.sized);
-            spared = omega (arith, k, second-size, good.short, Q.spared, Q.spare_len, Q.low, Q.sized, N.sized);
-            small = omega (arith, second-size, good.short, Q.small, Q.low, Q.sized, N.sized);
+            second = second_size;
+            inside = omega (arith, xs_len, second_size, good.short, Q.room, Q.out_len, Q.low, Q.sized, N.sized);
+            spared = omega (arith, k, second_size, good.short, Q.spared, Q.spare_len, Q.low, Q.sized, N.sized);
+            small = omega (arith, second_size, good.short, Q.small, Q.low, Q.sized, N.sized);
             wf_first = Q.wf;
             wf_second = good.wf;
           })
 
-      pub item-reduced : Reduced O m (type_at type_levels xs)
-      item-reduced = reduced O m (type_at type_levels xs) Q.t read_t_lem Q.reduced
+      pub item_reduced : Reduced O m (type_at type_levels xs)
+      item_reduced = reduced O m (type_at type_levels xs) Q.t read_t_lem Q.reduced
 
-      pub item-next : (zs sp₂ : List ℕ) (r : ℕ) → Joined O m equal (type_at type_levels xs) (type_at type_levels (drop to xs)) xs zs r → length sp₂ ≡ length sp
+      pub item_next : (zs sp₂ : List ℕ) (r : ℕ) → Joined O m equal (type_at type_levels xs) (type_at type_levels (drop to xs)) xs zs r → length sp₂ ≡ length sp
           → ItemsInv O m equal l s n old spare₀ zs sp₂ (at + e) r (i + 1)
-      item-next zs sp₂ r J k₂ =
+      item_next zs sp₂ r J k₂ =
           let S = joined_is O m equal (type_at type_levels xs) (type_at type_levels (drop to xs)) Q.t u xs zs r read_t_lem read_u J in
           let j = joined O m equal Q.t u in
           record {
@@ -249,7 +249,7 @@ module _ {O : Order} {m equal : Bool} {l : ℕ} {s : List ℕ} {n : ℕ} {old sp
             room = Q.room;
             spared = Q.spared;
             small = Q.small;
-            out_len = S.kept ∙ xs-len ∙ Q.out_len;
+            out_len = S.kept ∙ xs_len ∙ Q.out_len;
             spare_len = k₂ ∙ k ∙ Q.spare_len;
             state = S.out;
           }
@@ -258,11 +258,11 @@ module _ {O : Order} {m equal : Bool} {l : ℕ} {s : List ℕ} {n : ℕ} {old sp
     pub item_some : 0 < length (behind at s)
     item_some = some_byte l (behind at s) N.x (item_behind N)
 
-    pub item-byte : at < length s
-    item-byte = omega (arith, item_some, length_rest s at)
+    pub item_byte : at < length s
+    item_byte = omega (arith, item_some, length_rest s at)
 
-    pub item-free : to < length out
-    item-free = plain_free O m l s at out to spare item-fits bs
+    pub item_free : to < length out
+    item_free = plain_free O m l s at out to spare item_fits bs
 
     -- b is the command of the leaf's type
     module _ (levels : l ≤ value_levels) (b : ℕ) (t : b ≡ leaf_type_command (get_or s at 0)) (k : ℕ) (P : Plain (get_or (behind at s) 0 0) k) where
@@ -270,24 +270,24 @@ module _ {O : Order} {m equal : Bool} {l : ℕ} {s : List ℕ} {n : ℕ} {old sp
       ys = set (behind to out) 0 b
 
       told : Typed size_val (type_text O m) (value_at l (behind at s)) (behind to out) ys k 1
-      told = plain_told O m l s at out to spare item-fits bs b t k P
+      told = plain_told O m l s at out to spare item_fits bs b t k P
 
       put : put_mid to (length out - to) out ys ≡ set out to b
-      put = plain_put O m l s at out to spare item-fits bs b
+      put = plain_put O m l s at out to spare item_fits bs b
 
-      pub leaf-read : at + k ≤ length s
-      leaf-read = item_read levels ys spare k 1 told refl
+      pub leaf_read : at + k ≤ length s
+      leaf_read = item_read levels ys spare k 1 told refl
 
-      pub leaf-sides : Sides (type_at type_levels (set out to b)) (type_at type_levels (drop to (set out to b))) (set out to b) to 1 (length spare)
-      leaf-sides = subst (λ (z : List ℕ). Sides (type_at type_levels z) (type_at type_levels (drop to z)) z to 1 (length spare)) put (item-sides levels ys spare k 1 told refl)
+      pub leaf_sides : Sides (type_at type_levels (set out to b)) (type_at type_levels (drop to (set out to b))) (set out to b) to 1 (length spare)
+      leaf_sides = subst (λ (z : List ℕ). Sides (type_at type_levels z) (type_at type_levels (drop to z)) z to 1 (length spare)) put (item_sides levels ys spare k 1 told refl)
 
-      pub leaf-reduced : Reduced O m (type_at type_levels (set out to b))
-      leaf-reduced = subst (λ (z : List ℕ). Reduced O m (type_at type_levels z)) put (item-reduced levels ys spare k 1 told refl)
+      pub leaf_reduced : Reduced O m (type_at type_levels (set out to b))
+      leaf_reduced = subst (λ (z : List ℕ). Reduced O m (type_at type_levels z)) put (item_reduced levels ys spare k 1 told refl)
 
-      pub leaf-next : (zs sp : List ℕ) (r : ℕ) → Joined O m equal (type_at type_levels (set out to b)) (type_at type_levels (drop to (set out to b))) (set out to b) zs r → length sp ≡ length spare
+      pub leaf_next : (zs sp : List ℕ) (r : ℕ) → Joined O m equal (type_at type_levels (set out to b)) (type_at type_levels (drop to (set out to b))) (set out to b) zs r → length sp ≡ length spare
           → ItemsInv O m equal l s n old spare₀ zs sp (at + k) r (i + 1)
-      leaf-next zs sp r J e =
-          item-next levels ys spare k 1 told refl zs sp r (subst (λ (z : List ℕ). Joined O m equal (type_at type_levels z) (type_at type_levels (drop to z)) z zs r) (sym put) J) e
+      leaf_next zs sp r J e =
+          item_next levels ys spare k 1 told refl zs sp r (subst (λ (z : List ℕ). Joined O m equal (type_at type_levels z) (type_at type_levels (drop to z)) z zs r) (sym put) J) e
 
   pub items_done : n ≤ i → (first : List ℕ) → length old ≡ length first → Typed size_vals (inner_text O m equal) (items_at l n s) first out at to
   items_done h first k =

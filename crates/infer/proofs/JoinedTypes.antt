@@ -1,6 +1,6 @@
 -- Two types that stand one behind the other, joined at the front.
 -- Idea: equal types stay as they are; for the least type their common supertype is written, for the inferred one the first type is kept or Any written.
--- Index: `kept_equal`, `kept-conforms`, `kept-not` (`keeps`); `join-ask`, `keeps_ask`, `sup-inside`, `joined-super`, `joined-first`, `joined_same`, `joined-any` (`join`);
+-- Index: `kept_equal`, `kept_conforms`, `kept_not` (`keeps`); `join_ask`, `keeps_ask`, `sup_inside`, `joined_super`, `joined_first`, `joined_same`, `joined_any` (`join`);
 -- `Two`, `two`, `both_inside`, `first_byte`, `onto_again`, `starts_taken`.
 -- Assumes nothing.
 use Prim.Native.Nat.{ℕ, ◌+◌, ◌-◌, ◌<◌, ◌≤◌}
@@ -116,13 +116,13 @@ module _ (s : List ℕ) (n m spare : ℕ) (h : Sides (type_at type_levels s) (ty
     told : Met (conform_of fixed (type_at type_levels (drop n s)) (type_at type_levels s)) r t
     told = rw (rest s n) at w
 
-    pub kept-conforms : (r ≡ 0 → ⊥) → Kept q (type_at type_levels s) (type_at type_levels (drop n s)) true
-    kept-conforms z =
+    pub kept_conforms : (r ≡ 0 → ⊥) → Kept q (type_at type_levels s) (type_at type_levels (drop n s)) true
+    kept_conforms z =
         is_kept (type_at type_levels s) (type_at type_levels (drop n s)) T.t T.u q true T.read_t_lem T.read_u
         (sym (told_yes size size conforms_to size_positive r t told T.u T.t T.read_u T.read_t_lem z).0 ∙ ap (λ z. keeps_first z T.t T.u) (sym e))
 
-    pub kept-not : r ≡ 0 → Kept q (type_at type_levels s) (type_at type_levels (drop n s)) false
-    kept-not z =
+    pub kept_not : r ≡ 0 → Kept q (type_at type_levels s) (type_at type_levels (drop n s)) false
+    kept_not z =
         is_kept (type_at type_levels s) (type_at type_levels (drop n s)) T.t T.u q false T.read_t_lem T.read_u
         (sym (told_no size size conforms_to size_positive r t told T.u T.t T.read_u T.read_t_lem z) ∙ ap (λ z. keeps_first z T.t T.u) (sym e))
 
@@ -141,13 +141,13 @@ module _ (s : List ℕ) (n m spare : ℕ) (h : Sides (type_at type_levels s) (ty
       })
 
   module _ (O : Order) where
-    sup-size : size (sup O T.t T.u) ≤ n + m
-    sup-size = omega (arith, size_sup O T.t T.u (asc_of T.t T.side.wf_first), T.side.first, T.side.second)
+    sup_size : size (sup O T.t T.u) ≤ n + m
+    sup_size = omega (arith, size_sup O T.t T.u (asc_of T.t T.side.wf_first), T.side.first, T.side.second)
 
-    pub join-ask : Ready (of_types O up) (type_at type_levels s) (type_at type_levels (take (length s - n) (drop n s))) spare
-    join-ask =
+    pub join_ask : Ready (of_types O up) (type_at type_levels s) (type_at type_levels (take (length s - n) (drop n s))) spare
+    join_ask =
         ready (of_types O up) (type_at type_levels s) (type_at type_levels (take (length s - n) (drop n s))) T.t T.u spare T.read_t_lem (ap (type_at type_levels) (rest s n) ∙ T.read_u)
-        (omega (arith, sup-size, T.side.spared)) (omega (arith, sup-size, T.side.small))
+        (omega (arith, sup_size, T.side.spared)) (omega (arith, sup_size, T.side.small))
 
     module _ (sc sc2 : List ℕ) (i j w : ℕ) (sp : spare ≡ length sc) (c : Combined (of_types O up) (type_at type_levels s) (type_at type_levels (take (length s - n) (drop n s))) sc sc2 i j w) where
       W : Wrote (of_types O up) T.t T.u sc sc2 i j w
@@ -156,17 +156,17 @@ module _ (s : List ℕ) (n m spare : ℕ) (h : Sides (type_at type_levels s) (ty
       long : w ≡ length (enc (sup O T.t T.u))
       long = W.long ∙ sym (length_enc (sup O T.t T.u))
 
-      pub sup-spared : w ≤ spare
-      sup-spared = omega (arith, W.long, sup-size, T.side.spared)
+      pub sup_spared : w ≤ spare
+      sup_spared = omega (arith, W.long, sup_size, T.side.spared)
 
-      pub sup-inside : w ≤ length s
-      sup-inside = omega (arith, W.long, sup-size, T.side.inside)
+      pub sup_inside : w ≤ length s
+      sup_inside = omega (arith, W.long, sup_size, T.side.inside)
 
-      pub sup-kept : length sc2 ≡ length sc
-      sup-kept = ap length W.out ∙ length_onto (enc (sup O T.t T.u)) sc (omega (arith, sup-spared, long, sp))
+      pub sup_kept : length sc2 ≡ length sc
+      sup_kept = ap length W.out ∙ length_onto (enc (sup O T.t T.u)) sc (omega (arith, sup_spared, long, sp))
 
-      pub joined-super : (a b : Bool) → a ≡ true → (new : List ℕ) → new ≡ onto (take w sc2) s → Joined O a b (type_at type_levels s) (type_at type_levels (drop n s)) s new w
-      joined-super a b e new o =
+      pub joined_super : (a b : Bool) → a ≡ true → (new : List ℕ) → new ≡ onto (take w sc2) s → Joined O a b (type_at type_levels s) (type_at type_levels (drop n s)) s new w
+      joined_super a b e new o =
           let part : take w sc2 ≡ enc (sup O T.t T.u) = ap (take w) W.out ∙ onto_front (enc (sup O T.t T.u)) sc w long in
           let new_is : new ≡ onto (enc (sup O T.t T.u)) s = o ∙ ap (λ z. onto z s) part in
           is_joined O (type_at type_levels s) (type_at type_levels (drop n s)) T.t T.u a b s new w T.read_t_lem T.read_u
@@ -175,7 +175,7 @@ module _ (s : List ℕ) (n m spare : ℕ) (h : Sides (type_at type_levels s) (ty
             long = long;
             out = subst (Starts (enc (sup O T.t T.u))) (sym new_is) (onto_again (enc (sup O T.t T.u)) s);
             kept = ap length new_is
-                ∙ length_onto (enc (sup O T.t T.u)) s (omega (arith, long, sup-inside));
+                ∙ length_onto (enc (sup O T.t T.u)) s (omega (arith, long, sup_inside));
           }))
 
     joined_by : (a b r : Bool) → a ≡ false → Kept b (type_at type_levels s) (type_at type_levels (drop n s)) r → joined O a b T.t T.u ≡ cond r T.t (leaf any)
@@ -189,9 +189,9 @@ module _ (s : List ℕ) (n m spare : ℕ) (h : Sides (type_at type_levels s) (ty
         is_joined O (type_at type_levels s) (type_at type_levels (drop n s)) T.t T.u a b s s n T.read_t_lem T.read_u
         (subst (λ x. Stands x s s n) (sym e) (record { long = z; out = starts_taken (enc T.t) s n z (first_bytes bs); kept = refl }))
 
-    pub joined-first : Bytes s → (a b r : Bool) → a ≡ false → Kept b (type_at type_levels s) (type_at type_levels (drop n s)) r → r ≡ true
+    pub joined_first : Bytes s → (a b r : Bool) → a ≡ false → Kept b (type_at type_levels s) (type_at type_levels (drop n s)) r → r ≡ true
         → Joined O a b (type_at type_levels s) (type_at type_levels (drop n s)) s s n
-    joined-first bs a b r e k y = stays bs a b (joined_by a b r e k ∙ ap (λ x. cond x T.t (leaf any)) y)
+    joined_first bs a b r e k y = stays bs a b (joined_by a b r e k ∙ ap (λ x. cond x T.t (leaf any)) y)
 
     -- equal types stay as they are
     pub joined_same : Ends O → Bytes s → (a b r : Bool) → Reduced O a (type_at type_levels s) → Kept true (type_at type_levels s) (type_at type_levels (drop n s)) r → r ≡ true
@@ -200,10 +200,10 @@ module _ (s : List ℕ) (n m spare : ℕ) (h : Sides (type_at type_levels s) (ty
         let same : T.t ≡ T.u = eq_ty_same T.t T.u (sym (kept_is (type_at type_levels s) (type_at type_levels (drop n s)) T.t T.u true r T.read_t_lem T.read_u k) ∙ y) in
         stays bs a b (ap (joined O a b T.t) (sym same) ∙ joined_twice L a b T.t T.side.wf_first (reduced_is O (type_at type_levels s) T.t a T.read_t_lem h))
 
-    pub joined-any : (a b r : Bool) → a ≡ false → Kept b (type_at type_levels s) (type_at type_levels (drop n s)) r → r ≡ false
+    pub joined_any : (a b r : Bool) → a ≡ false → Kept b (type_at type_levels s) (type_at type_levels (drop n s)) r → r ≡ false
         → Joined O a b (type_at type_levels s) (type_at type_levels (drop n s)) s (set s 0 32) 1
     unfolding enc
-    joined-any a b r e k y =
+    joined_any a b r e k y =
         is_joined O (type_at type_levels s) (type_at type_levels (drop n s)) T.t T.u a b s (set s 0 32) 1 T.read_t_lem T.read_u
         (subst (λ x. Stands x s (set s 0 32) 1) (sym (joined_by a b r e k ∙ ap (λ x. cond x T.t (leaf any)) y))
         (record { long = refl; out = subst (Starts (32 ∷ [])) (sym (onto_first s 32 first_byte)) (onto_again (32 ∷ []) s); kept = length-set s 0 32 }))

@@ -1,6 +1,6 @@
 -- Whether a value is data, item by item and entry by entry.
 -- Idea: the answer to all items or entries is the answer to those that are left, behind what was passed.
--- Index: `ItemsInv`, `items_start`, `items-again`, `items-no`, `items_done`, `items-leaf` (items); `EntriesInv`, `entries_start`, `entries-again`, `entries-no`, `entries_done`, `entries-leaf`
+-- Index: `ItemsInv`, `items_start`, `items_again`, `items_no`, `items_done`, `items_leaf` (items); `EntriesInv`, `entries_start`, `entries_again`, `entries_no`, `entries_done`, `entries_leaf`
 -- (entries); `leaf_done`, `definition_done`, `definition_no`, `other_done`, `ranges`, `lists`, `contexts`, `run_ok`, `run_done` (a value by its command); `plain`, `same_key` (`leaf`).
 -- Assumes nothing.
 use Prim.Native.Nat.{ℕ, suc, ◌+◌, ◌-◌, ◌<◌, ◌≤◌}
@@ -19,7 +19,7 @@ use Rattle.form.proofs.CommandKinds.{key_width, leaf_wide, leaf_low}
 use Rattle.form.proofs.Runs.{rest}
 use Rattle.order.specs.Order.{Order}
 use Rattle.order.specs.Size.{size_val, size_vals, size_entries}
-use Rattle.order.specs.Values.{isDataBy, areData, holdData}
+use Rattle.order.specs.Values.{is_data_by, are_data, hold_data}
 use Rattle.types.specs.At.{Ok}
 use Rattle.types.proofs.Reading.{is_ok, ok_got}
 use Rattle.types.proofs.ChildAt.{entry_ok}
@@ -90,11 +90,11 @@ module _ {X : Type 0} {test : X → Bool} {sz : X → ℕ} {at : List ℕ → Op
   run_fits d e y q = omega (arith, R.fits, (told_yes (test R.x) (sz R.x) y (sym (run_told d e) ∙ q)).1)
 
   pub run_done : (d r : Data) → r ≡ add_size 3 d → d ≡ data_by test sz (at (take (length s - 3) (drop 3 s))) → r ≡ W
-  run_done d r q e = q ∙ ap (add_size 3) (run_told d e) ∙ grown-told (test R.x) (sz R.x) ∙ sym R.whole
+  run_done d r q e = q ∙ ap (add_size 3) (run_told d e) ∙ grown_told (test R.x) (sz R.x) ∙ sym R.whole
     where
-      grown-told : (b : Bool) (n : ℕ) → add_size 3 (told b n) ≡ told b (n + 3)
-      grown-told true n = refl
-      grown-told false n = refl
+      grown_told : (b : Bool) (n : ℕ) → add_size 3 (told b n) ≡ told b (n + 3)
+      grown_told true n = refl
+      grown_told false n = refl
 
 -- what remains of n items from `at` on, i of them being passed
 pub record ItemsInv (O : Order) (l : ℕ) (v : List ℕ) (n at i : ℕ) : Type 0 where
@@ -102,7 +102,7 @@ pub record ItemsInv (O : Order) (l : ℕ) (v : List ℕ) (n at i : ℕ) : Type 0
   pub read : items_at l (n - i) (drop at v) ≡ some more
   pub here : i ≤ n
   pub inside : at + size_vals more ≤ length v
-  pub whole : data_by (areData O) size_vals (items_at l n v) ≡ told (areData O more) (at + size_vals more)
+  pub whole : data_by (are_data O) size_vals (items_at l n v) ≡ told (are_data O more) (at + size_vals more)
 
 -- and of n entries, the next name being at least k
 pub record EntriesInv (O : Order) (l : ℕ) (v : List ℕ) (n at i : ℕ) : Type 0 where
@@ -111,7 +111,7 @@ pub record EntriesInv (O : Order) (l : ℕ) (v : List ℕ) (n at i : ℕ) : Type
   pub read : entries_at l (n - i) k (drop at v) ≡ some more
   pub here : i ≤ n
   pub inside : at + size_entries more ≤ length v
-  pub whole : data_by (holdData O) size_entries (entries_at l n 0 v) ≡ told (holdData O more) (at + size_entries more)
+  pub whole : data_by (hold_data O) size_entries (entries_at l n 0 v) ≡ told (hold_data O more) (at + size_entries more)
 
 -- ---- items
 pub items_start : (O : Order) (l : ℕ) (v : List ℕ) (n : ℕ) → Ok (items_at l n v) → ItemsInv O l v n 0 0
@@ -123,53 +123,53 @@ items_start O l v n h =
       read = ap (λ k. items_at l k v) z ∙ g.1;
       here = omega arith;
       inside = omega (arith, items_inside l n v g.0 g.1);
-      whole = by_got (areData O) size_vals
-          (items_at l n v) g.0 g.1 ∙ ap (told (areData O g.0)) (omega arith);
+      whole = by_got (are_data O) size_vals
+          (items_at l n v) g.0 g.1 ∙ ap (told (are_data O g.0)) (omega arith);
     }
 
 module _ {O : Order} {l : ℕ} {v : List ℕ} {n at i : ℕ} (I : ItemsInv O l v n at i) where
   pub items_end : at ≤ length v
   items_end = omega (arith, I.inside)
 
-  pub items_done : n ≤ i → Yes at ≡ data_by (areData O) size_vals (items_at l n v)
-  unfolding areData size_val
+  pub items_done : n ≤ i → Yes at ≡ data_by (are_data O) size_vals (items_at l n v)
+  unfolding are_data size_val
   items_done h =
       let e = no_nth l i n at v I.more h I.read in
-      let p : told (areData O I.more) (at + size_vals I.more) ≡ Yes at = ap (λ vs. told (areData O vs) (at + size_vals vs)) e ∙ ap Yes (omega arith) in
+      let p : told (are_data O I.more) (at + size_vals I.more) ≡ Yes at = ap (λ vs. told (are_data O vs) (at + size_vals vs)) e ∙ ap Yes (omega arith) in
       sym (I.whole ∙ p)
 
   module _ (h : i < n) where
     next : Nth l (n - (i + 1)) at v I.more
     next = nth l i n at v I.more h items_end I.read
 
-    pub items-ok : Ok (value_at l (take (length v - at) (drop at v)))
-    items-ok = rw (rest v at) (is_ok (value_at l (drop at v)) next.x next.first)
+    pub items_ok : Ok (value_at l (take (length v - at) (drop at v)))
+    items_ok = rw (rest v at) (is_ok (value_at l (drop at v)) next.x next.first)
 
     -- the child's answer
-    item-told : (r : Data) → r ≡ data_by (isDataBy O) size_val (value_at l (take (length v - at) (drop at v))) → r ≡ told (isDataBy O next.x) (size_val next.x)
-    item-told r e = e ∙ ap (λ s. data_by (isDataBy O) size_val (value_at l s)) (rest v at) ∙ by_got (isDataBy O) size_val (value_at l (drop at v)) next.x next.first
+    item_told : (r : Data) → r ≡ data_by (is_data_by O) size_val (value_at l (take (length v - at) (drop at v))) → r ≡ told (is_data_by O next.x) (size_val next.x)
+    item_told r e = e ∙ ap (λ s. data_by (is_data_by O) size_val (value_at l s)) (rest v at) ∙ by_got (is_data_by O) size_val (value_at l (drop at v)) next.x next.first
 
-    item-whole : (data_by (areData O) size_vals (items_at l n v) ≡ told (isDataBy O next.x && areData O next.more) (at + (size_val next.x + size_vals next.more))) ×
+    item_whole : (data_by (are_data O) size_vals (items_at l n v) ≡ told (is_data_by O next.x && are_data O next.more) (at + (size_val next.x + size_vals next.more))) ×
         (at + (size_val next.x + size_vals next.more) ≤ length v)
-    unfolding areData size_val
-    item-whole = (I.whole ∙ ap (λ vs. told (areData O vs) (at + size_vals vs)) next.is, subst (λ vs. at + size_vals vs ≤ length v) next.is I.inside)
+    unfolding are_data size_val
+    item_whole = (I.whole ∙ ap (λ vs. told (are_data O vs) (at + size_vals vs)) next.is, subst (λ vs. at + size_vals vs ≤ length v) next.is I.inside)
 
-    pub items-no : (r : Data) → r ≡ No → r ≡ data_by (isDataBy O) size_val (value_at l (take (length v - at) (drop at v))) → No ≡ data_by (areData O) size_vals (items_at l n v)
-    items-no r p e = sym (item-whole.0 ∙ and_no (isDataBy O next.x) (areData O next.more) (size_val next.x) (at + (size_val next.x + size_vals next.more)) (sym (item-told r e) ∙ p))
+    pub items_no : (r : Data) → r ≡ No → r ≡ data_by (is_data_by O) size_val (value_at l (take (length v - at) (drop at v))) → No ≡ data_by (are_data O) size_vals (items_at l n v)
+    items_no r p e = sym (item_whole.0 ∙ and_no (is_data_by O next.x) (are_data O next.more) (size_val next.x) (at + (size_val next.x + size_vals next.more)) (sym (item_told r e) ∙ p))
 
-    pub items-fit : (r : Data) (x : ℕ) → r ≡ Yes x → r ≡ data_by (isDataBy O) size_val (value_at l (take (length v - at) (drop at v))) → at + x ≤ length v
-    items-fit r x p e = omega (arith, (told_yes (isDataBy O next.x) (size_val next.x) x (sym (item-told r e) ∙ p)).1, item-whole.1)
+    pub items_fit : (r : Data) (x : ℕ) → r ≡ Yes x → r ≡ data_by (is_data_by O) size_val (value_at l (take (length v - at) (drop at v))) → at + x ≤ length v
+    items_fit r x p e = omega (arith, (told_yes (is_data_by O next.x) (size_val next.x) x (sym (item_told r e) ∙ p)).1, item_whole.1)
 
-    pub items-again : (r : Data) (x : ℕ) → r ≡ Yes x → r ≡ data_by (isDataBy O) size_val (value_at l (take (length v - at) (drop at v))) → ItemsInv O l v n (at + x) (i + 1)
-    items-again r x p e =
-        let d = told_yes (isDataBy O next.x) (size_val next.x) x (sym (item-told r e) ∙ p) in
-        let w = item-whole in
+    pub items_again : (r : Data) (x : ℕ) → r ≡ Yes x → r ≡ data_by (is_data_by O) size_val (value_at l (take (length v - at) (drop at v))) → ItemsInv O l v n (at + x) (i + 1)
+    items_again r x p e =
+        let d = told_yes (is_data_by O next.x) (size_val next.x) x (sym (item_told r e) ∙ p) in
+        let w = item_whole in
         record {
           more = next.more;
           read = ap (λ k. items_at l (n - (i + 1)) (drop (at + k) v)) (sym d.1) ∙ next.second;
           here = omega arith;
           inside = omega (arith, d.1, w.1);
-          whole = w.0 ∙ and_data (isDataBy O next.x) (areData O next.more) (size_val next.x) x at (size_vals next.more) (sym (item-told r e) ∙ p);
+          whole = w.0 ∙ and_data (is_data_by O next.x) (are_data O next.more) (size_val next.x) x at (size_vals next.more) (sym (item_told r e) ∙ p);
         }
 
 -- ---- entries
@@ -184,48 +184,48 @@ entries_start O l v n h =
       here = omega arith;
       inside = omega (arith, entries_inside l n 0 v g.0 g.1);
       whole = by_got
-          (holdData O) size_entries (entries_at l n 0 v) g.0 g.1 ∙ ap (told (holdData O g.0)) (omega arith);
+          (hold_data O) size_entries (entries_at l n 0 v) g.0 g.1 ∙ ap (told (hold_data O g.0)) (omega arith);
     }
 
 module _ {O : Order} {l : ℕ} {v : List ℕ} {n at i : ℕ} (I : EntriesInv O l v n at i) where
-  pub entries_done : n ≤ i → Yes at ≡ data_by (holdData O) size_entries (entries_at l n 0 v)
-  unfolding areData size_val
+  pub entries_done : n ≤ i → Yes at ≡ data_by (hold_data O) size_entries (entries_at l n 0 v)
+  unfolding are_data size_val
   entries_done h =
       let e = none_left l i n at I.k v I.more h I.read in
-      let p : told (holdData O I.more) (at + size_entries I.more) ≡ Yes at = ap (λ es. told (holdData O es) (at + size_entries es)) e ∙ ap Yes (omega arith) in
+      let p : told (hold_data O I.more) (at + size_entries I.more) ≡ Yes at = ap (λ es. told (hold_data O es) (at + size_entries es)) e ∙ ap Yes (omega arith) in
       sym (I.whole ∙ p)
 
   module _ (h : i < n) where
     next_one : This l (n - (i + 1)) at I.k v I.more
     next_one = this l i n at I.k v I.more h I.read
 
-    pub entries-two : at + name_width ≤ length v
-    entries-two = next_one.two
+    pub entries_two : at + name_width ≤ length v
+    entries_two = next_one.two
 
-    pub entries-ok : Ok (value_at l (take (length v - (at + name_width)) (drop (at + name_width) v)))
-    entries-ok = entry_ok next_one
+    pub entries_ok : Ok (value_at l (take (length v - (at + name_width)) (drop (at + name_width) v)))
+    entries_ok = entry_ok next_one
 
-    entry-told : (r : Data) → r ≡ data_by (isDataBy O) size_val (value_at l (take (length v - (at + name_width)) (drop (at + name_width) v))) → r ≡ told (isDataBy O next_one.x) (size_val next_one.x)
-    entry-told r e = e ∙ ap (λ s. data_by (isDataBy O) size_val (value_at l s)) (rest v (at + name_width)) ∙ by_got (isDataBy O) size_val (value_at l (drop (at + name_width) v)) next_one.x
+    entry_told : (r : Data) → r ≡ data_by (is_data_by O) size_val (value_at l (take (length v - (at + name_width)) (drop (at + name_width) v))) → r ≡ told (is_data_by O next_one.x) (size_val next_one.x)
+    entry_told r e = e ∙ ap (λ s. data_by (is_data_by O) size_val (value_at l s)) (rest v (at + name_width)) ∙ by_got (is_data_by O) size_val (value_at l (drop (at + name_width) v)) next_one.x
         next_one.first
 
-    entry_whole : (data_by (holdData O) size_entries (entries_at l n 0 v) ≡ told (isDataBy O next_one.x && holdData O next_one.more)
+    entry_whole : (data_by (hold_data O) size_entries (entries_at l n 0 v) ≡ told (is_data_by O next_one.x && hold_data O next_one.more)
         (at + (name_width + size_val next_one.x + size_entries next_one.more))) × (at + (name_width + size_val next_one.x + size_entries next_one.more) ≤ length v)
-    unfolding areData size_val
-    entry_whole = (I.whole ∙ ap (λ es. told (holdData O es) (at + size_entries es)) next_one.is, subst (λ es. at + size_entries es ≤ length v) next_one.is I.inside)
+    unfolding are_data size_val
+    entry_whole = (I.whole ∙ ap (λ es. told (hold_data O es) (at + size_entries es)) next_one.is, subst (λ es. at + size_entries es ≤ length v) next_one.is I.inside)
 
-    pub entries-no : (r : Data) → r ≡ No → r ≡ data_by (isDataBy O) size_val (value_at l (take (length v - (at + name_width)) (drop (at + name_width) v)))
-        → No ≡ data_by (holdData O) size_entries (entries_at l n 0 v)
-    entries-no r p e = sym (entry_whole.0 ∙ and_no (isDataBy O next_one.x) (holdData O next_one.more) (size_val next_one.x)
-        (at + (name_width + size_val next_one.x + size_entries next_one.more)) (sym (entry-told r e) ∙ p))
+    pub entries_no : (r : Data) → r ≡ No → r ≡ data_by (is_data_by O) size_val (value_at l (take (length v - (at + name_width)) (drop (at + name_width) v)))
+        → No ≡ data_by (hold_data O) size_entries (entries_at l n 0 v)
+    entries_no r p e = sym (entry_whole.0 ∙ and_no (is_data_by O next_one.x) (hold_data O next_one.more) (size_val next_one.x)
+        (at + (name_width + size_val next_one.x + size_entries next_one.more)) (sym (entry_told r e) ∙ p))
 
-    pub entries_fit : (r : Data) (x : ℕ) → r ≡ Yes x → r ≡ data_by (isDataBy O) size_val (value_at l (take (length v - (at + name_width)) (drop (at + name_width) v))) → at + name_width + x ≤ length v
-    entries_fit r x p e = omega (arith, (told_yes (isDataBy O next_one.x) (size_val next_one.x) x (sym (entry-told r e) ∙ p)).1, entry_whole.1)
+    pub entries_fit : (r : Data) (x : ℕ) → r ≡ Yes x → r ≡ data_by (is_data_by O) size_val (value_at l (take (length v - (at + name_width)) (drop (at + name_width) v))) → at + name_width + x ≤ length v
+    entries_fit r x p e = omega (arith, (told_yes (is_data_by O next_one.x) (size_val next_one.x) x (sym (entry_told r e) ∙ p)).1, entry_whole.1)
 
-    pub entries-again : (r : Data) (x : ℕ) → r ≡ Yes x → r ≡ data_by (isDataBy O) size_val (value_at l (take (length v - (at + name_width)) (drop (at + name_width) v)))
+    pub entries_again : (r : Data) (x : ℕ) → r ≡ Yes x → r ≡ data_by (is_data_by O) size_val (value_at l (take (length v - (at + name_width)) (drop (at + name_width) v)))
         → EntriesInv O l v n (at + name_width + x) (i + 1)
-    entries-again r x p e =
-        let d = told_yes (isDataBy O next_one.x) (size_val next_one.x) x (sym (entry-told r e) ∙ p) in
+    entries_again r x p e =
+        let d = told_yes (is_data_by O next_one.x) (size_val next_one.x) x (sym (entry_told r e) ∙ p) in
         let w = entry_whole in
         record {
           k = suc next_one.name;
@@ -233,22 +233,22 @@ module _ {O : Order} {l : ℕ} {v : List ℕ} {n at i : ℕ} (I : EntriesInv O l
           read = ap (λ k. entries_at l (n - (i + 1)) (suc next_one.name) (drop (at + name_width + k) v)) (sym d.1) ∙ next_one.second;
           here = omega arith;
           inside = omega (arith, d.1, w.1);
-          whole = w.0 ∙ ap (told (isDataBy O next_one.x && holdData O next_one.more)) (omega arith)
-              ∙ and_data (isDataBy O next_one.x) (holdData O next_one.more) (size_val next_one.x) x (at + name_width) (size_entries next_one.more) (sym (entry-told r e) ∙ p);
+          whole = w.0 ∙ ap (told (is_data_by O next_one.x && hold_data O next_one.more)) (omega arith)
+              ∙ and_data (is_data_by O next_one.x) (hold_data O next_one.more) (size_val next_one.x) x (at + name_width) (size_entries next_one.more) (sym (entry_told r e) ∙ p);
         }
 
 -- ---- a value by its command
 -- leaves are data, and their size is the width of the command and one
-data_leaf : (O : Order) (l : ℕ) (s : List ℕ) (v : Val) → value_at l s ≡ some v → is_leaf_command (get_or s 0 0) ≡ true → (isDataBy O v ≡ true) × (width_of (get_or s 0 0) + 1 ≡ size_val v)
-unfolding isDataBy
-data_leaf O l s v e h = let L = as_leaf l s v e h in (ap (isDataBy O) L.is, L.size ∙ ap size_val (sym L.is))
+data_leaf : (O : Order) (l : ℕ) (s : List ℕ) (v : Val) → value_at l s ≡ some v → is_leaf_command (get_or s 0 0) ≡ true → (is_data_by O v ≡ true) × (width_of (get_or s 0 0) + 1 ≡ size_val v)
+unfolding is_data_by
+data_leaf O l s v e h = let L = as_leaf l s v e h in (ap (is_data_by O) L.is, L.size ∙ ap size_val (sym L.is))
 
-is_definition_data : (O : Order) {l : ℕ} {s : List ℕ} {v : Val} → IsVal l s k_definition v → isDataBy O v ≡ O.strict
-unfolding isDataBy
+is_definition_data : (O : Order) {l : ℕ} {s : List ℕ} {v : Val} → IsVal l s k_definition v → is_data_by O v ≡ O.strict
+unfolding is_data_by
 is_definition_data O (is_definition_lem r ps b c k p) = refl
 
-not_data : (O : Order) {j : ValueKind} (l : ℕ) (s : List ℕ) (v : Val) → IsVal l s j v → 13 ≤ get_or s 0 0 → (get_or s 0 0 ≡ 16 → ⊥) → isDataBy O v ≡ false
-unfolding isDataBy
+not_data : (O : Order) {j : ValueKind} (l : ℕ) (s : List ℕ) (v : Val) → IsVal l s j v → 13 ≤ get_or s 0 0 → (get_or s 0 0 ≡ 16 → ⊥) → is_data_by O v ≡ false
+unfolding is_data_by
 not_data O l s v (is_null_lem x c) h n = absurd (omega arith)
 not_data O l s v (is_boolean_lem x c) h n = absurd (omega arith)
 not_data O l s v (is_number x c) h n = absurd (omega arith)
@@ -265,41 +265,41 @@ not_data O l s v (is_decimal_lem x p c) h n = absurd (n c)
 
 module _ (O : Order) (l : ℕ) (s : List ℕ) where
   abbrev W : Data
-  W = data_by (isDataBy O) size_val (value_at l s)
+  W = data_by (is_data_by O) size_val (value_at l s)
 
-  run_range : {v : Val} → IsVal l s k_range v → size_val v ≤ length s → W ≡ told (isDataBy O v) (size_val v) → Run (areData O) size_vals (items_at (l - 1) 2) s W
-  unfolding isDataBy size_val
+  run_range : {v : Val} → IsVal l s k_range v → size_val v ≤ length s → W ≡ told (is_data_by O v) (size_val v) → Run (are_data O) size_vals (items_at (l - 1) 2) s W
+  unfolding is_data_by size_val
   run_range (is_range_lem a b p q c k r) i w =
       record {
         x = item p (item q no_items);
         three = k;
         read = r;
         fits = omega arith;
-        whole = w ∙ ap (λ b. told b (3 + size_val p + size_val q)) (sym (and_true (isDataBy O p) (isDataBy O q)))
-            ∙ ap (told (isDataBy O p && (isDataBy O q && true))) (omega arith);
+        whole = w ∙ ap (λ b. told b (3 + size_val p + size_val q)) (sym (and_true (is_data_by O p) (is_data_by O q)))
+            ∙ ap (told (is_data_by O p && (is_data_by O q && true))) (omega arith);
       }
 
-  run_list : {v : Val} → IsVal l s k_list v → size_val v ≤ length s → W ≡ told (isDataBy O v) (size_val v) → (n : ℕ) → n ≡ num_at 2 1 s → Run (areData O) size_vals (items_at (l - 1) n) s W
-  unfolding isDataBy size_val
+  run_list : {v : Val} → IsVal l s k_list v → size_val v ≤ length s → W ≡ told (is_data_by O v) (size_val v) → (n : ℕ) → n ≡ num_at 2 1 s → Run (are_data O) size_vals (items_at (l - 1) n) s W
+  unfolding is_data_by size_val
   run_list (is_list_lem vs c k p) i w n e = record {
     x = vs;
     three = k;
     read = ap (λ m. items_at (l - 1) m (drop 3 s)) e ∙ p;
     fits = omega arith;
     whole = w
-        ∙ ap (told (areData O vs)) (omega arith);
+        ∙ ap (told (are_data O vs)) (omega arith);
   }
 
-  run_context : {v : Val} → IsVal l s k_context v → size_val v ≤ length s → W ≡ told (isDataBy O v) (size_val v) → (n : ℕ) → n ≡ num_at 2 1 s
-      → Run (holdData O) size_entries (entries_at (l - 1) n 0) s W
-  unfolding isDataBy size_val
+  run_context : {v : Val} → IsVal l s k_context v → size_val v ≤ length s → W ≡ told (is_data_by O v) (size_val v) → (n : ℕ) → n ≡ num_at 2 1 s
+      → Run (hold_data O) size_entries (entries_at (l - 1) n 0) s W
+  unfolding is_data_by size_val
   run_context (is_context_lem es c k p) i w n e = record {
     x = es;
     three = k;
     read = ap (λ m. entries_at (l - 1) m 0 (drop 3 s)) e ∙ p;
     fits = omega arith;
     whole = w
-        ∙ ap (told (holdData O es)) (omega arith);
+        ∙ ap (told (hold_data O es)) (omega arith);
   }
 
 -- ---- the returns of `is_data`
@@ -314,66 +314,66 @@ module _ (l : ℕ) (s : List ℕ) (p : Ok (value_at l s)) where
   has_level = tree (λ v e. some_level l s v e)
 
 module _ (O : Order) (l : ℕ) (s : List ℕ) (p : Ok (value_at l s)) where
-  whole_is : (v : Val) → value_at l s ≡ some v → data_by (isDataBy O) size_val (value_at l s) ≡ told (isDataBy O v) (size_val v)
-  whole_is v e = by_got (isDataBy O) size_val (value_at l s) v e
+  whole_is : (v : Val) → value_at l s ≡ some v → data_by (is_data_by O) size_val (value_at l s) ≡ told (is_data_by O v) (size_val v)
+  whole_is v e = by_got (is_data_by O) size_val (value_at l s) v e
 
-  pub leaf_done : (w : ℕ) → w ≡ width_of (get_or s 0 0) → is_leaf_command (get_or s 0 0) ≡ true → Yes (w + 1) ≡ data_by (isDataBy O) size_val (value_at l s)
+  pub leaf_done : (w : ℕ) → w ≡ width_of (get_or s 0 0) → is_leaf_command (get_or s 0 0) ≡ true → Yes (w + 1) ≡ data_by (is_data_by O) size_val (value_at l s)
   leaf_done w q h = tree l s p (λ v e.
       let d = data_leaf O l s v e h in
       sym (whole_is v e ∙ ap (λ b. told b (size_val v)) d.0 ∙ ap Yes (omega (arith, d.1))))
 
-  leaf_known : (n : ℕ) → Plain (get_or s 0 0) n → Yes n ≡ data_by (isDataBy O) size_val (value_at l s)
+  leaf_known : (n : ℕ) → Plain (get_or s 0 0) n → Yes n ≡ data_by (is_data_by O) size_val (value_at l s)
   leaf_known n P = ap Yes P.size ∙ leaf_done (width_of (get_or s 0 0)) refl (leaf_low (get_or s 0 0) P.low)
 
   pub leaf_fits : (w : ℕ) → w ≡ width_of (get_or s 0 0) → is_leaf_command (get_or s 0 0) ≡ true → w + 1 ≤ length s
   leaf_fits w q h = tree l s p (λ v e. omega (arith, (data_leaf O l s v e h).1, v_inside l s v e))
 
-  pub other_done : 13 ≤ get_or s 0 0 → (get_or s 0 0 ≡ 16 → ⊥) → No ≡ data_by (isDataBy O) size_val (value_at l s)
+  pub other_done : 13 ≤ get_or s 0 0 → (get_or s 0 0 ≡ 16 → ⊥) → No ≡ data_by (is_data_by O) size_val (value_at l s)
   other_done h n = tree l s p (λ v e. sym (whole_is v e ∙ ap (λ b. told b (size_val v)) (not_data O l s v (is_val l s v e).1 h n)))
 
   -- a function definition is data exactly under the strict reading
-  pub definition_done : get_or s 0 0 ≡ 12 → O.strict ≡ true → (n : ℕ) → n ≡ size_at_v (value_at l s) → Yes n ≡ data_by (isDataBy O) size_val (value_at l s)
+  pub definition_done : get_or s 0 0 ≡ 12 → O.strict ≡ true → (n : ℕ) → n ≡ size_at_v (value_at l s) → Yes n ≡ data_by (is_data_by O) size_val (value_at l s)
   unfolding size_at_v
   definition_done h e n q = tree l s p (λ v f.
       sym (whole_is v f ∙ ap (λ b. told b (size_val v)) (is_definition_data O (as_definition l s v f h) ∙ e) ∙ ap Yes (sym (q ∙ ap size_at_v f))))
 
-  pub definition_no : get_or s 0 0 ≡ 12 → O.strict ≡ false → No ≡ data_by (isDataBy O) size_val (value_at l s)
+  pub definition_no : get_or s 0 0 ≡ 12 → O.strict ≡ false → No ≡ data_by (is_data_by O) size_val (value_at l s)
   definition_no h e = tree l s p (λ v f. sym (whole_is v f ∙ ap (λ b. told b (size_val v)) (is_definition_data O (as_definition l s v f h) ∙ e)))
 
-  pub ranges : get_or s 0 0 ≡ 9 → Run (areData O) size_vals (items_at (l - 1) 2) s (data_by (isDataBy O) size_val (value_at l s))
+  pub ranges : get_or s 0 0 ≡ 9 → Run (are_data O) size_vals (items_at (l - 1) 2) s (data_by (is_data_by O) size_val (value_at l s))
   ranges h = tree l s p (λ v e. run_range O l s (as_range l s v e h) (v_inside l s v e) (whole_is v e))
 
-  pub lists : (n : ℕ) → n ≡ num_at 2 1 s → get_or s 0 0 ≡ 10 → Run (areData O) size_vals (items_at (l - 1) n) s (data_by (isDataBy O) size_val (value_at l s))
+  pub lists : (n : ℕ) → n ≡ num_at 2 1 s → get_or s 0 0 ≡ 10 → Run (are_data O) size_vals (items_at (l - 1) n) s (data_by (is_data_by O) size_val (value_at l s))
   lists n q h = tree l s p (λ v e. run_list O l s (as_list l s v e h) (v_inside l s v e) (whole_is v e) n q)
 
-  pub contexts : (n : ℕ) → n ≡ num_at 2 1 s → get_or s 0 0 ≡ 11 → Run (holdData O) size_entries (entries_at (l - 1) n 0) s (data_by (isDataBy O) size_val (value_at l s))
+  pub contexts : (n : ℕ) → n ≡ num_at 2 1 s → get_or s 0 0 ≡ 11 → Run (hold_data O) size_entries (entries_at (l - 1) n 0) s (data_by (is_data_by O) size_val (value_at l s))
   contexts n q h = tree l s p (λ v e. run_context O l s (as_context l s v e h) (v_inside l s v e) (whole_is v e) n q)
 
 -- ---- the short way past a leaf
 module _ {O : Order} {l : ℕ} {v : List ℕ} {n at i : ℕ} (I : ItemsInv O l v n at i) (h : i < n) where
   pub items_some : 0 < length (take (length v - at) (drop at v))
-  items_some = has_byte l (take (length v - at) (drop at v)) (items-ok I h)
+  items_some = has_byte l (take (length v - at) (drop at v)) (items_ok I h)
 
   module _ (k : ℕ) (P : Plain (get_or (take (length v - at) (drop at v)) 0 0) k) where
-    item-leaf : Yes k ≡ data_by (isDataBy O) size_val (value_at l (take (length v - at) (drop at v)))
-    item-leaf = leaf_known O l (take (length v - at) (drop at v)) (items-ok I h) k P
+    item_leaf : Yes k ≡ data_by (is_data_by O) size_val (value_at l (take (length v - at) (drop at v)))
+    item_leaf = leaf_known O l (take (length v - at) (drop at v)) (items_ok I h) k P
 
-    pub items-leaf-fit : at + k ≤ length v
-    items-leaf-fit = items-fit I h (Yes k) k refl item-leaf
+    pub items_leaf_fit : at + k ≤ length v
+    items_leaf_fit = items_fit I h (Yes k) k refl item_leaf
 
-    pub items-leaf : ItemsInv O l v n (at + k) (i + 1)
-    items-leaf = items-again I h (Yes k) k refl item-leaf
+    pub items_leaf : ItemsInv O l v n (at + k) (i + 1)
+    items_leaf = items_again I h (Yes k) k refl item_leaf
 
 module _ {O : Order} {l : ℕ} {v : List ℕ} {n at i : ℕ} (I : EntriesInv O l v n at i) (h : i < n) where
   pub entries_some : 0 < length (take (length v - (at + name_width)) (drop (at + name_width) v))
-  entries_some = has_byte l (take (length v - (at + name_width)) (drop (at + name_width) v)) (entries-ok I h)
+  entries_some = has_byte l (take (length v - (at + name_width)) (drop (at + name_width) v)) (entries_ok I h)
 
   module _ (k : ℕ) (P : Plain (get_or (take (length v - (at + name_width)) (drop (at + name_width) v)) 0 0) k) where
-    entry-leaf : Yes k ≡ data_by (isDataBy O) size_val (value_at l (take (length v - (at + name_width)) (drop (at + name_width) v)))
-    entry-leaf = leaf_known O l (take (length v - (at + name_width)) (drop (at + name_width) v)) (entries-ok I h) k P
+    entry_leaf : Yes k ≡ data_by (is_data_by O) size_val (value_at l (take (length v - (at + name_width)) (drop (at + name_width) v)))
+    entry_leaf = leaf_known O l (take (length v - (at + name_width)) (drop (at + name_width) v)) (entries_ok I h) k P
 
-    pub entries-leaf-fit : at + name_width + k ≤ length v
-    entries-leaf-fit = entries_fit I h (Yes k) k refl entry-leaf
+    pub entries_leaf_fit : at + name_width + k ≤ length v
+    entries_leaf_fit = entries_fit I h (Yes k) k refl entry_leaf
 
-    pub entries-leaf : EntriesInv O l v n (at + name_width + k) (i + 1)
-    entries-leaf = entries-again I h (Yes k) k refl entry-leaf
+    pub entries_leaf : EntriesInv O l v n (at + name_width + k) (i + 1)
+    entries_leaf = entries_again I h (Yes k) k refl entry_leaf

@@ -1,6 +1,6 @@
 -- The function type of a definition, parameter by parameter.
 -- Idea: what was written, the types of the parameters that are left and the result make the whole text (`SigInv`).
--- Index: `SigInv`, `sig_start`, `sig-name`, `sig-type`, `sig-part`, `sig-again` (a parameter); `sig_result`, `sig_last`, `sig_last_room`, `sig_done` (the result).
+-- Index: `SigInv`, `sig_start`, `sig_name`, `sig_type`, `sig_part`, `sig_again` (a parameter); `sig_result`, `sig_last`, `sig_last_room`, `sig_done` (the result).
 -- Assumes nothing.
 use Prim.Native.Nat.{ℕ, ◌+◌, ◌-◌, ◌<◌, ◌≤◌}
 use mathlib.Core.Path.{◌≡◌, refl, sym, ap, subst, ◌∙◌}
@@ -99,32 +99,32 @@ module _ {l : ℕ} {v : List ℕ} {count k : ℕ} {old out : List ℕ} {at to i 
     P : ParameterAt l (count - (i + 1)) at v I.more
     P = parameter_at l i count at v I.more h I.read
 
-    pub sig-name : at + name_width ≤ length v
-    sig-name = P.two
+    pub sig_name : at + name_width ≤ length v
+    sig_name = P.two
 
     module _ (x : ℕ) (e : x ≡ size_at (type_at l (take (length v - (at + name_width)) (drop (at + name_width) v)))) where
-      x-is : x ≡ size P.x
-      x-is = e ∙ ap (λ s. size_at (type_at l s)) (rest v (at + name_width)) ∙ size_got (type_at l (drop (at + name_width) v)) P.x P.first
+      x_is : x ≡ size P.x
+      x_is = e ∙ ap (λ s. size_at (type_at l s)) (rest v (at + name_width)) ∙ size_got (type_at l (drop (at + name_width) v)) P.x P.first
 
-      pub sig-type : at + name_width + x ≤ length v
-      sig-type = omega (arith, x-is, I.inside, P.sized)
+      pub sig_type : at + name_width + x ≤ length v
+      sig_type = omega (arith, x_is, I.inside, P.sized)
 
-      pub sig-part : length (take (at + name_width + x - (at + name_width)) (drop (at + name_width) v)) ≤ length (take (length out - to) (drop to out))
-      sig-part =
+      pub sig_part : length (take (at + name_width + x - (at + name_width)) (drop (at + name_width) v)) ≤ length (take (length out - to) (drop to out))
+      sig_part =
           let z : at + name_width + x - (at + name_width) ≡ x = omega arith in
-          let y : x ≤ length (drop (at + name_width) v) = simp length-drop (omega (arith, sig-type)) in
+          let y : x ≤ length (drop (at + name_width) v) = simp length-drop (omega (arith, sig_type)) in
           let w : length (take (at + name_width + x - (at + name_width)) (drop (at + name_width) v)) ≡ x = ap (λ n. length (take n (drop (at + name_width) v))) z
           ∙ take_length x (drop (at + name_width) v) y in
-          omega (arith, w, length_rest out to, sig_out, I.room, P.sized, x-is)
+          omega (arith, w, length_rest out to, sig_out, I.room, P.sized, x_is)
 
-      pub sig-wide : to + x ≤ length old
-      sig-wide = omega (arith, I.room, P.sized, x-is)
+      pub sig_wide : to + x ≤ length old
+      sig_wide = omega (arith, I.room, P.sized, x_is)
 
-      pub sig-again : Bytes v → (ys : List ℕ) → ys ≡ onto (take (at + name_width + x - (at + name_width)) (drop (at + name_width) v)) (take (length out - to) (drop to out))
+      pub sig_again : Bytes v → (ys : List ℕ) → ys ≡ onto (take (at + name_width + x - (at + name_width)) (drop (at + name_width) v)) (take (length out - to) (drop to out))
           → SigInv l v count k old (put_mid to (length out - to) out ys) (at + name_width + x) (to + x) (i + 1)
       unfolding types_of enc params_at
-      sig-again bs ys q =
-          let z : at + name_width + x - (at + name_width) ≡ size P.x = omega (arith, x-is) in
+      sig_again bs ys q =
+          let z : at + name_width + x - (at + name_width) ≡ size P.x = omega (arith, x_is) in
           let w : take (at + name_width + x - (at + name_width)) (drop (at + name_width) v) ≡ enc P.x = ap (λ n. take n (drop (at + name_width) v)) z
           ∙ (front_bytes l (drop (at + name_width) v) P.x (bytes_drop (at + name_width) v bs) P.first).1 in
           record {
@@ -135,12 +135,12 @@ module _ {l : ℕ} {v : List ℕ} {count k : ℕ} {old out : List ℕ} {at to i 
             whole = I.whole;
             read_r = I.read_r;
             sized_r = I.sized_r;
-            read = ap (λ n. params_at l (count - (i + 1)) (drop (at + name_width + n) v)) x-is ∙ P.second;
+            read = ap (λ n. params_at l (count - (i + 1)) (drop (at + name_width + n) v)) x_is ∙ P.second;
             here = omega arith;
-            inside = omega (arith, x-is, I.inside, P.sized);
-            room = omega (arith, x-is, I.room, P.sized);
-            sizes = omega (arith, x-is, I.sizes, P.sized);
-            long = length-append I.text (enc P.x) ∙ omega (arith, I.long, length_enc P.x, x-is);
+            inside = omega (arith, x_is, I.inside, P.sized);
+            room = omega (arith, x_is, I.room, P.sized);
+            sizes = omega (arith, x_is, I.sizes, P.sized);
+            long = length-append I.text (enc P.x) ∙ omega (arith, I.long, length_enc P.x, x_is);
             wrote = back I.text (enc P.x) old out ys to I.wrote I.long (omega (arith, I.room)) (q ∙ ap (λ n. onto n (take (length out - to) (drop to out))) w);
             texts = I.texts ∙ ap (λ ps. I.text ++ (enc_tys (types_of ps) ++ enc I.r)) P.is ∙ ap (λ n. I.text ++ n) (append_assoc (enc P.x) (enc_tys (types_of P.more)) (enc I.r))
                 ∙ sym (append_assoc I.text (enc P.x) (enc_tys (types_of P.more) ++ enc I.r));
@@ -166,17 +166,17 @@ module _ {l : ℕ} {v : List ℕ} {count k : ℕ} {old out : List ℕ} {at to i 
         back I.text (enc I.r) old out ys to I.wrote I.long (omega (arith, I.room)) (q ∙ ap (λ n. onto n (take (length out - to) (drop to out))) w)
         ∙ ap (λ n. onto n old) (sym (I.texts ∙ ap (λ ps. I.text ++ (enc_tys (types_of ps) ++ enc I.r)) none_left))
 
-    text-long : length (signature_text I.d) ≡ to + k
+    text_long : length (signature_text I.d) ≡ to + k
     unfolding types_of enc
-    text-long = ap length (I.texts ∙ ap (λ ps. I.text ++ (enc_tys (types_of ps) ++ enc I.r)) none_left) ∙ length-append I.text (enc I.r)
+    text_long = ap length (I.texts ∙ ap (λ ps. I.text ++ (enc_tys (types_of ps) ++ enc I.r)) none_left) ∙ length-append I.text (enc I.r)
         ∙ omega (arith, I.long, I.sized_r, length_enc I.r)
 
     pub sig_same : length (put_mid to (length out - to) out ys) ≡ length old
-    sig_same = ap length new_is ∙ length_onto (signature_text I.d) old (omega (arith, text-long, I.room))
+    sig_same = ap length new_is ∙ length_onto (signature_text I.d) old (omega (arith, text_long, I.room))
 
     pub sig_done : Typed size_definition signature_text (definition_at l count v) old (put_mid to (length out - to) out ys) at (to + k)
     unfolding size_params
     sig_done =
         let z : size_params I.more ≡ 0 = ap size_params none_left in
         is_typed (definition_at l count v) I.d (put_mid to (length out - to) out ys) at (to + k) I.whole
-        (record { all = omega (arith, I.sizes, z); long = sym text-long; out = subst (Starts (signature_text I.d)) (sym new_is) (onto_again (signature_text I.d) old); kept = sig_same })
+        (record { all = omega (arith, I.sizes, z); long = sym text_long; out = subst (Starts (signature_text I.d)) (sym new_is) (onto_again (signature_text I.d) old); kept = sig_same })

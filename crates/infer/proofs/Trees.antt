@@ -14,17 +14,17 @@ use Rattle.form.specs.Form.{level, level_v, Wf, WfV, WfVals, count_fields, count
 use Rattle.order.specs.Order.{up, Order, fixed}
 use Rattle.order.specs.Types.{reduce, bound, sup}
 use Rattle.order.specs.Size.{size, size_val}
-use Rattle.order.specs.Values.{leaf_type, types_of, isDataBy, areData, holdData, least, leastItems}
+use Rattle.order.specs.Values.{leaf_type, types_of, is_data_by, are_data, hold_data, least, least_items}
 use Rattle.order.specs.Document.{conforms_to}
 use Rattle.order.specs.Inferred.{list_type, type_of, first_type, items_below}
 use Rattle.order.proofs.Simple.{fixed_laws, and_left, and_right}
 use Rattle.order.proofs.Ends.{Ends}
-use Rattle.order.proofs.Conform.{reduce-reduce, reduce-strict}
+use Rattle.order.proofs.Conform.{reduce_reduce, reduce_strict}
 use Rattle.order.proofs.Laws.{le_refl}
 use Rattle.order.proofs.Size.{size_positive, level_positive, size_sup, level_sup}
 use Rattle.order.proofs.WellFormed.{asc_of, wf_sup}
 use Rattle.order.proofs.Least.{least_reduced}
-use Rattle.order.proofs.LeastSize.{size-least, level-least, wf_least}
+use Rattle.order.proofs.LeastSize.{size_least, level_least, wf_least}
 use Rattle.order.proofs.TypeOf.{asc_type_of, size_type_of, level_type_of, wf_type_of}
 use Rattle.lattice.proofs.BoundTrees as bounds
 use Rattle.infer.specs.Typing.{type_by, fields_by, keeps_first, joined, taken, inner}
@@ -36,7 +36,7 @@ pub record Fine (O : Order) (m : Bool) (v : Val) : Type 0 where
   pub low : level (type_by O m v) ≤ level_v v + 1
 
 pub fine : (O : Order) (m : Bool) (v : Val) → WfV v → size_val v < 65536 → Fine O m v
-fine O true v w h = record { wf = wf_least O v w h; short = size-least O v w; low = level-least O v }
+fine O true v w h = record { wf = wf_least O v w h; short = size_least O v w; low = level_least O v }
 fine O false v w h = record { wf = wf_type_of v w h; short = size_type_of v; low = level_type_of v }
 
 -- ---- two types joined
@@ -60,23 +60,23 @@ type_reduced O true v e = least_reduced O v
 type_reduced O false v e = absurd (false≢true e)
 
 pub joined_reduced : (O : Order) (m equal : Bool) (t u : Ty) → m ≡ true → reduce O (joined O m equal t u) ≡ joined O m equal t u
-joined_reduced O true equal t u e = reduce-reduce O (bound O up t u)
+joined_reduced O true equal t u e = reduce_reduce O (bound O up t u)
 joined_reduced O false equal t u e = absurd (false≢true e)
 
 -- ---- a list
 null_first : {O : Order} → Ends O → (t : Ty) → reduce O t ≡ t → sup O (leaf null) t ≡ t
 null_first {O} L t h = (bounds.least L up (leaf null) t refl).1 ∙ h
 
-taken_least : (O : Order) (equal : Bool) (t : Ty) (vs : Vals) → leastItems O vs t ≡ taken O true equal t vs
+taken_least : (O : Order) (equal : Bool) (t : Ty) (vs : Vals) → least_items O vs t ≡ taken O true equal t vs
 unfolding least taken
 taken_least O equal t no_items = refl
 taken_least O equal t (item v vs) = taken_least O equal (sup O t (least O v)) vs
 
 -- the fold may start at the first item
-least_list : {O : Order} → Ends O → (vs : Vals) → leastItems O vs (leaf null) ≡ inner O true false vs
+least_list : {O : Order} → Ends O → (vs : Vals) → least_items O vs (leaf null) ≡ inner O true false vs
 unfolding least inner
 least_list {O} L no_items = refl
-least_list {O} L (item v vs) = ap (leastItems O vs) (null_first L (least O v) (least_reduced O v)) ∙ taken_least O false (least O v) vs
+least_list {O} L (item v vs) = ap (least_items O vs) (null_first L (least O v) (least_reduced O v)) ∙ taken_least O false (least O v) vs
 
 same_both : (q : Bool) (t : Ty) → cond q t t ≡ t
 same_both true t = refl
@@ -137,13 +137,13 @@ irrelevant_is O true = refl
 irrelevant_is O false = refl
 
 -- no data but under the strict reading, where nothing is reduced; otherwise only the inferred type is asked
-pub function_is : (O : Order) (m : Bool) (ps : Params) (b : ℕ) (r : Ty) → (m ≡ true → isDataBy O (v_function ps b r) ≡ true) → type_by O m (v_function ps b r) ≡ built (function (types_of ps) r)
-unfolding least type_of isDataBy
-function_is O true ps b r d = reduce-strict O (built (function (types_of ps) r)) (d refl)
+pub function_is : (O : Order) (m : Bool) (ps : Params) (b : ℕ) (r : Ty) → (m ≡ true → is_data_by O (v_function ps b r) ≡ true) → type_by O m (v_function ps b r) ≡ built (function (types_of ps) r)
+unfolding least type_of is_data_by
+function_is O true ps b r d = reduce_strict O (built (function (types_of ps) r)) (d refl)
 function_is O false ps b r d = refl
 
-pub type_is : (O : Order) (m : Bool) (t : Ty) → (m ≡ true → isDataBy O (v_type t) ≡ true) → type_by O m (v_type t) ≡ t
-unfolding type_of isDataBy
+pub type_is : (O : Order) (m : Bool) (t : Ty) → (m ≡ true → is_data_by O (v_type t) ≡ true) → type_by O m (v_type t) ≡ t
+unfolding type_of is_data_by
 type_is O true t d = absurd (false≢true (d refl))
 type_is O false t d = refl
 
@@ -166,10 +166,10 @@ fields_entry O true n v es = refl
 fields_entry O false n v es = refl
 
 -- ---- data, part by part
-pub data_item : (O : Order) (m : Bool) (v : Val) (vs : Vals) → (m ≡ true → areData O (item v vs) ≡ true) → (m ≡ true → isDataBy O v ≡ true) × (m ≡ true → areData O vs ≡ true)
-unfolding isDataBy
-data_item O m v vs d = (λ e. and_left (isDataBy O v) (areData O vs) (d e), λ e. and_right (isDataBy O v) (areData O vs) (d e))
+pub data_item : (O : Order) (m : Bool) (v : Val) (vs : Vals) → (m ≡ true → are_data O (item v vs) ≡ true) → (m ≡ true → is_data_by O v ≡ true) × (m ≡ true → are_data O vs ≡ true)
+unfolding is_data_by
+data_item O m v vs d = (λ e. and_left (is_data_by O v) (are_data O vs) (d e), λ e. and_right (is_data_by O v) (are_data O vs) (d e))
 
-pub data_entry : (O : Order) (m : Bool) (n : ℕ) (v : Val) (es : Entries) → (m ≡ true → holdData O (entry n v es) ≡ true) → (m ≡ true → isDataBy O v ≡ true) × (m ≡ true → holdData O es ≡ true)
-unfolding isDataBy
-data_entry O m n v es d = (λ e. and_left (isDataBy O v) (holdData O es) (d e), λ e. and_right (isDataBy O v) (holdData O es) (d e))
+pub data_entry : (O : Order) (m : Bool) (n : ℕ) (v : Val) (es : Entries) → (m ≡ true → hold_data O (entry n v es) ≡ true) → (m ≡ true → is_data_by O v ≡ true) × (m ≡ true → hold_data O es ≡ true)
+unfolding is_data_by
+data_entry O m n v es d = (λ e. and_left (is_data_by O v) (hold_data O es) (d e), λ e. and_right (is_data_by O v) (hold_data O es) (d e))

@@ -6,7 +6,7 @@ use Rattle.form.specs.Form.{Bytes, enc}
 use Rattle.form.specs.Trees.{Val}
 use Rattle.form.specs.Read.{read_value}
 use Rattle.order.specs.Order.{Order, fixed, strict_order}
-use Rattle.order.specs.Values.{isDataBy}
+use Rattle.order.specs.Values.{is_data_by}
 use Rattle.order.specs.Values as values
 use Rattle.order.specs.Inferred.{type_of}
 use Rattle.tables.specs.Calls.{load_table}
@@ -20,7 +20,7 @@ wanted v = 4 * length v
 unfoldable pub least_type_by : Order → List ℕ → ℕ → ℕ → Outcome (List ℕ)
 least_type_by O v scratch room = do
   w ← read_value v
-  check 13 (isDataBy O w)
+  check 13 (is_data_by O w)
   check 14 (leb (wanted v) scratch)
   fits room (enc (values.least O w))
 
@@ -48,7 +48,7 @@ type_of_call v scratch room = do
 -- ---- what both do behind the reader
 -- the value was accepted, and is data where the least type is asked
 unfoldable pub ReadyFor : Order → Bool → Outcome Val → Type 0
-ReadyFor O least (done w) = least ≡ true → isDataBy O w ≡ true
+ReadyFor O least (done w) = least ≡ true → is_data_by O w ≡ true
 ReadyFor O least (refused n) = ⊥
 
 abbrev pub Ready : Order → Bool → List ℕ → Type 0

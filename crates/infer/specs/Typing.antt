@@ -12,7 +12,7 @@ use Rattle.order.specs.Order.{Order}
 use Rattle.order.specs.Types.{reduce, sup}
 use Rattle.order.specs.Size.{size, size_val, size_vals, size_entries}
 use Rattle.order.specs.Document.{conforms_to, eq_ty}
-use Rattle.order.specs.Values.{types_of, isDataBy, areData, holdData, leastEntries}
+use Rattle.order.specs.Values.{types_of, is_data_by, are_data, hold_data, least_entries}
 use Rattle.order.specs.Values as values
 use Rattle.order.specs.Inferred.{type_of, entry_types}
 use Rattle.values.specs.At.{Definition, definition, size_definition}
@@ -41,7 +41,7 @@ type_by O true v = values.least O v
 type_by O false v = type_of v
 
 abbrev pub fields_by : Order → Bool → Entries → Fields
-fields_by O true es = leastEntries O es
+fields_by O true es = least_entries O es
 fields_by O false es = entry_types es
 
 -- of two inferred types: they are equal, or the second conforms to the first
@@ -77,14 +77,14 @@ Fitting wf test want least r room spare = WhereRead ⊥ (λ x. Fits wf test want
 
 -- of a value, of the entries of a context, of items, of a definition
 abbrev pub FitVal : Order → Bool → Option Val → ℕ → ℕ → Type 0
-FitVal O least v room spare = Fitting WfV (isDataBy O) size_val least v room spare
+FitVal O least v room spare = Fitting WfV (is_data_by O) size_val least v room spare
 
 abbrev pub FitEntries : Order → Bool → Option Entries → ℕ → ℕ → Type 0
-FitEntries O least es room spare = Fitting (λ es. WfEntries es 0) (holdData O) size_entries least es room spare
+FitEntries O least es room spare = Fitting (λ es. WfEntries es 0) (hold_data O) size_entries least es room spare
 
 -- items want one byte more than they have: Null stands for none
 abbrev pub FitItems : Order → Bool → Option Vals → ℕ → ℕ → Type 0
-FitItems O least vs room spare = Fitting WfVals (areData O) (λ vs. size_vals vs + 1) least vs room spare
+FitItems O least vs room spare = Fitting WfVals (are_data O) (λ vs. size_vals vs + 1) least vs room spare
 
 -- a function type behind its count is never longer than the definition
 unfoldable pub FitDefinition : Option Definition → ℕ → Type 0

@@ -1,7 +1,7 @@
 // Whether a value is data.
 ghost use Rattle.std.specs.Prelude.{◌≡◌, ℕ, ◌+◌, ◌<◌, ◌≤◌, length, get_or};
 ghost use Rattle.order.specs.Order.{order_of};
-ghost use Rattle.order.specs.Values.{isDataBy, areData, holdData};
+ghost use Rattle.order.specs.Values.{is_data_by, are_data, hold_data};
 ghost use Rattle.order.specs.Size.{size_val, size_vals, size_entries};
 ghost use Rattle.types.specs.At.{Ok};
 ghost use Rattle.values.specs.At.{value_at, items_at, entries_at};
@@ -51,7 +51,7 @@ fn add_size(d: Data, k: usize, n: usize) -> Data
 #[cycle(are_data_hold_data_is_data)]
 pub(crate) fn is_data(v: &[u8], left: usize, reading: u64) -> Data
     requires { Ok (value_at left v.now) }
-    ensures { result ≡ data_by (isDataBy (order_of reading)) size_val (value_at left v.now) }
+    ensures { result ≡ data_by (is_data_by (order_of reading)) size_val (value_at left v.now) }
 {
     let c = v[0];
     match c {
@@ -83,7 +83,7 @@ pub(crate) fn is_data(v: &[u8], left: usize, reading: u64) -> Data
 #[cycle(are_data_hold_data_is_data)]
 fn are_data(v: &[u8], n: usize, left: usize, reading: u64) -> Data
     requires { Ok (items_at left n v.now) }
-    ensures { result ≡ data_by (areData (order_of reading)) size_vals (items_at left n v.now) }
+    ensures { result ≡ data_by (are_data (order_of reading)) size_vals (items_at left n v.now) }
 {
     let mut at: usize = 0;
     let mut i: usize = 0;
@@ -107,7 +107,7 @@ fn are_data(v: &[u8], n: usize, left: usize, reading: u64) -> Data
 #[cycle(are_data_hold_data_is_data)]
 fn hold_data(v: &[u8], n: usize, left: usize, reading: u64) -> Data
     requires { Ok (entries_at left n 0 v.now) }
-    ensures { result ≡ data_by (holdData (order_of reading)) size_entries (entries_at left n 0 v.now) }
+    ensures { result ≡ data_by (hold_data (order_of reading)) size_entries (entries_at left n 0 v.now) }
 {
     let mut at: usize = 0;
     let mut i: usize = 0;

@@ -14,7 +14,7 @@ use Rattle.form.specs.Trees.{Simple, any, null, code, decode, Ty, leaf, built, B
 use Rattle.form.specs.Form.{bytes, enc, enc_fields, enc_tys, count_fields, count_tys}
 use Rattle.form.proofs.ExactTypes.{decode_code}
 use Rattle.order.specs.Order.{same, Dir, up, down, flip, Order, top, bottom, scmp, sbound, is_inner, closer, narrowed, nearest, order_of}
-use Rattle.order.specs.Types.{same_count, kind, ignores, reduce, reduceFields, reduceTys, bound, bounds, sup, sub, sup_tys, sub_tys}
+use Rattle.order.specs.Types.{same_count, kind, ignores, reduce, reduce_fields, reduce_tys, bound, bounds, sup, sub, sup_tys, sub_tys}
 use Rattle.order.specs.Ascending.{Asc, AscBuilt, AscFields, AscTys}
 use Rattle.order.specs.Size.{size}
 use Rattle.order.proofs.Bools.{and_false}
@@ -85,7 +85,7 @@ module _ (O : Order) where
   ignored_count no_params = refl
   ignored_count (param t ps) = ap (λ q. not O.strict && q) (sym (ne_eqb (suc (count_tys ps)) 0 (λ e. omega arith)))
 
-  count_bounds : (d : Dir) (ps qs : Tys) → count_tys ps ≡ count_tys qs → count_tys (reduceTys O (bounds O d ps qs)) ≡ count_tys ps
+  count_bounds : (d : Dir) (ps qs : Tys) → count_tys ps ≡ count_tys qs → count_tys (reduce_tys O (bounds O d ps qs)) ≡ count_tys ps
   unfolding count_tys bound reduce
   count_bounds d no_params no_params e = refl
   count_bounds d no_params (param b qs) e = refl
@@ -150,26 +150,26 @@ module _ {O : Order} (L : Ends O) where
 
     pub self : (d : Dir) (t : Ty) → Asc t → answer O d t t ≡ reduce O t
     self d (leaf s) w = ap leaf (simple_self d s)
-    self d (built x) w = self-built d x w
+    self d (built x) w = self_built d x w
 
-    self-built : (d : Dir) (x : Built) → AscBuilt x → answer O d (built x) (built x) ≡ reduce O (built x)
-    self-built d (list t) w = ap (λ z. built (list z)) (self d t w)
-    self-built d (range t) w = ap (λ z. built (range z)) (self d t w)
-    self-built d (context fs) w = ap (λ z. built (context z)) (self-fields d fs 0 w)
-    self-built up (function ps r) w =
+    self_built : (d : Dir) (x : Built) → AscBuilt x → answer O d (built x) (built x) ≡ reduce O (built x)
+    self_built d (list t) w = ap (λ z. built (list z)) (self d t w)
+    self_built d (range t) w = ap (λ z. built (range z)) (self d t w)
+    self_built d (context fs) w = ap (λ z. built (context z)) (self_fields d fs 0 w)
+    self_built up (function ps r) w =
         sup_functions O ps ps r r (equal_counts ps ps refl)
-        ∙ ap₂ (λ (x : Tys) (y : Ty). built (function x (cond (ignores O ps) (leaf any) y))) (self-tys down ps w.0) (self up r w.1)
-    self-built down (function ps r) w =
+        ∙ ap₂ (λ (x : Tys) (y : Ty). built (function x (cond (ignores O ps) (leaf any) y))) (self_tys down ps w.0) (self up r w.1)
+    self_built down (function ps r) w =
         sub_functions O ps ps r r (equal_counts ps ps refl)
-        ∙ ap₂ (λ (x : Tys) (y : Ty). built (function x (cond (ignores O ps) (leaf any) y))) (self-tys up ps w.0) (self down r w.1)
+        ∙ ap₂ (λ (x : Tys) (y : Ty). built (function x (cond (ignores O ps) (leaf any) y))) (self_tys up ps w.0) (self down r w.1)
 
-    self-fields : (d : Dir) (fs : Fields) (k : ℕ) → AscFields fs k → answer_fields O d fs fs ≡ reduceFields O fs
-    self-fields d no_fields k w = fields_none O d
-    self-fields d (field n t fs) k w = fields_both O d n t t fs fs w.2 ∙ ap₂ (field n) (self d t w.1) (self-fields d fs (suc n) w.2)
+    self_fields : (d : Dir) (fs : Fields) (k : ℕ) → AscFields fs k → answer_fields O d fs fs ≡ reduce_fields O fs
+    self_fields d no_fields k w = fields_none O d
+    self_fields d (field n t fs) k w = fields_both O d n t t fs fs w.2 ∙ ap₂ (field n) (self d t w.1) (self_fields d fs (suc n) w.2)
 
-    self-tys : (d : Dir) (ps : Tys) → AscTys ps → reduceTys O (bounds O d ps ps) ≡ reduceTys O ps
-    self-tys d no_params w = refl
-    self-tys d (param t ps) w = ap₂ param (self d t w.0) (self-tys d ps w.1)
+    self_tys : (d : Dir) (ps : Tys) → AscTys ps → reduce_tys O (bounds O d ps ps) ≡ reduce_tys O ps
+    self_tys d no_params w = refl
+    self_tys d (param t ps) w = ap₂ param (self d t w.0) (self_tys d ps w.1)
 
   -- equal simple types
   pub leaves : (d : Dir) (s t : Simple) → s ≡ t → answer O d (leaf s) (leaf t) ≡ leaf s

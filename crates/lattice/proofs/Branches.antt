@@ -1,8 +1,8 @@
 -- Laws of the builders: what each branch asks of its callee, and what it leaves behind, under every order and in either direction.
 -- Idea: a list, a range, a context and a function are one case: two parts k bytes behind the starts, joined and wrapped again (`Inner`).
--- Index: `ready`, `both`, `is_combined`, `combined_is` (the predicates of the contracts); `left-ready`, `left-done`, `right-ready`, `right-done`, `simple_done`, `other_done` (any two types);
--- `Inner`, `inner_ready`, `inner-ends`, `inner-done` (the one case); `leaf_done`, `wrapped`, `wrapped_done`, `in_contexts`, `ctx_done`, `in_functions`, `ignored`, `in-sigs`, `fun-done`,
--- `fun-none`, `fun_other` (equal commands); `ready_up`, `ready_down`, `from_up`, `from_down` (the direction as a flag).
+-- Index: `ready`, `both`, `is_combined`, `combined_is` (the predicates of the contracts); `left_ready`, `left_done`, `right_ready`, `right_done`, `simple_done`, `other_done` (any two types);
+-- `Inner`, `inner_ready`, `inner_ends`, `inner_done` (the one case); `leaf_done`, `wrapped`, `wrapped_done`, `in_contexts`, `ctx_done`, `in_functions`, `ignored`, `in_sigs`, `fun_done`,
+-- `fun_none`, `fun_other` (equal commands); `ready_up`, `ready_down`, `from_up`, `from_down` (the direction as a flag).
 -- Assumes nothing.
 use Prim.Native.Nat.{ℕ, zero, suc, ◌+◌, ◌-◌, ◌/◌, ◌%◌, ◌<◌, ◌≤◌}
 use mathlib.Core.Path.{◌≡◌, refl, sym, ap, ap₂, ◌∙◌}
@@ -116,37 +116,37 @@ module _ (O : Order) (d : Dir) (l : ℕ) (a b : List ℕ) (n : ℕ) (p : Ready (
 
   -- the least and b: the answer is that of b and b
   module _ (L : Ends O) where
-    left-least : get_or a 0 0 ≡ 32 + code (bottom d) → (size K.t ≡ 1) × (answer O d K.u K.u ≡ answer O d K.t K.u)
-    left-least c =
+    left_least : get_or a 0 0 ≡ 32 + code (bottom d) → (size K.t ≡ 1) × (answer O d K.u K.u ≡ answer O d K.t K.u)
+    left_least c =
         let g = least L d K.t K.u (cmd_is l a K.t K.read_a ∙ c) in
         (g.0, self L d K.u (t_good l b K.u K.read_b).0 ∙ sym g.1)
 
-    pub left-ready : get_or a 0 0 ≡ 32 + code (bottom d) → Ready (of_types O d) (type_at l b) (type_at l b) n
-    left-ready c = ready (of_types O d) (type_at l b) (type_at l b) K.u K.u n K.read_b K.read_b (omega (arith, K.room, ap size (left-least c).1))
-        (omega (arith, K.cap, ap size (left-least c).1))
+    pub left_ready : get_or a 0 0 ≡ 32 + code (bottom d) → Ready (of_types O d) (type_at l b) (type_at l b) n
+    left_ready c = ready (of_types O d) (type_at l b) (type_at l b) K.u K.u n K.read_b K.read_b (omega (arith, K.room, ap size (left_least c).1))
+        (omega (arith, K.cap, ap size (left_least c).1))
 
-    pub left-done : get_or a 0 0 ≡ 32 + code (bottom d) → (old new : List ℕ) (i j w : ℕ) → Combined (of_types O d) (type_at l b) (type_at l b) old new i j w
+    pub left_done : get_or a 0 0 ≡ 32 + code (bottom d) → (old new : List ℕ) (i j w : ℕ) → Combined (of_types O d) (type_at l b) (type_at l b) old new i j w
         → Combined (of_types O d) (type_at l a) (type_at l b) old new 1 j w
-    left-done c old new i j w h =
+    left_done c old new i j w h =
         let g = combined_is (of_types O d) (type_at l b) (type_at l b) K.u K.u old new i j w K.read_b K.read_b h in
         is_combined (of_types O d) (type_at l a) (type_at l b) K.t K.u old new 1 j w K.read_a K.read_b
-        (record { one = sym (left-least c).0; two = g.two; long = g.long ∙ ap size (left-least c).1; out = g.out ∙ ap (λ (z : Ty). onto (enc z) old) (left-least c).1 })
+        (record { one = sym (left_least c).0; two = g.two; long = g.long ∙ ap size (left_least c).1; out = g.out ∙ ap (λ (z : Ty). onto (enc z) old) (left_least c).1 })
 
-    right-least : get_or b 0 0 ≡ 32 + code (bottom d) → (size K.u ≡ 1) × (answer O d K.t K.t ≡ answer O d K.t K.u)
-    right-least c =
+    right_least : get_or b 0 0 ≡ 32 + code (bottom d) → (size K.u ≡ 1) × (answer O d K.t K.t ≡ answer O d K.t K.u)
+    right_least c =
         let g = least_right L d K.t K.u (cmd_is l b K.u K.read_b ∙ c) in
         (g.0, self L d K.t (t_good l a K.t K.read_a).0 ∙ sym g.1)
 
-    pub right-ready : get_or b 0 0 ≡ 32 + code (bottom d) → Ready (of_types O d) (type_at l a) (type_at l a) n
-    right-ready c = ready (of_types O d) (type_at l a) (type_at l a) K.t K.t n K.read_a K.read_a (omega (arith, K.room, ap size (right-least c).1))
-        (omega (arith, K.cap, ap size (right-least c).1))
+    pub right_ready : get_or b 0 0 ≡ 32 + code (bottom d) → Ready (of_types O d) (type_at l a) (type_at l a) n
+    right_ready c = ready (of_types O d) (type_at l a) (type_at l a) K.t K.t n K.read_a K.read_a (omega (arith, K.room, ap size (right_least c).1))
+        (omega (arith, K.cap, ap size (right_least c).1))
 
-    pub right-done : get_or b 0 0 ≡ 32 + code (bottom d) → (old new : List ℕ) (i j w : ℕ) → Combined (of_types O d) (type_at l a) (type_at l a) old new i j w
+    pub right_done : get_or b 0 0 ≡ 32 + code (bottom d) → (old new : List ℕ) (i j w : ℕ) → Combined (of_types O d) (type_at l a) (type_at l a) old new i j w
         → Combined (of_types O d) (type_at l a) (type_at l b) old new i 1 w
-    right-done c old new i j w h =
+    right_done c old new i j w h =
         let g = combined_is (of_types O d) (type_at l a) (type_at l a) K.t K.t old new i j w K.read_a K.read_a h in
         is_combined (of_types O d) (type_at l a) (type_at l b) K.t K.u old new i 1 w K.read_a K.read_b
-        (record { one = g.one; two = sym (right-least c).0; long = g.long ∙ ap size (right-least c).1; out = g.out ∙ ap (λ (z : Ty). onto (enc z) old) (right-least c).1 })
+        (record { one = g.one; two = sym (right_least c).0; long = g.long ∙ ap size (right_least c).1; out = g.out ∙ ap (λ (z : Ty). onto (enc z) old) (right_least c).1 })
 
 -- other commands: r is the command of what a table says, otherwise of the greatest
 pub other_done : (reading : ℕ) (d : Dir) (l : ℕ) (a b : List ℕ) (n : ℕ) → Ready (of_types (order_of reading) d) (type_at l a) (type_at l b) n → (get_or a 0 0 ≡ get_or b 0 0 → ⊥)
@@ -186,21 +186,21 @@ module _ {O : Order} {d : Dir} {l : ℕ} {a b : List ℕ} {n : ℕ} {X : Type 0}
   inner_ready xs e = ready J ga gb I.x I.y _ I.part_a I.part_b (omega (arith, I.room, length_rest xs k)) (omega (arith, I.cap))
 
   module _ (old ys : List ℕ) (i j w : ℕ) (h : Combined J ga gb old ys i j w) where
-    pub inner-wrote : Wrote J I.x I.y old ys i j w
-    inner-wrote = combined_is J ga gb I.x I.y old ys i j w I.part_a I.part_b h
+    pub inner_wrote : Wrote J I.x I.y old ys i j w
+    inner_wrote = combined_is J ga gb I.x I.y old ys i j w I.part_a I.part_b h
 
-    pub inner-ends : (i + k ≤ length a) × (j + k ≤ length b) × (w + k ≤ n)
-    inner-ends =
-        let g = inner-wrote in (
+    pub inner_ends : (i + k ≤ length a) × (j + k ≤ length b) × (w + k ≤ n)
+    inner_ends =
+        let g = inner_wrote in (
           omega (arith, g.one, I.longer I.x, (t_good l a (I.mk I.x) I.read_a).1),
           omega (arith, g.two, I.longer I.y, (t_good l b (I.mk I.y) I.read_b).1),
           omega
               (arith, g.long, I.room),
         )
 
-    pub inner-done : (all new : List ℕ) → new ≡ onto (enc (I.mk (J.join I.x I.y))) all → Combined (of_types O d) (type_at l a) (type_at l b) all new (i + k) (j + k) (w + k)
-    inner-done all new e =
-        let g = inner-wrote in
+    pub inner_done : (all new : List ℕ) → new ≡ onto (enc (I.mk (J.join I.x I.y))) all → Combined (of_types O d) (type_at l a) (type_at l b) all new (i + k) (j + k) (w + k)
+    inner_done all new e =
+        let g = inner_wrote in
         is_combined (of_types O d) (type_at l a) (type_at l b) (I.mk I.x) (I.mk I.y) all new (i + k) (j + k) (w + k) I.read_a I.read_b
         (record {
           one = omega (arith, g.one, I.longer I.x);
@@ -364,9 +364,9 @@ pub wrapped_done : {O : Order} {d : Dir} {l : ℕ} {a b : List ℕ} {n c : ℕ} 
     → Combined (of_types O d) (type_at l a) (type_at l b) old (put_mid 1 (length (set old 0 c) - 1) (set old 0 c) ys) (i + 1) (j + 1) (w + 1)
 wrapped_done {O} {d} {l} {a} {b} {n} {c} W old ys i j w en h =
     let I = W.inner in
-    let g = inner-wrote I (behind 1 (set old 0 c)) ys i j w h in
+    let g = inner_wrote I (behind 1 (set old 0 c)) ys i j w h in
     let some : 1 ≤ length old = omega (arith, I.room) in
-    inner-done I (behind 1 (set old 0 c)) ys i j w h old _
+    inner_done I (behind 1 (set old 0 c)) ys i j w h old _
     (back (c ∷ []) (enc (answer O d I.x I.y)) old (set old 0 c) ys 1 (onto_first old c some) refl some g.out ∙ ap (λ (z : List ℕ). onto z old) (sym (W.byte (answer O d I.x I.y))))
 
 -- ---- the contexts were written; their count is stored last
@@ -386,10 +386,10 @@ module _ (O : Order) (d : Dir) (l : ℕ) (a b : List ℕ) (n : ℕ) (p : Ready (
   pub ctx_done : (lo hi : ℕ) → lo ≡ k % 256 → hi ≡ k / 256 → Combined (of_types O d) (type_at l a) (type_at l b) old (set (set (set (put_mid 3 (length old - 3) old ys) 0 44) 1 lo) 2 hi) (u + 3) (v + 3)
       (w + 3)
   ctx_done lo hi el eh =
-      let g = inner-wrote C (behind 3 old) ys u v w h in
+      let g = inner_wrote C (behind 3 old) ys u v w h in
       let R = answer_fields O d C.x C.y in
       let e = ctx_counted in
-      inner-done C (behind 3 old) ys u v w h old _
+      inner_done C (behind 3 old) ys u v w h old _
       (late_three old ys (enc_fields R) 44 lo hi (omega (arith, C.room)) g.out
       ∙ ap₂ (λ (x y : ℕ). onto (44 ∷ x ∷ y ∷ enc_fields R) old) (el ∙ ap (λ (z : ℕ). z % 256) e) (eh ∙ ap (λ (z : ℕ). z / 256) e)
       ∙ ap (λ (z : List ℕ). onto z old) (sym (enc_ctx R (omega (arith, ctx_count)))))
@@ -429,28 +429,28 @@ module _ {O : Order} {d : Dir} {l : ℕ} {a b : List ℕ} {n : ℕ} (F : Functio
     pub counts : count_sig F.f ≡ count_sig F.g
     counts = F.count_a ∙ e ∙ sym F.count_b
 
-    none-size : (size (built (function no_params (leaf any))) ≡ 3) × (enc (built (function no_params (leaf any))) ≡ 45 ∷ 0 ∷ 32 ∷ [])
+    none_size : (size (built (function no_params (leaf any))) ≡ 3) × (enc (built (function no_params (leaf any))) ≡ 45 ∷ 0 ∷ 32 ∷ [])
     unfolding enc size count_tys
-    none-size = (refl, refl)
+    none_size = (refl, refl)
 
-    pub fun-none-room : ignores_at O (get_or a 1 0) ≡ true → 3 ≤ n
-    fun-none-room z = omega (arith, F.room, ap size (functions_none O d F.f F.g counts (ap (ignores_at O) F.count_a ∙ z)), none-size.0)
+    pub fun_none_room : ignores_at O (get_or a 1 0) ≡ true → 3 ≤ n
+    fun_none_room z = omega (arith, F.room, ap size (functions_none O d F.f F.g counts (ap (ignores_at O) F.count_a ∙ z)), none_size.0)
 
-    pub fun-none : ignores_at O (get_or a 1 0) ≡ true → (old : List ℕ) → n ≡ length old → (x y : ℕ) → x ≡ size_at (type_at l a) → y ≡ size_at (type_at l b)
+    pub fun_none : ignores_at O (get_or a 1 0) ≡ true → (old : List ℕ) → n ≡ length old → (x y : ℕ) → x ≡ size_at (type_at l a) → y ≡ size_at (type_at l b)
         → Combined (of_types O d) (type_at l a) (type_at l b) old (set (set (set old 0 45) 1 (get_or a 1 0)) 2 32) x y 3
-    fun-none z old en x y ex ey =
-        let o = fun-none-room z in
-        let g = none-size in
+    fun_none z old en x y ex ey =
+        let o = fun_none_room z in
+        let g = none_size in
         fun_known (built (function no_params (leaf any))) (functions_none O d F.f F.g counts (ap (ignores_at O) F.count_a ∙ z)) old _
         (onto_three old 45 (get_or a 1 0) 32 (omega arith) ∙ ap (λ (k : ℕ). onto (45 ∷ k ∷ 32 ∷ []) old) (ignored_zero O (get_or a 1 0) z)
         ∙ ap (λ (k : List ℕ). onto k old) (sym g.1)) x y 3 ex ey (sym g.0)
 
     module _ (z : ignores_at O (get_or a 1 0) ≡ false) where
-      pub fun-joins : answer O d (fun_of F.f) (fun_of F.g) ≡ fun_of (answer_sig O d F.f F.g)
-      fun-joins = functions O d F.f F.g counts (ap (ignores_at O) F.count_a ∙ z)
+      pub fun_joins : answer O d (fun_of F.f) (fun_of F.g) ≡ fun_of (answer_sig O d F.f F.g)
+      fun_joins = functions O d F.f F.g counts (ap (ignores_at O) F.count_a ∙ z)
 
-      abbrev pub in-sigs : (k : ℕ) → k ≡ get_or a 1 0 → Inner O d l a b n (of_sigs O d) 2 (sig_at (l - 1) k (behind 2 a)) (sig_at (l - 1) k (behind 2 b))
-      in-sigs k ek =
+      abbrev pub in_sigs : (k : ℕ) → k ≡ get_or a 1 0 → Inner O d l a b n (of_sigs O d) 2 (sig_at (l - 1) k (behind 2 a)) (sig_at (l - 1) k (behind 2 b))
+      in_sigs k ek =
           record {
             mk = fun_of;
             x = F.f;
@@ -460,23 +460,23 @@ module _ {O : Order} {d : Dir} {l : ℕ} {a b : List ℕ} {n : ℕ} (F : Functio
             part_a = ap₂ (λ (k : ℕ) (z : List ℕ). sig_at (l - 1) k z) ek (rest a 2) ∙ F.inner_a;
             part_b = ap₂ (λ (k : ℕ) (z : List ℕ). sig_at (l - 1) k z) (ek ∙ e) (rest b 2) ∙ F.inner_b;
             longer = size_fun;
-            joins = fun-joins;
-            room = omega (arith, F.room, ap size fun-joins, size_fun (answer_sig O d F.f F.g));
-            cap = omega (arith, F.cap, ap size fun-joins, size_fun (answer_sig O d F.f F.g));
+            joins = fun_joins;
+            room = omega (arith, F.room, ap size fun_joins, size_fun (answer_sig O d F.f F.g));
+            cap = omega (arith, F.cap, ap size fun_joins, size_fun (answer_sig O d F.f F.g));
           }
 
-      pub fun-two : 2 ≤ n
-      fun-two = omega (arith, (in-sigs (get_or a 1 0) refl).room)
+      pub fun_two : 2 ≤ n
+      fun_two = omega (arith, (in_sigs (get_or a 1 0) refl).room)
 
-      pub fun-done : (k : ℕ) (ek : k ≡ get_or a 1 0) (old ys : List ℕ) (u v w : ℕ) → n ≡ length old
+      pub fun_done : (k : ℕ) (ek : k ≡ get_or a 1 0) (old ys : List ℕ) (u v w : ℕ) → n ≡ length old
           → Combined (of_sigs O d) (sig_at (l - 1) k (behind 2 a)) (sig_at (l - 1) k (behind 2 b)) (behind 2 (set (set old 0 45) 1 (get_or a 1 0))) ys u v w
           → Combined (of_types O d) (type_at l a) (type_at l b) old (put_mid 2 (length (set (set old 0 45) 1 (get_or a 1 0)) - 2) (set (set old 0 45) 1 (get_or a 1 0)) ys) (u + 2) (v + 2) (w + 2)
-      fun-done k ek old ys u v w en h =
-          let I = in-sigs k ek in
-          let g = inner-wrote I _ ys u v w h in
-          let t : 2 ≤ length old = omega (arith, fun-two) in
+      fun_done k ek old ys u v w en h =
+          let I = in_sigs k ek in
+          let g = inner_wrote I _ ys u v w h in
+          let t : 2 ≤ length old = omega (arith, fun_two) in
           let S = answer_sig O d F.f F.g in
-          inner-done I _ ys u v w h old _
+          inner_done I _ ys u v w h old _
           (back (45 ∷ get_or a 1 0 ∷ []) (enc_sig S) old (set (set old 0 45) 1 (get_or a 1 0)) ys 2 (onto_two old 45 (get_or a 1 0) t) refl t g.out
           ∙ ap (λ (k : ℕ). onto (45 ∷ k ∷ enc_sig S) old) (sym (count_answer O d F.f F.g counts ∙ F.count_a))
           ∙ ap (λ (z : List ℕ). onto z old) (sym (enc_fun S)))
@@ -486,8 +486,8 @@ pub fun_head : {O : Order} {d : Dir} {l : ℕ} {a b : List ℕ} {n : ℕ} (F : F
 fun_head {O} {d} {l} {a} {b} {n} F e = go (ignores_at O (get_or a 1 0)) refl
   where
     go : (q : Bool) → ignores_at O (get_or a 1 0) ≡ q → 2 ≤ n
-    go true z = omega (arith, fun-none-room F e z)
-    go false z = fun-two F e z
+    go true z = omega (arith, fun_none_room F e z)
+    go false z = fun_two F e z
 
 -- ---- common supertype and subtype
 pub ready_up : (O : Order) (q : Bool) (x y : Option Ty) (n : ℕ) → q ≡ true → Ready (of_types O (toward q)) x y n → Ready (of_types O up) x y n

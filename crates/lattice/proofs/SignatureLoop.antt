@@ -1,6 +1,6 @@
 -- The loop that writes the parameters of two functions, and then their results.
 -- Idea: what was written and the bytes of the answer to what is left make the bytes of the whole answer (`SigInv`).
--- Index: `SigInv`, `sig_start`, `to_fits`; `param-ready`, `param-ends`, `param_next` (a parameter); `result-ready`, `result-ends`, `sig_done` (the results).
+-- Index: `SigInv`, `sig_start`, `to_fits`; `param_ready`, `param_ends`, `param_next` (a parameter); `result_ready`, `result_ends`, `sig_done` (the results).
 -- Assumes nothing.
 use Prim.Native.Nat.{ℕ, ◌+◌, ◌-◌, ◌<◌, ◌≤◌}
 use mathlib.Core.Path.{◌≡◌, refl, sym, ap, ap₂, ◌∙◌}
@@ -108,25 +108,25 @@ module _ {O : Order} {d : Dir} {l : ℕ} {a b : List ℕ} {n : ℕ} {old out : L
     now : answer_sig O d v.f v.g ≡ cons (answer O (flip d) A.x B.x) (answer_sig O d A.more B.more)
     now = ap₂ (answer_sig O d) A.is B.is ∙ answer_cons O d A.x B.x A.more B.more
 
-    now-size : size_sig (answer_sig O d v.f v.g) ≡ size (answer O (flip d) A.x B.x) + size_sig (answer_sig O d A.more B.more)
-    now-size = ap size_sig now ∙ size_cons (answer O (flip d) A.x B.x) (answer_sig O d A.more B.more)
+    now_size : size_sig (answer_sig O d v.f v.g) ≡ size (answer O (flip d) A.x B.x) + size_sig (answer_sig O d A.more B.more)
+    now_size = ap size_sig now ∙ size_cons (answer O (flip d) A.x B.x) (answer_sig O d A.more B.more)
 
-    pub param-ready : Ready (of_types O (flip d)) (type_at l (behind at a)) (type_at l (behind bt b)) (length (behind to out))
-    param-ready = ready (of_types O (flip d)) _ _ A.x B.x _ (item_behind A) (item_behind B) (omega (arith, v.room, v.out_len, now-size, length_rest out to)) (omega (arith, left, now-size))
+    pub param_ready : Ready (of_types O (flip d)) (type_at l (behind at a)) (type_at l (behind bt b)) (length (behind to out))
+    param_ready = ready (of_types O (flip d)) _ _ A.x B.x _ (item_behind A) (item_behind B) (omega (arith, v.room, v.out_len, now_size, length_rest out to)) (omega (arith, left, now_size))
 
     module _ (ns : List ℕ) (e f w : ℕ) (c : Combined (of_types O (flip d)) (type_at l (behind at a)) (type_at l (behind bt b)) (behind to out) ns e f w) where
-      param-wrote : Wrote (of_types O (flip d)) A.x B.x (behind to out) ns e f w
-      param-wrote = combined_is (of_types O (flip d)) _ _ A.x B.x (behind to out) ns e f w (item_behind A) (item_behind B) c
+      param_wrote : Wrote (of_types O (flip d)) A.x B.x (behind to out) ns e f w
+      param_wrote = combined_is (of_types O (flip d)) _ _ A.x B.x (behind to out) ns e f w (item_behind A) (item_behind B) c
 
-      pub param-ends : (at + e ≤ length a) × (bt + f ≤ length b) × (to + w ≤ length out)
-      param-ends = let g = param-wrote in (omega (arith, g.one, A.fits), omega (arith, g.two, B.fits), omega (arith, g.long, v.room, v.out_len, now-size))
+      pub param_ends : (at + e ≤ length a) × (bt + f ≤ length b) × (to + w ≤ length out)
+      param_ends = let g = param_wrote in (omega (arith, g.one, A.fits), omega (arith, g.two, B.fits), omega (arith, g.long, v.room, v.out_len, now_size))
 
       pub param_next : length ns ≡ length (behind to out) → SigInv O d l a b n old (put_mid to (length out - to) out ns) (at + e) (bt + f) (to + w) (i + 1)
       param_next el =
-          let g = param-wrote in
+          let g = param_wrote in
           let U = answer O (flip d) A.x B.x in
           let R = answer_sig O d A.more B.more in
-          let s = now-size in
+          let s = now_size in
           record {
             all_a = v.all_a;
             all_b = v.all_b;
@@ -161,24 +161,24 @@ module _ {O : Order} {d : Dir} {l : ℕ} {a b : List ℕ} {n : ℕ} {old out : L
     ends : answer_sig O d v.f v.g ≡ sig no_params (answer O d P.t Q.t)
     ends = ap₂ (answer_sig O d) P.is Q.is ∙ answer_result O d P.t Q.t
 
-    ends-size : size_sig (answer_sig O d v.f v.g) ≡ size (answer O d P.t Q.t)
-    ends-size = ap size_sig ends ∙ size_result (answer O d P.t Q.t)
+    ends_size : size_sig (answer_sig O d v.f v.g) ≡ size (answer O d P.t Q.t)
+    ends_size = ap size_sig ends ∙ size_result (answer O d P.t Q.t)
 
-    pub result-ready : Ready (of_types O d) (type_at l (behind at a)) (type_at l (behind bt b)) (length (behind to out))
-    result-ready = ready (of_types O d) _ _ P.t Q.t _ P.first Q.first (omega (arith, v.room, v.out_len, ends-size, length_rest out to)) (omega (arith, left, ends-size))
+    pub result_ready : Ready (of_types O d) (type_at l (behind at a)) (type_at l (behind bt b)) (length (behind to out))
+    result_ready = ready (of_types O d) _ _ P.t Q.t _ P.first Q.first (omega (arith, v.room, v.out_len, ends_size, length_rest out to)) (omega (arith, left, ends_size))
 
     module _ (ns : List ℕ) (e f w : ℕ) (c : Combined (of_types O d) (type_at l (behind at a)) (type_at l (behind bt b)) (behind to out) ns e f w) where
-      result-wrote : Wrote (of_types O d) P.t Q.t (behind to out) ns e f w
-      result-wrote = combined_is (of_types O d) _ _ P.t Q.t (behind to out) ns e f w P.first Q.first c
+      result_wrote : Wrote (of_types O d) P.t Q.t (behind to out) ns e f w
+      result_wrote = combined_is (of_types O d) _ _ P.t Q.t (behind to out) ns e f w P.first Q.first c
 
-      pub result-ends : (at + e ≤ length a) × (bt + f ≤ length b) × (to + w ≤ length out)
-      result-ends = let g = result-wrote in (omega (arith, g.one, P.fits), omega (arith, g.two, Q.fits), omega (arith, g.long, v.room, v.out_len, ends-size))
+      pub result_ends : (at + e ≤ length a) × (bt + f ≤ length b) × (to + w ≤ length out)
+      result_ends = let g = result_wrote in (omega (arith, g.one, P.fits), omega (arith, g.two, Q.fits), omega (arith, g.long, v.room, v.out_len, ends_size))
 
       pub sig_done : Combined (of_sigs O d) (sig_at l n a) (sig_at l n b) old (put_mid to (length out - to) out ns) (at + e) (bt + f) (to + w)
       sig_done =
-          let g = result-wrote in
+          let g = result_wrote in
           let U = answer O d P.t Q.t in
-          let s = ends-size in
+          let s = ends_size in
           let te : v.done ++ enc U ≡ enc_sig (answer_sig O d v.all_a v.all_b) = ap (λ (z : List ℕ). v.done ++ z) (sym (enc_result U) ∙ ap enc_sig (sym ends)) ∙ v.text in
           is_combined (of_sigs O d) _ _ v.all_a v.all_b old _ (at + e) (bt + f) (to + w) v.whole_a v.whole_b
           (record {

@@ -1,7 +1,7 @@
 -- The loops that write the entries of two contexts, their names taken in step.
 -- Idea: what was written and the bytes of the answer to what is left make the bytes of the whole answer (`FieldsInv`).
--- Index: `FieldsInv`, `Peeked`, `fields_start`, `fields_done`, `more_a`, `more_b` (start and end); `both-ready`, `both_ends`, `both-next` (a common name); `skip-a`, `skip-b`
--- (supertype: a name of one side is passed over); `a-ready`, `a-next`, `b-ready`, `b-next` (subtype: it is written); `entry_ready`, `written` (an entry of either).
+-- Index: `FieldsInv`, `Peeked`, `fields_start`, `fields_done`, `more_a`, `more_b` (start and end); `both_ready`, `both_ends`, `both_next` (a common name); `skip_a`, `skip_b`
+-- (supertype: a name of one side is passed over); `a_ready`, `a_next`, `b_ready`, `b_next` (subtype: it is written); `entry_ready`, `written` (an entry of either).
 -- Assumes nothing.
 use Prim.Native.Nat.{ℕ, suc, ◌+◌, ◌-◌, ◌<◌, ◌≤◌}
 use mathlib.Core.Path.{◌≡◌, refl, sym, ap, ap₂, ◌∙◌}
@@ -340,18 +340,18 @@ module _ {O : Order} {d : Dir} {l : ℕ} {a : List ℕ} {n : ℕ} {b : List ℕ}
       now : answer_fields O d v.fs v.gs ≡ field A.name (answer O d A.x B.x) (answer_fields O d A.more B.more)
       now = in_step A B (omega (arith, A.named, B.named, (name_a less).1, (name_b (omega arith)).1))
 
-      pub both-room : to + name_width ≤ length out
-      both-room = omega (arith, entry_room A.name (answer O d A.x B.x) A.more B.more now)
+      pub both_room : to + name_width ≤ length out
+      both_room = omega (arith, entry_room A.name (answer O d A.x B.x) A.more B.more now)
 
       module _ (T : List ℕ) (et : T ≡ over to (bytes name_width (num_at name_width at a)) out) where
         copied : T ≡ over to (bytes name_width A.name) out
         copied = et ∙ ap (λ (z : ℕ). over to (bytes name_width z) out) (sym A.named)
 
-        pub both-length : length T ≡ length out
-        both-length = entry_length A.name (answer O d A.x B.x) A.more B.more now T copied
+        pub both_length : length T ≡ length out
+        both_length = entry_length A.name (answer O d A.x B.x) A.more B.more now T copied
 
-        pub both-ready : Ready (of_types O d) (type_at l (behind (at + name_width) a)) (type_at l (behind (bt + name_width) b)) (length (behind (to + name_width) T))
-        both-ready = entry_ready A.name (answer O d A.x B.x) A.more B.more now T copied _ _ A.x B.x (entry_behind A) (entry_behind B) refl
+        pub both_ready : Ready (of_types O d) (type_at l (behind (at + name_width) a)) (type_at l (behind (bt + name_width) b)) (length (behind (to + name_width) T))
+        both_ready = entry_ready A.name (answer O d A.x B.x) A.more B.more now T copied _ _ A.x B.x (entry_behind A) (entry_behind B) refl
 
         module _ (ns : List ℕ) (e f w : ℕ) (h : Combined (of_types O d) (type_at l (behind (at + name_width) a)) (type_at l (behind (bt + name_width) b)) (behind (to + name_width) T) ns e f w) where
           both-wrote : (e ≡ size A.x) × (f ≡ size B.x) × (w ≡ size (answer O d A.x B.x)) × (ns ≡ onto (enc (answer O d A.x B.x)) (behind (to + name_width) T))
@@ -365,9 +365,9 @@ module _ {O : Order} {d : Dir} {l : ℕ} {a : List ℕ} {n : ℕ} {b : List ℕ}
                 (arith, both-wrote.2, entry_room A.name (answer O d A.x B.x) A.more B.more now),
           )
 
-          pub both-next : length ns ≡ length (behind (to + name_width) T) → FieldsInv O d l a n b m old (put_mid (to + name_width) (length T - (to + name_width)) T ns) (at + name_width + e) (i + 1)
+          pub both_next : length ns ≡ length (behind (to + name_width) T) → FieldsInv O d l a n b m old (put_mid (to + name_width) (length T - (to + name_width)) T ns) (at + name_width + e) (i + 1)
               (bt + name_width + f) (j + 1) (to + name_width + w) (k + 1)
-          both-next el = advance A.name (answer O d A.x B.x) A.more B.more now T copied
+          both_next el = advance A.name (answer O d A.x B.x) A.more B.more now T copied
               (rest_both (rest_a (more_a less) A e both-wrote.0) (rest_b (more_b (omega arith)) B f both-wrote.1)) ns w both-wrote.2 both-wrote.3 el
 
 -- ---- supertype: a name of one side only is passed over
@@ -377,11 +377,11 @@ module _ {O : Order} {l : ℕ} {a : List ℕ} {n : ℕ} {b : List ℕ} {m : ℕ}
     abbrev SA : Here l (n - (i + 1)) at v.least_a a v.fs
     SA = entry_a v (more_a v pk (omega arith))
 
-    pub skip-a-fits : at + name_width + z ≤ length a
-    skip-a-fits = omega (arith, SA.fits, skipped l a (at + name_width) z SA.x e SA.first)
+    pub skip_a_fits : at + name_width + z ≤ length a
+    skip_a_fits = omega (arith, SA.fits, skipped l a (at + name_width) z SA.x e SA.first)
 
-    pub skip-a : FieldsInv O up l a n b m old out (at + name_width + z) (i + 1) bt j to k
-    skip-a = go SA
+    pub skip_a : FieldsInv O up l a n b m old out (at + name_width + z) (i + 1) bt j to k
+    skip_a = go SA
       where
         go : Here l (n - (i + 1)) at v.least_a a v.fs → FieldsInv O up l a n b m old out (at + name_width + z) (i + 1) bt j to k
         go A =
@@ -394,11 +394,11 @@ module _ {O : Order} {l : ℕ} {a : List ℕ} {n : ℕ} {b : List ℕ} {m : ℕ}
     abbrev SB : Here l (m - (j + 1)) bt v.least_b b v.gs
     SB = entry_b v (more_b v pk (omega arith))
 
-    pub skip-b-fits : bt + name_width + z ≤ length b
-    skip-b-fits = omega (arith, SB.fits, skipped l b (bt + name_width) z SB.x e SB.first)
+    pub skip_b_fits : bt + name_width + z ≤ length b
+    skip_b_fits = omega (arith, SB.fits, skipped l b (bt + name_width) z SB.x e SB.first)
 
-    pub skip-b : FieldsInv O up l a n b m old out at i (bt + name_width + z) (j + 1) to k
-    skip-b = go SB
+    pub skip_b : FieldsInv O up l a n b m old out at i (bt + name_width + z) (j + 1) to k
+    skip_b = go SB
       where
         go : Here l (m - (j + 1)) bt v.least_b b v.gs → FieldsInv O up l a n b m old out at i (bt + name_width + z) (j + 1) to k
         go B =
@@ -414,68 +414,68 @@ module _ {O : Order} {l : ℕ} {a : List ℕ} {n : ℕ} {b : List ℕ} {m : ℕ}
     abbrev OA : Here l (n - (i + 1)) at v.least_a a v.fs
     OA = entry_a v (more_a v pk (omega arith))
 
-    only-a : (A : Here l (n - (i + 1)) at v.least_a a v.fs) → answer_fields O down v.fs v.gs ≡ field A.name (answer O down A.x A.x) (answer_fields O down A.more v.gs)
-    only-a A =
+    only_a : (A : Here l (n - (i + 1)) at v.least_a a v.fs) → answer_fields O down v.fs v.gs ≡ field A.name (answer O down A.x A.x) (answer_fields O down A.more v.gs)
+    only_a A =
         let w : AscFields v.gs (suc A.name) = ahead l j m bt v.least_b b v.gs v.read_b A.name y pk.second (omega (arith, A.named, (name_a v pk (omega arith)).1)) in
         ap (λ (f : Fields). answer_fields O down f v.gs) A.is ∙ sub_fields_first O A.name A.x A.more v.gs A.asc w
         ∙ ap (λ (z : Ty). field A.name z (answer_fields O down A.more v.gs)) (sym (self v.ends down A.x (t_good l (drop (at + name_width) a) A.x A.first).0))
 
-    pub a-room : to + name_width ≤ length out
-    a-room = omega (arith, entry_room v OA.name (answer O down OA.x OA.x) OA.more v.gs (only-a OA))
+    pub a_room : to + name_width ≤ length out
+    a_room = omega (arith, entry_room v OA.name (answer O down OA.x OA.x) OA.more v.gs (only_a OA))
 
     module _ (T : List ℕ) (et : T ≡ over to (bytes name_width (num_at name_width at a)) out) where
-      copied-a : T ≡ over to (bytes name_width OA.name) out
-      copied-a = et ∙ ap (λ (z : ℕ). over to (bytes name_width z) out) (sym OA.named)
+      copied_a : T ≡ over to (bytes name_width OA.name) out
+      copied_a = et ∙ ap (λ (z : ℕ). over to (bytes name_width z) out) (sym OA.named)
 
-      pub a-length : length T ≡ length out
-      a-length = entry_length v OA.name (answer O down OA.x OA.x) OA.more v.gs (only-a OA) T copied-a
+      pub a_length : length T ≡ length out
+      a_length = entry_length v OA.name (answer O down OA.x OA.x) OA.more v.gs (only_a OA) T copied_a
 
-      pub a-ready : Ready (of_types O down) (type_at l (behind (at + name_width) a)) (type_at l (behind (at + name_width) a)) (length (behind (to + name_width) T))
-      a-ready = entry_ready v OA.name (answer O down OA.x OA.x) OA.more v.gs (only-a OA) T copied-a _ _ OA.x OA.x (entry_behind OA) (entry_behind OA) refl
+      pub a_ready : Ready (of_types O down) (type_at l (behind (at + name_width) a)) (type_at l (behind (at + name_width) a)) (length (behind (to + name_width) T))
+      a_ready = entry_ready v OA.name (answer O down OA.x OA.x) OA.more v.gs (only_a OA) T copied_a _ _ OA.x OA.x (entry_behind OA) (entry_behind OA) refl
 
       module _ (ns : List ℕ) (e f w : ℕ) (h : Combined (of_types O down) (type_at l (behind (at + name_width) a)) (type_at l (behind (at + name_width) a)) (behind (to + name_width) T) ns e f w) where
-        a-wrote : (e ≡ size OA.x) × (f ≡ size OA.x) × (w ≡ size (answer O down OA.x OA.x)) × (ns ≡ onto (enc (answer O down OA.x OA.x)) (behind (to + name_width) T))
-        a-wrote = written v OA.name (answer O down OA.x OA.x) OA.more v.gs (only-a OA) T copied-a _ _ OA.x OA.x (entry_behind OA) (entry_behind OA) refl ns e f w h
+        a_wrote : (e ≡ size OA.x) × (f ≡ size OA.x) × (w ≡ size (answer O down OA.x OA.x)) × (ns ≡ onto (enc (answer O down OA.x OA.x)) (behind (to + name_width) T))
+        a_wrote = written v OA.name (answer O down OA.x OA.x) OA.more v.gs (only_a OA) T copied_a _ _ OA.x OA.x (entry_behind OA) (entry_behind OA) refl ns e f w h
 
-        pub a-ends : (at + name_width + e ≤ length a) × (to + name_width + w ≤ length out)
-        a-ends = (omega (arith, a-wrote.0, OA.fits), omega (arith, a-wrote.2, entry_room v OA.name (answer O down OA.x OA.x) OA.more v.gs (only-a OA)))
+        pub a_ends : (at + name_width + e ≤ length a) × (to + name_width + w ≤ length out)
+        a_ends = (omega (arith, a_wrote.0, OA.fits), omega (arith, a_wrote.2, entry_room v OA.name (answer O down OA.x OA.x) OA.more v.gs (only_a OA)))
 
-        pub a-next : length ns ≡ length (behind (to + name_width) T) → FieldsInv O down l a n b m old (put_mid (to + name_width) (length T - (to + name_width)) T ns) (at + name_width + e) (i + 1) bt j
+        pub a_next : length ns ≡ length (behind (to + name_width) T) → FieldsInv O down l a n b m old (put_mid (to + name_width) (length T - (to + name_width)) T ns) (at + name_width + e) (i + 1) bt j
             (to + name_width + w) (k + 1)
-        a-next el = advance v OA.name (answer O down OA.x OA.x) OA.more v.gs (only-a OA) T copied-a (rest_a v (more_a v pk (omega arith)) OA e a-wrote.0) ns w a-wrote.2
-            a-wrote.3 el
+        a_next el = advance v OA.name (answer O down OA.x OA.x) OA.more v.gs (only_a OA) T copied_a (rest_a v (more_a v pk (omega arith)) OA e a_wrote.0) ns w a_wrote.2
+            a_wrote.3 el
 
   module _ (q : y < x) where
     abbrev OB : Here l (m - (j + 1)) bt v.least_b b v.gs
     OB = entry_b v (more_b v pk (omega arith))
 
-    only-b : (B : Here l (m - (j + 1)) bt v.least_b b v.gs) → answer_fields O down v.fs v.gs ≡ field B.name (answer O down B.x B.x) (answer_fields O down v.fs B.more)
-    only-b B =
+    only_b : (B : Here l (m - (j + 1)) bt v.least_b b v.gs) → answer_fields O down v.fs v.gs ≡ field B.name (answer O down B.x B.x) (answer_fields O down v.fs B.more)
+    only_b B =
         let w : AscFields v.fs (suc B.name) = ahead l i n at v.least_a a v.fs v.read_a B.name x pk.first (omega (arith, B.named, (name_b v pk (omega arith)).1)) in
         ap (λ (f : Fields). answer_fields O down v.fs f) B.is ∙ sub_fields_second O v.fs B.name (suc B.name) B.x B.more w (omega arith)
         ∙ ap (λ (z : Ty). field B.name z (answer_fields O down v.fs B.more)) (sym (self v.ends down B.x (t_good l (drop (bt + name_width) b) B.x B.first).0))
 
-    pub b-room : to + name_width ≤ length out
-    b-room = omega (arith, entry_room v OB.name (answer O down OB.x OB.x) v.fs OB.more (only-b OB))
+    pub b_room : to + name_width ≤ length out
+    b_room = omega (arith, entry_room v OB.name (answer O down OB.x OB.x) v.fs OB.more (only_b OB))
 
     module _ (T : List ℕ) (et : T ≡ over to (bytes name_width (num_at name_width bt b)) out) where
-      copied-b : T ≡ over to (bytes name_width OB.name) out
-      copied-b = et ∙ ap (λ (z : ℕ). over to (bytes name_width z) out) (sym OB.named)
+      copied_b : T ≡ over to (bytes name_width OB.name) out
+      copied_b = et ∙ ap (λ (z : ℕ). over to (bytes name_width z) out) (sym OB.named)
 
-      pub b-length : length T ≡ length out
-      b-length = entry_length v OB.name (answer O down OB.x OB.x) v.fs OB.more (only-b OB) T copied-b
+      pub b_length : length T ≡ length out
+      b_length = entry_length v OB.name (answer O down OB.x OB.x) v.fs OB.more (only_b OB) T copied_b
 
-      pub b-ready : Ready (of_types O down) (type_at l (behind (bt + name_width) b)) (type_at l (behind (bt + name_width) b)) (length (behind (to + name_width) T))
-      b-ready = entry_ready v OB.name (answer O down OB.x OB.x) v.fs OB.more (only-b OB) T copied-b _ _ OB.x OB.x (entry_behind OB) (entry_behind OB) refl
+      pub b_ready : Ready (of_types O down) (type_at l (behind (bt + name_width) b)) (type_at l (behind (bt + name_width) b)) (length (behind (to + name_width) T))
+      b_ready = entry_ready v OB.name (answer O down OB.x OB.x) v.fs OB.more (only_b OB) T copied_b _ _ OB.x OB.x (entry_behind OB) (entry_behind OB) refl
 
       module _ (ns : List ℕ) (e f w : ℕ) (h : Combined (of_types O down) (type_at l (behind (bt + name_width) b)) (type_at l (behind (bt + name_width) b)) (behind (to + name_width) T) ns e f w) where
-        b-wrote : (e ≡ size OB.x) × (f ≡ size OB.x) × (w ≡ size (answer O down OB.x OB.x)) × (ns ≡ onto (enc (answer O down OB.x OB.x)) (behind (to + name_width) T))
-        b-wrote = written v OB.name (answer O down OB.x OB.x) v.fs OB.more (only-b OB) T copied-b _ _ OB.x OB.x (entry_behind OB) (entry_behind OB) refl ns e f w h
+        b_wrote : (e ≡ size OB.x) × (f ≡ size OB.x) × (w ≡ size (answer O down OB.x OB.x)) × (ns ≡ onto (enc (answer O down OB.x OB.x)) (behind (to + name_width) T))
+        b_wrote = written v OB.name (answer O down OB.x OB.x) v.fs OB.more (only_b OB) T copied_b _ _ OB.x OB.x (entry_behind OB) (entry_behind OB) refl ns e f w h
 
-        pub b-ends : (bt + name_width + e ≤ length b) × (to + name_width + w ≤ length out)
-        b-ends = (omega (arith, b-wrote.0, OB.fits), omega (arith, b-wrote.2, entry_room v OB.name (answer O down OB.x OB.x) v.fs OB.more (only-b OB)))
+        pub b_ends : (bt + name_width + e ≤ length b) × (to + name_width + w ≤ length out)
+        b_ends = (omega (arith, b_wrote.0, OB.fits), omega (arith, b_wrote.2, entry_room v OB.name (answer O down OB.x OB.x) v.fs OB.more (only_b OB)))
 
-        pub b-next : length ns ≡ length (behind (to + name_width) T) → FieldsInv O down l a n b m old (put_mid (to + name_width) (length T - (to + name_width)) T ns) at i (bt + name_width + e) (j + 1)
+        pub b_next : length ns ≡ length (behind (to + name_width) T) → FieldsInv O down l a n b m old (put_mid (to + name_width) (length T - (to + name_width)) T ns) at i (bt + name_width + e) (j + 1)
             (to + name_width + w) (k + 1)
-        b-next el = advance v OB.name (answer O down OB.x OB.x) v.fs OB.more (only-b OB) T copied-b (rest_b v (more_b v pk (omega arith)) OB e b-wrote.0) ns w b-wrote.2
-            b-wrote.3 el
+        b_next el = advance v OB.name (answer O down OB.x OB.x) v.fs OB.more (only_b OB) T copied_b (rest_b v (more_b v pk (omega arith)) OB e b_wrote.0) ns w b_wrote.2
+            b_wrote.3 el

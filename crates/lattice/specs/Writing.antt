@@ -8,7 +8,7 @@ use Rattle.form.specs.Form.{enc, enc_fields, enc_tys, count_fields}
 use Rattle.form.specs.Answers.{onto}
 use Rattle.form.specs.Options.{WhereBoth}
 use Rattle.order.specs.Order.{Dir, flip, pick, Order}
-use Rattle.order.specs.Types.{reduce, reduceFields, reduceTys, bound, bounds, intersectWith, merge}
+use Rattle.order.specs.Types.{reduce, reduce_fields, reduce_tys, bound, bounds, intersect_with, merge}
 use Rattle.order.specs.Size.{size, size_fields}
 use Rattle.types.specs.At.{Sig, sig, size_sig}
 
@@ -17,10 +17,10 @@ abbrev pub answer : Order → Dir → Ty → Ty → Ty
 answer O d t u = reduce O (bound O d t u)
 
 abbrev pub answer_fields : Order → Dir → Fields → Fields → Fields
-answer_fields O d fs gs = reduceFields O (pick d (intersectWith O fs gs) (merge O fs gs))
+answer_fields O d fs gs = reduce_fields O (pick d (intersect_with O fs gs) (merge O fs gs))
 
 unfoldable pub answer_sig : Order → Dir → Sig → Sig → Sig
-answer_sig O d (sig ps r) (sig qs s) = sig (reduceTys O (bounds O (flip d) ps qs)) (answer O d r s)
+answer_sig O d (sig ps r) (sig qs s) = sig (reduce_tys O (bounds O (flip d) ps qs)) (answer O d r s)
 
 unfoldable pub enc_sig : Sig → List ℕ
 enc_sig (sig ps r) = enc_tys ps ++ enc r

@@ -1,7 +1,7 @@
 -- The names of the built-in types: equal texts, the one name that a text can be, and whether it is one.
 -- Idea: length and first letter tell the ten names apart, so at most one is compared.
 -- Index: `same_text_lem`, `text_same`, `has_named`, `last_name` (equal texts); `only_long`, `only_first`, `only_null`, `only_string`, `only_none` (the one name that a text can be);
--- `no_candidate`, `candidate-hit`, `candidate-missed` (`from_str`); `named_cons`, `named_read`, `built_in_yes`, `built_in_no` (whether it is one).
+-- `no_candidate`, `candidate_hit`, `candidate_missed` (`from_str`); `named_cons`, `named_read`, `built_in_yes`, `built_in_no` (whether it is one).
 -- Assumes nothing.
 use Prim.Native.Nat.{ℕ, zero, suc, ◌+◌, ◌<◌, ◌≤◌}
 use native.Mathlib.Omega.{arith}
@@ -97,18 +97,18 @@ module _ {s : List ℕ} {k : ℕ} (Q : Looking s k) where
     here : from_str s ≡ cond q (some (decode k)) (one_named s (drop (suc k) simples))
     here = Q.same ∙ ap (one_named s) (simples_at k h) ∙ named_cons s (decode k) (drop (suc k) simples) ∙ ap (λ b. cond b (some (decode k)) (one_named s (drop (suc k) simples))) (sym eq)
 
-    looking-hit : q ≡ true → (r : ℕ) → r ≡ 0x20 + k → some r ≡ from_str_call s
-    looking-hit t r er =
+    looking_hit : q ≡ true → (r : ℕ) → r ≡ 0x20 + k → some r ≡ from_str_call s
+    looking_hit t r er =
         let z : r ≡ command (decode k) = omega (arith, code_decode k h) in
         ap some z ∙ sym (ap (map command) (here ∙ ap (λ b. cond b (some (decode k)) (one_named s (drop (suc k) simples))) t))
 
-    looking-next : q ≡ false → Looking s (k + 1)
-    looking-next t = record { same = here ∙ ap (λ b. cond b (some (decode k)) (one_named s (drop (suc k) simples))) t ∙ ap (λ (j : ℕ). one_named s (drop j simples)) (sym (add-one k)) }
+    looking_next : q ≡ false → Looking s (k + 1)
+    looking_next t = record { same = here ∙ ap (λ b. cond b (some (decode k)) (one_named s (drop (suc k) simples))) t ∙ ap (λ (j : ℕ). one_named s (drop j simples)) (sym (add-one k)) }
 
 -- the names that are passed by are others
 looking_up : (s : List ℕ) (r : ℕ) → r ≤ 10 → ((j : ℕ) → j < r → same_text s (name_of (decode j)) ≡ false) → Looking s r
 looking_up s zero w f = looking s
-looking_up s (suc j) w f = subst (Looking s) (add-one j) (looking-next (looking_up s j (omega arith) (λ i h. f i (omega arith))) (omega arith) false (sym (f j (omega arith))) refl)
+looking_up s (suc j) w f = subst (Looking s) (add-one j) (looking_next (looking_up s j (omega arith) (λ i h. f i (omega arith))) (omega arith) false (sym (f j (omega arith))) refl)
 
 -- ---- the one name that s can be
 only : (s : List ℕ) (k : ℕ) → k ≡ pick (length s) (get_or s 0 0) → k ≤ 10 → Only s k
@@ -142,14 +142,14 @@ module _ (s : List ℕ) (k : ℕ) (O : Only s k) where
   no_candidate e = looking_ended (looking_up s 10 (omega arith) (λ j h. O.others j h (λ z. omega arith))) (omega arith)
 
   module _ (h : k ≡ 10 → ⊥) (q : Bool) (eq : q ≡ same_text s (name_of (decode k))) where
-    candidate-below : k < 10
-    candidate-below = omega (arith, O.within)
+    candidate_below : k < 10
+    candidate_below = omega (arith, O.within)
 
-    pub candidate-hit : q ≡ true → (r : ℕ) → r ≡ 0x20 + k → some r ≡ from_str_call s
-    candidate-hit t r er = looking-hit (looking_up s k O.within (λ j l. O.others j (omega (arith, O.within)) (λ z. omega arith))) candidate-below q eq t r er
+    pub candidate_hit : q ≡ true → (r : ℕ) → r ≡ 0x20 + k → some r ≡ from_str_call s
+    candidate_hit t r er = looking_hit (looking_up s k O.within (λ j l. O.others j (omega (arith, O.within)) (λ z. omega arith))) candidate_below q eq t r er
 
-    pub candidate-missed : q ≡ false → none ≡ from_str_call s
-    candidate-missed t = looking_ended (looking_up s 10 (omega arith) (λ j l. go j l (eqb j k) refl)) (omega arith)
+    pub candidate_missed : q ≡ false → none ≡ from_str_call s
+    candidate_missed t = looking_ended (looking_up s 10 (omega arith) (λ j l. go j l (eqb j k) refl)) (omega arith)
       where
         go : (j : ℕ) → j < 10 → (b : Bool) → eqb j k ≡ b → same_text s (name_of (decode j)) ≡ false
         go j l true e = ap (λ (i : ℕ). same_text s (name_of (decode i))) (eqb-true j k e) ∙ sym eq ∙ t

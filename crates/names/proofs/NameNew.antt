@@ -1,6 +1,6 @@
 -- `Name::new`: what a part adds, the loop over the parts, and the call. Idea: the name so far and the parts that are left make the whole name.
--- Index: `part_joined`, `part_parted`, `part_added`, `trimmed_room`, `trim_shorter`, `added_length` (a part); `Naming`, `naming_starts`, `naming-next`, `naming_within`, `naming_ended` (the loop);
--- `parts_refused`, `parts-ok`, `parts-most`, `name_fits`, `name_handed` (the call).
+-- Index: `part_joined`, `part_parted`, `part_added`, `trimmed_room`, `trim_shorter`, `added_length` (a part); `Naming`, `naming_starts`, `naming_next`, `naming_within`, `naming_ended` (the loop);
+-- `parts_refused`, `parts_ok`, `parts_most`, `name_fits`, `name_handed` (the call).
 -- Assumes nothing.
 use Prim.Native.Nat.{ℕ, suc, ◌+◌, ◌-◌, ◌<◌, ◌≤◌}
 use native.Mathlib.Omega.{arith}
@@ -170,52 +170,52 @@ module _ {parts old : List ℕ} {count : ℕ} {out : List ℕ} {prev : Bool} {to
     left : read_texts in_parts none (suc (count - (index + 1))) (drop at parts) ≡ some Q.ps
     left = let z : suc (count - (index + 1)) ≡ count - index = omega arith in ap (λ (k : ℕ). read_texts in_parts none k (drop at parts)) z ∙ Q.read
 
-    pub naming-read : at < length parts
-    naming-read = text_byte in_parts none (count - (index + 1)) at parts Q.ps left
+    pub naming_read : at < length parts
+    naming_read = text_byte in_parts none (count - (index + 1)) at parts Q.ps left
 
-    pub naming-add : at + 1 ≤ most_bytes
-    naming-add = omega (arith, naming-read, short)
+    pub naming_add : at + 1 ≤ most_bytes
+    naming_add = omega (arith, naming_read, short)
 
     abbrev H : Text in_parts none (count - (index + 1)) (get_or parts at 0) (drop (at + 1) parts) Q.ps
     H = text_here in_parts none (count - (index + 1)) at parts Q.ps left
 
     module _ (n : ℕ) (en : n ≡ get_or parts at 0) where
-      pub naming-end : at + 1 + n ≤ length parts
-      naming-end = omega (arith, H.fits, length-drop (at + 1) parts, naming-read)
+      pub naming_end : at + 1 + n ≤ length parts
+      naming_end = omega (arith, H.fits, length-drop (at + 1) parts, naming_read)
 
-      pub naming-most : at + 1 + n ≤ most_bytes
-      naming-most = omega (arith, naming-end, short)
+      pub naming_most : at + 1 + n ≤ most_bytes
+      naming_most = omega (arith, naming_end, short)
 
       abbrev part : List ℕ
       part = take (at + 1 + n - (at + 1)) (drop (at + 1) parts)
 
-      part-is : part ≡ take (get_or parts at 0) (drop (at + 1) parts)
-      part-is = cut_is parts at n ∙ ap (λ (k : ℕ). take k (drop (at + 1) parts)) en
+      part_is : part ≡ take (get_or parts at 0) (drop (at + 1) parts)
+      part_is = cut_is parts at n ∙ ap (λ (k : ℕ). take k (drop (at + 1) parts)) en
 
-      part-long : length part ≡ n
-      part-long = ap length part-is ∙ length-take-le (get_or parts at 0) (drop (at + 1) parts) H.fits ∙ sym en
+      part_long : length part ≡ n
+      part_long = ap length part_is ∙ length-take-le (get_or parts at 0) (drop (at + 1) parts) H.fits ∙ sym en
 
-      pub naming-room : (k : ℕ) → most_bytes < k → to + length part + 1 < k
-      naming-room k l = omega (arith, part-long, naming-most, Q.small)
+      pub naming_room : (k : ℕ) → most_bytes < k → to + length part + 1 < k
+      naming_room k l = omega (arith, part_long, naming_most, Q.small)
 
-      pub naming-next : (r : ℕ) (m : Bool) (new : List ℕ) → (r ≡ to + length (added index prev (trim part))) × ((m ≡ is_mark (trim part)) × (new ≡ puts to (added index prev (trim part)) out))
+      pub naming_next : (r : ℕ) (m : Bool) (new : List ℕ) → (r ≡ to + length (added index prev (trim part))) × ((m ≡ is_mark (trim part)) × (new ≡ puts to (added index prev (trim part)) out))
           → Naming parts old count new m r (at + 1 + n) (index + 1)
-      naming-next r m new f = record {
+      naming_next r m new f = record {
         whole = Q.whole;
         read_whole_lem = Q.read_whole_lem;
         upto = omega arith;
-        inside = naming-end;
+        inside = naming_end;
         ps = H.more;
         read = sym (parts_any (some (take (get_or parts at 0) (drop (at + 1) parts))) (count - (index + 1)) (drop (at + 1 + n) parts))
             ∙ ap (λ (x : List ℕ). read_texts in_parts (some (take (get_or parts at 0) (drop (at + 1) parts))) (count - (index + 1)) x)
             (sym (drop-drop n (at + 1) parts) ∙ ap (λ (k : ℕ). drop k (drop (at + 1) parts)) en) ∙ H.next;
         said = Q.said ++ added index prev (trim part);
-        same = Q.same ∙ ap (pushed index prev Q.said) (H.is ∙ ap (λ (x : List ℕ). x ∷ H.more) (sym part-is))
+        same = Q.same ∙ ap (pushed index prev Q.said) (H.is ∙ ap (λ (x : List ℕ). x ∷ H.more) (sym part_is))
             ∙ next_pushed index prev Q.said part H.more
             ∙ ap₂ (λ (i : ℕ) (b : Bool). pushed i b (Q.said ++ added index prev (trim part)) H.more) (sym (add-one index)) (sym f.1.0);
         long = f.0 ∙ omega (arith, Q.long, length-append Q.said (added index prev (trim part)));
         wrote = put_then Q.said (added index prev (trim part)) old out new to Q.wrote (sym Q.long) f.1.1;
-        small = omega (arith, f.0, added_length index prev (trim part), trim_shorter part, part-long, Q.small);
+        small = omega (arith, f.0, added_length index prev (trim part), trim_shorter part, part_long, Q.small);
       }
 
 -- ---- the call
@@ -235,11 +235,11 @@ module _ (parts : List ℕ) (q : Bool) (eq : q ≡ is_read (read_parts parts)) w
     abbrev G : (ps : List (List ℕ)) × (read_parts parts ≡ some ps)
     G = read_some (read_parts parts) (sym eq ∙ not-false q t)
 
-    pub parts-ok : Ok (read_parts parts)
-    parts-ok = is_ok (read_parts parts) G.0 G.1
+    pub parts_ok : Ok (read_parts parts)
+    parts_ok = is_ok (read_parts parts) G.0 G.1
 
-    pub parts-most : (k : ℕ) → most_bytes ≤ k → length parts ≤ k
-    parts-most k l = omega (arith, got_short parts G.0 G.1)
+    pub parts_most : (k : ℕ) → most_bytes ≤ k → length parts ≤ k
+    parts_most k l = omega (arith, got_short parts G.0 G.1)
 
 -- the name stands in a spare place, and is handed on
 module _ (parts was spare : List ℕ) (n : ℕ) (h : Ok (read_parts parts)) (w : Writes (map name_new (read_parts parts)) was spare n) (k : n ≤ length parts) (l : length parts ≤ length was) where

@@ -17,7 +17,7 @@ use Rattle.form.specs.Limits.{most_bytes}
 use Rattle.order.proofs.Bools.{and_false, and_true}
 use Rattle.names.specs.Reader.{provided, read_texts, is_read}
 use Rattle.names.specs.Parts.{plain, in_parts, counted_parts, read_parts}
-use Rattle.names.proofs.Reader.{cut_is, Left, left-bad, left-next}
+use Rattle.names.proofs.Reader.{cut_is, Left, left_bad, left_next}
 
 -- ---- bytes 00 to 7F
 plain_nil : plain [] ≡ true
@@ -86,9 +86,9 @@ parts_any before (suc c) (n ∷ s) = refl
 module _ {s : List ℕ} {count at i : ℕ} (Q : Left in_parts (read_parts s) none s count at i) (h : i < count) (k : at < length s)
     (n : ℕ) (en : n ≡ get_or s at 0) (l : n ≤ length s - (at + 1)) (p : Bool) (e : p ≡ plain (take (at + 1 + n - (at + 1)) (drop (at + 1) s))) where
   pub parts_bad : not p ≡ true → false ≡ is_read (read_parts s)
-  parts_bad r = left-bad Q h k n en l (sym (e ∙ ap plain (cut_is s at n)) ∙ not-true p r)
+  parts_bad r = left_bad Q h k n en l (sym (e ∙ ap plain (cut_is s at n)) ∙ not-true p r)
 
   pub parts_next : not p ≡ false → Left in_parts (read_parts s) none s count (at + 1 + n) (i + 1)
   parts_next r =
-      let N = left-next Q h k n en l (sym (e ∙ ap plain (cut_is s at n)) ∙ not-false p r) in
+      let N = left_next Q h k n en l (sym (e ∙ ap plain (cut_is s at n)) ∙ not-false p r) in
       record { upto = N.upto; inside = N.inside; read = N.read ∙ ap is_read (parts_any (some (take n (drop (at + 1) s))) (count - (i + 1)) (drop (at + 1 + n) s)) }

@@ -1,7 +1,7 @@
 -- The reader of texts over a rule: what a list of texts that was read says of its first text, and a loop that reads one text after the other.
 -- Idea: what is left to read decides, so the loop keeps an equation between the whole and the rest.
--- Index: `read_zero`, `read_nil`, `read_short`, `read-cut`, `read_next`, `read-bad`, `read-good` (one text); `Text`, `texts_got`, `text_byte`, `text_here` (texts that were read);
--- `Left`, `left-next`, `left_short`, `left_cut`, `left-bad`, `left_ended` (the loop); `read_some`, `unread`, `provided_got`, `is_mapped`, `is_end`, `cut_is`.
+-- Index: `read_zero`, `read_nil`, `read_short`, `read_cut`, `read_next`, `read_bad`, `read_good` (one text); `Text`, `texts_got`, `text_byte`, `text_here` (texts that were read);
+-- `Left`, `left_next`, `left_short`, `left_cut`, `left_bad`, `left_ended` (the loop); `read_some`, `unread`, `provided_got`, `is_mapped`, `is_end`, `cut_is`.
 -- Assumes nothing.
 use Prim.Native.Nat.{ℕ, suc, ◌+◌, ◌-◌, ◌<◌, ◌≤◌}
 use native.Mathlib.Omega.{arith}
@@ -78,18 +78,18 @@ module _ (rule : Rule) (before : Option (List ℕ)) (s : List ℕ) (at c : ℕ) 
         ∙ read_cons rule before c n (drop (at + 1) s)
         ∙ ap₂ (λ (k : ℕ) (r : List ℕ). provided (leb n k && rule before piece) (map (λ ts. piece ∷ ts) (read_texts rule (some piece) c r))) (length-drop (at + 1) s) (drop-drop n (at + 1) s)
 
-    pub read-cut : length s - (at + 1) < n → read_texts rule before (suc c) (drop at s) ≡ none
-    read-cut k = read_next ∙ ap (λ q. provided (q && rule before piece) (map (λ ts. piece ∷ ts) more)) (lt-leb n (length s - (at + 1)) k)
+    pub read_cut : length s - (at + 1) < n → read_texts rule before (suc c) (drop at s) ≡ none
+    read_cut k = read_next ∙ ap (λ q. provided (q && rule before piece) (map (λ ts. piece ∷ ts) more)) (lt-leb n (length s - (at + 1)) k)
 
     module _ (k : n ≤ length s - (at + 1)) where
       room : read_texts rule before (suc c) (drop at s) ≡ provided (rule before piece) (map (λ ts. piece ∷ ts) more)
       room = read_next ∙ ap (λ q. provided (q && rule before piece) (map (λ ts. piece ∷ ts) more)) (le-leb n (length s - (at + 1)) k)
 
-      pub read-bad : rule before piece ≡ false → read_texts rule before (suc c) (drop at s) ≡ none
-      read-bad r = room ∙ ap (λ q. provided q (map (λ ts. piece ∷ ts) more)) r
+      pub read_bad : rule before piece ≡ false → read_texts rule before (suc c) (drop at s) ≡ none
+      read_bad r = room ∙ ap (λ q. provided q (map (λ ts. piece ∷ ts) more)) r
 
-      pub read-good : rule before piece ≡ true → read_texts rule before (suc c) (drop at s) ≡ map (λ ts. piece ∷ ts) more
-      read-good r = room ∙ ap (λ q. provided q (map (λ ts. piece ∷ ts) more)) r
+      pub read_good : rule before piece ≡ true → read_texts rule before (suc c) (drop at s) ≡ map (λ ts. piece ∷ ts) more
+      read_good r = room ∙ ap (λ q. provided q (map (λ ts. piece ∷ ts) more)) r
 
 -- ---- a list of texts that was read
 pub record Text (rule : Rule) (before : Option (List ℕ)) (c n : ℕ) (s : List ℕ) (ts : List (List ℕ)) : Type 0 where
@@ -147,16 +147,16 @@ module _ {rule : Rule} {whole : Option (List (List ℕ))} {before : Option (List
 
     module _ (k : at < length s) (n : ℕ) (en : n ≡ get_or s at 0) where
       pub left_cut : length s - (at + 1) < n → false ≡ is_read whole
-      left_cut l = sym (one_more ∙ ap is_read (read-cut rule before s at (count - (i + 1)) k n en l))
+      left_cut l = sym (one_more ∙ ap is_read (read_cut rule before s at (count - (i + 1)) k n en l))
 
       module _ (l : n ≤ length s - (at + 1)) where
-        pub left-bad : rule before (take n (drop (at + 1) s)) ≡ false → false ≡ is_read whole
-        left-bad r = sym (one_more ∙ ap is_read (read-bad rule before s at (count - (i + 1)) k n en l r))
+        pub left_bad : rule before (take n (drop (at + 1) s)) ≡ false → false ≡ is_read whole
+        left_bad r = sym (one_more ∙ ap is_read (read_bad rule before s at (count - (i + 1)) k n en l r))
 
-        pub left-next : rule before (take n (drop (at + 1) s)) ≡ true → Left rule whole (some (take n (drop (at + 1) s))) s count (at + 1 + n) (i + 1)
-        left-next r = record {
+        pub left_next : rule before (take n (drop (at + 1) s)) ≡ true → Left rule whole (some (take n (drop (at + 1) s))) s count (at + 1 + n) (i + 1)
+        left_next r = record {
           upto = omega arith;
           inside = omega arith;
-          read = one_more ∙ ap is_read (read-good rule before s at (count - (i + 1)) k n en l r)
+          read = one_more ∙ ap is_read (read_good rule before s at (count - (i + 1)) k n en l r)
               ∙ is_mapped (λ ts. take n (drop (at + 1) s) ∷ ts) (read_texts rule (some (take n (drop (at + 1) s))) (count - (i + 1)) (drop (at + 1 + n) s));
         }

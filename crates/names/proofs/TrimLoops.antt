@@ -1,6 +1,6 @@
 -- The loops of trim, where its part stands, trim with an output, and the marks and the spaces of a name.
 -- Idea: a blank at an end does not change what trim leaves, so the loops keep it.
--- Index: `blank_low`, `blank_space`, `blank_below`, `blank_above` (blanks); `Starting`, `starting`, `starting-next`, `starting-done` (the front); `Ending`, `ending`, `ending-next`, `ending-done`
+-- Index: `blank_low`, `blank_space`, `blank_below`, `blank_above` (blanks); `Starting`, `starting`, `starting_next`, `starting_done` (the front); `Ending`, `ending`, `ending_next`, `ending_done`
 -- (the end); `trimmed`, `trimmed_part`, `trim_long`, `trim_given` (trim); `mark_long`, `mark_quote`, `mark_two`, `mark_three` (marks); `parted_first`, `parted_after`, `parted_mark`, `parted_else`.
 -- Assumes nothing.
 use Prim.Native.Nat.{ℕ, suc, ◌+◌, ◌-◌, ◌<◌, ◌≤◌}
@@ -65,14 +65,14 @@ module _ {s : List ℕ} {i : ℕ} (Q : Starting s i) where
       (Q.inside, e ∙ sym start_nil ∙ ap trim_start (sym e) ∙ Q.same)
 
   module _ (h : i < length s) (q : Bool) (eq : q ≡ blank (get_or s i 0)) where
-    pub starting-next : not q ≡ false → Starting s (i + 1)
-    starting-next b = record {
+    pub starting_next : not q ≡ false → Starting s (i + 1)
+    starting_next b = record {
       inside = omega arith;
       same = ap (λ (k : ℕ). trim_start (drop k s)) (add-one i) ∙ sym (start_more (get_or s i 0) (drop (suc i) s) (sym eq ∙ not-false q b)) ∙ ap trim_start (sym (drop-cons s i 0 h)) ∙ Q.same;
     }
 
-    pub starting-done : not q ≡ true → (i ≤ length s) × (drop i s ≡ trim_start s)
-    starting-done b = (Q.inside, drop-cons s i 0 h ∙ sym (start_kept (get_or s i 0) (drop (suc i) s) (sym eq ∙ not-true q b)) ∙ ap trim_start (sym (drop-cons s i 0 h)) ∙ Q.same)
+    pub starting_done : not q ≡ true → (i ≤ length s) × (drop i s ≡ trim_start s)
+    starting_done b = (Q.inside, drop-cons s i 0 h ∙ sym (start_kept (get_or s i 0) (drop (suc i) s) (sym eq ∙ not-true q b)) ∙ ap trim_start (sym (drop-cons s i 0 h)) ∙ Q.same)
 
 -- ---- at the end
 end_more : (s : List ℕ) (b : ℕ) → blank b ≡ true → trim_end (s ++ (b ∷ [])) ≡ trim_end s
@@ -105,21 +105,21 @@ module _ {s : List ℕ} {i : ℕ} (Q : Ending s i) where
       (Q.inside, e ∙ sym end_nil ∙ ap trim_end (sym e) ∙ Q.same)
 
   module _ (h : 0 < i) where
-    pub ending-read : i - 1 < length s
-    ending-read = omega (arith, Q.inside)
+    pub ending_read : i - 1 < length s
+    ending_read = omega (arith, Q.inside)
 
     last_byte : take i s ≡ take (i - 1) s ++ (get_or s (i - 1) 0 ∷ [])
-    last_byte = let z : i ≡ suc (i - 1) = omega arith in ap (λ (k : ℕ). take k s) z ∙ take-suc s (i - 1) 0 ending-read
+    last_byte = let z : i ≡ suc (i - 1) = omega arith in ap (λ (k : ℕ). take k s) z ∙ take-suc s (i - 1) 0 ending_read
 
     module _ (q : Bool) (eq : q ≡ blank (get_or s (i - 1) 0)) where
-      pub ending-next : not q ≡ false → Ending s (i - 1)
-      ending-next b = record {
+      pub ending_next : not q ≡ false → Ending s (i - 1)
+      ending_next b = record {
         inside = omega (arith, Q.inside);
         same = sym (end_more (take (i - 1) s) (get_or s (i - 1) 0) (sym eq ∙ not-false q b)) ∙ ap trim_end (sym last_byte) ∙ Q.same;
       }
 
-      pub ending-done : not q ≡ true → (i ≤ length s) × (take i s ≡ trim_end s)
-      ending-done b = (Q.inside, last_byte ∙ sym (end_kept (take (i - 1) s) (get_or s (i - 1) 0) (sym eq ∙ not-true q b)) ∙ ap trim_end (sym last_byte) ∙ Q.same)
+      pub ending_done : not q ≡ true → (i ≤ length s) × (take i s ≡ trim_end s)
+      ending_done b = (Q.inside, last_byte ∙ sym (end_kept (take (i - 1) s) (get_or s (i - 1) 0) (sym eq ∙ not-true q b)) ∙ ap trim_end (sym last_byte) ∙ Q.same)
 
 -- ---- both
 module _ (s : List ℕ) (from to : ℕ) (f : (from ≤ length s) × (drop from s ≡ trim_start s)) (t : (to ≤ length (take (length s - from) (drop from s))) ×

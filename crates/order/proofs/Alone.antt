@@ -7,8 +7,8 @@ use mathlib.Core.Path.{◌≡◌, refl, sym, ◌∙◌, ap}
 use mathlib.Core.Bool.{Bool, true, false, not, cond, ◌&&◌, ◌||◌}
 use Rattle.form.specs.Trees.{Simple, any, null, Ty, leaf, built, Built, list, range, context, function, Fields, no_fields, Tys, no_params, param, v_list, Vals, no_items, item}
 use Rattle.order.specs.Order.{up, down, Order}
-use Rattle.order.specs.Types.{same_count, ignores, empty, cmp, cmps, le, reduce, reduceFields, bound, bounds, sup, sub, sup_fields, sub_fields, sup_tys, sub_tys}
-use Rattle.order.specs.Values.{least, leastItems}
+use Rattle.order.specs.Types.{same_count, ignores, empty, cmp, cmps, le, reduce, reduce_fields, bound, bounds, sup, sub, sup_fields, sub_fields, sup_tys, sub_tys}
+use Rattle.order.specs.Values.{least, least_items}
 use Rattle.order.specs.Sentences.{from_left}
 
 module _ (O : Order) where
@@ -143,13 +143,13 @@ module _ (O : Order) where
   unfolding bound reduce
   sup_fields_none gs = refl
 
-  pub sub_fields_none : (gs : Fields) → sub_fields O no_fields gs ≡ reduceFields O gs
+  pub sub_fields_none : (gs : Fields) → sub_fields O no_fields gs ≡ reduce_fields O gs
   unfolding bound
   sub_fields_none gs = refl
 
   -- LEAST TYPE
   -- List: List of the supertype of all items' least types, starting from Null
-  items_from_left : (vs : Vals) (t : Ty) → leastItems O vs t ≡ from_left (λ u v. sup O u (least O v)) t vs
+  items_from_left : (vs : Vals) (t : Ty) → least_items O vs t ≡ from_left (λ u v. sup O u (least O v)) t vs
   unfolding least from_left
   items_from_left no_items t = refl
   items_from_left (item v vs) t = items_from_left vs (sup O t (least O v))

@@ -11,7 +11,7 @@ use borrow.Author.Tests.{eqb-false, ne_eqb, eq-eqb, ltb-true, ltb-false, lt-ltb,
 use Rattle.form.specs.Trees.{any}
 use Rattle.order.specs.Order.{Dir, up, down, flip, pick, Order, top, bottom, scmp}
 use Rattle.form.specs.Trees.{Ty, leaf, built, Built, list, range, context, function, Fields, no_fields, field, Tys, no_params, param}
-use Rattle.order.specs.Types.{lookup, same_count, ignores, reduce, reduceBuilt, reduceFields, reduceTys, keep, insert_with, bound, boundBuilt, intersectWith, merge, bounds, sup, sub}
+use Rattle.order.specs.Types.{lookup, same_count, ignores, reduce, reduce_built, reduce_fields, reduce_tys, keep, insert_with, bound, bound_built, intersect_with, merge, bounds, sup, sub}
 use Rattle.order.specs.Ascending.{Asc, AscBuilt, AscFields, AscTys}
 
 pub asc-weaken : (fs : Fields) (j k : ℕ) → j ≤ k → AscFields fs k → AscFields fs j
@@ -71,7 +71,7 @@ module _ (O : Order) where
     asc-bound d (built x) (leaf t) v w = asc-cond (scmp O d t (bottom d)) (built x) (leaf (top d)) v tt
     asc-bound d (built x) (built y) v w = asc-bound-built d x y v w
 
-    asc-bound-built : (d : Dir) (x y : Built) → AscBuilt x → AscBuilt y → Asc (boundBuilt O d x y)
+    asc-bound-built : (d : Dir) (x y : Built) → AscBuilt x → AscBuilt y → Asc (bound_built O d x y)
     asc-bound-built d (list a) (list b) v w = asc-bound d a b v w
     asc-bound-built d (list a) (range b) v w = tt
     asc-bound-built d (list a) (context gs) v w = tt
@@ -83,7 +83,7 @@ module _ (O : Order) where
     asc-bound-built d (context fs) (list b) v w = tt
     asc-bound-built d (context fs) (range b) v w = tt
     asc-bound-built d (context fs) (context gs) v w =
-        asc-pick d (intersectWith O fs gs) (merge O fs gs) (asc-common fs gs 0 v w) (asc-merge fs gs 0 v w)
+        asc-pick d (intersect_with O fs gs) (merge O fs gs) (asc-common fs gs 0 v w) (asc-merge fs gs 0 v w)
     asc-bound-built d (context fs) (function qs s) v w = tt
     asc-bound-built d (function ps r) (list b) v w = tt
     asc-bound-built d (function ps r) (range b) v w = tt
@@ -92,10 +92,10 @@ module _ (O : Order) where
         asc-cond (same_count ps qs) (built (function (bounds O (flip d) ps qs) (bound O d r s))) (leaf (top d))
         (asc-bounds (flip d) ps qs v.0 w.0, asc-bound d r s v.1 w.1) tt
 
-    asc-common : (fs gs : Fields) (k : ℕ) → AscFields fs k → AscFields gs 0 → AscFields (intersectWith O fs gs) k
+    asc-common : (fs gs : Fields) (k : ℕ) → AscFields fs k → AscFields gs 0 → AscFields (intersect_with O fs gs) k
     asc-common no_fields gs k v w = tt
     asc-common (field n a fs) gs k v w =
-        asc-keep n k (lookup n gs) (λ b. bound O up a b) (intersectWith O fs gs) v.0 (asc_look n gs 0 w) (λ b x. asc-bound up a b v.1 x)
+        asc-keep n k (lookup n gs) (λ b. bound O up a b) (intersect_with O fs gs) v.0 (asc_look n gs 0 w) (λ b x. asc-bound up a b v.1 x)
         (asc-common fs gs (suc n) v.2 w)
 
     pub asc-merge : (fs gs : Fields) (k : ℕ) → AscFields fs k → AscFields gs k → AscFields (merge O fs gs) k
@@ -117,18 +117,18 @@ module _ (O : Order) where
     asc-reduce (leaf s) v = tt
     asc-reduce (built x) v = asc-reduce-built x v
 
-    asc-reduce-built : (x : Built) → AscBuilt x → AscBuilt (reduceBuilt O x)
+    asc-reduce-built : (x : Built) → AscBuilt x → AscBuilt (reduce_built O x)
     asc-reduce-built (list a) v = asc-reduce a v
     asc-reduce-built (range a) v = asc-reduce a v
     asc-reduce-built (context fs) v = asc-reduce-fields fs 0 v
     asc-reduce-built (function ps r) v =
         (asc-reduce-tys ps v.0, asc-cond (ignores O ps) (leaf any) (reduce O r) tt (asc-reduce r v.1))
 
-    asc-reduce-fields : (fs : Fields) (k : ℕ) → AscFields fs k → AscFields (reduceFields O fs) k
+    asc-reduce-fields : (fs : Fields) (k : ℕ) → AscFields fs k → AscFields (reduce_fields O fs) k
     asc-reduce-fields no_fields k v = tt
     asc-reduce-fields (field n a fs) k v = (v.0, asc-reduce a v.1, asc-reduce-fields fs (suc n) v.2)
 
-    asc-reduce-tys : (ps : Tys) → AscTys ps → AscTys (reduceTys O ps)
+    asc-reduce-tys : (ps : Tys) → AscTys ps → AscTys (reduce_tys O ps)
     asc-reduce-tys no_params v = tt
     asc-reduce-tys (param a ps) v = (asc-reduce a v.0, asc-reduce-tys ps v.1)
 

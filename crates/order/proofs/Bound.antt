@@ -12,7 +12,7 @@ use Rattle.form.specs.Trees.{Simple}
 use Rattle.order.specs.Order.{Dir, up, down, flip, pick, Order, Laws, top, bottom, scmp}
 use Rattle.order.proofs.Simple.{and_left, and_right, scmp_trans, scmp_bottom, scmp_top, scmp_bound, top_bottom}
 use Rattle.form.specs.Trees.{Ty, leaf, built, Built, list, range, context, function, Fields, no_fields, field, Tys, no_params, param}
-use Rattle.order.specs.Types.{lookup, found, all_fields, empty, same_count, kind, ignores, cmp, cmpBuilt, has, within, cmps, keep, insert_with, bound, boundBuilt, intersectWith, merge, bounds}
+use Rattle.order.specs.Types.{lookup, found, all_fields, empty, same_count, kind, ignores, cmp, cmp_built, has, within, cmps, keep, insert_with, bound, bound_built, intersect_with, merge, bounds}
 use Rattle.order.proofs.Bools.{and_false, and_same, and_assoc, and_swap, and_comm, and_mix, and_implied, not_both, function_tests, found_and, found_none, found_some}
 use Rattle.order.proofs.Conform.{has_look}
 
@@ -24,7 +24,7 @@ all_and f g h (field n t hs) e =
     ∙ and_mix (g n t) (h n t) (all_fields g hs) (all_fields h hs)
 
 module _ (O : Order) where
-  pub cmp_kind : (d : Dir) (x z : Built) → cmpBuilt O d x z ≡ true → kind x ≡ kind z
+  pub cmp_kind : (d : Dir) (x z : Built) → cmp_built O d x z ≡ true → kind x ≡ kind z
   unfolding cmp
   cmp_kind d (list a) (list c) e = refl
   cmp_kind d (list a) (range c) e = absurd (false≢true e)
@@ -44,14 +44,14 @@ module _ (O : Order) where
   cmp_kind d (function ps r) (function cs u) e = refl
 
   -- two built types of different kinds: no conformance, and the top as their bound
-  pub cmp_other : (d : Dir) (x z : Built) → eqb (kind x) (kind z) ≡ false → cmpBuilt O d x z ≡ false
-  cmp_other d x z h = step (cmpBuilt O d x z) refl
+  pub cmp_other : (d : Dir) (x z : Built) → eqb (kind x) (kind z) ≡ false → cmp_built O d x z ≡ false
+  cmp_other d x z h = step (cmp_built O d x z) refl
     where
-      step : (q : Bool) → cmpBuilt O d x z ≡ q → q ≡ false
+      step : (q : Bool) → cmp_built O d x z ≡ q → q ≡ false
       step true e = absurd (eqb-false (kind x) (kind z) h (cmp_kind d x z e))
       step false e = refl
 
-  pub bound_other : (d : Dir) (x y : Built) → eqb (kind x) (kind y) ≡ false → boundBuilt O d x y ≡ leaf (top d)
+  pub bound_other : (d : Dir) (x y : Built) → eqb (kind x) (kind y) ≡ false → bound_built O d x y ≡ leaf (top d)
   unfolding bound
   bound_other d (list a) (list b) h = absurd (true≢false h)
   bound_other d (list a) (range b) h = refl
@@ -143,10 +143,10 @@ module _ (O : Order) where
 
 module _ (O : Order) (L : Laws O) where
   -- two built types of different kinds have no common bound but the top
-  clash : (d : Dir) (x y z : Built) → eqb (kind x) (kind y) ≡ false → scmp O d (top d) (bottom d) ≡ cmpBuilt O d x z && cmpBuilt O d y z
+  clash : (d : Dir) (x y z : Built) → eqb (kind x) (kind y) ≡ false → scmp O d (top d) (bottom d) ≡ cmp_built O d x z && cmp_built O d y z
   clash d x y z e =
       top_bottom O L d
-      ∙ sym (not_both (cmpBuilt O d x z) (cmpBuilt O d y z)
+      ∙ sym (not_both (cmp_built O d x z) (cmp_built O d y z)
       (λ p q. eqb-false (kind x) (kind y) e (cmp_kind O d x z p ∙ sym (cmp_kind O d y z q))))
 
   -- a simple type with a built one
@@ -158,13 +158,13 @@ module _ (O : Order) (L : Laws O) where
       step : (q : Bool) → scmp O d s (bottom d) ≡ q → (c : Ty) → cmp O d (cond q (built y) (leaf (top d))) c ≡ cmp O d (leaf s) c && cmp O d (built y) c
       step true e (leaf u) =
           and_implied (scmp O d s u) (scmp O d (top d) u) (λ h. scmp_trans O L d s (bottom d) u e (scmp_bottom O L d u))
-      step true e (built z) = and_implied (scmp O d s (bottom d)) (cmpBuilt O d y z) (λ h. e)
+      step true e (built z) = and_implied (scmp O d s (bottom d)) (cmp_built O d y z) (λ h. e)
       step false e (leaf u) =
           and_implied (scmp O d s u) (scmp O d (top d) u) (λ h. scmp_trans O L d s (top d) u (scmp_top O L d s) h)
-      step false e (built z) = top_bottom O L d ∙ sym (ap (λ q. q && cmpBuilt O d y z) e)
+      step false e (built z) = top_bottom O L d ∙ sym (ap (λ q. q && cmp_built O d y z) e)
 
   -- against a simple type a built bound is as the top
-  bound_leaf : (d : Dir) (x y : Built) (u : Simple) → cmp O d (boundBuilt O d x y) (leaf u) ≡ scmp O d (top d) u
+  bound_leaf : (d : Dir) (x y : Built) (u : Simple) → cmp O d (bound_built O d x y) (leaf u) ≡ scmp O d (top d) u
   unfolding cmp bound
   bound_leaf d (list a) (list b) u = refl
   bound_leaf d (list a) (range b) u = refl
@@ -188,7 +188,7 @@ module _ (O : Order) (L : Laws O) where
       step false = refl
 
   -- functions against another kind, and against a function
-  function_off : (d : Dir) (q : Bool) (x z : Built) → cmpBuilt O d x z ≡ false → cmp O d (cond q (built x) (leaf (top d))) (built z) ≡ false
+  function_off : (d : Dir) (q : Bool) (x z : Built) → cmp_built O d x z ≡ false → cmp O d (cond q (built x) (leaf (top d))) (built z) ≡ false
   unfolding cmp
   function_off d true x z e = e
   function_off d false x z e = top_bottom O L d
@@ -224,12 +224,12 @@ module _ (O : Order) (L : Laws O) where
           (cmps_count O (flip d) qs cs (and_left B (ignores O qs || cmp O d s u) q))) ∙ e)))
 
   key_context : (d : Dir) (fs gs hs : Fields)
-      → ((n : ℕ) (t : Ty) → has O (intersectWith O fs gs) n t ≡ has O fs n t && has O gs n t)
+      → ((n : ℕ) (t : Ty) → has O (intersect_with O fs gs) n t ≡ has O fs n t && has O gs n t)
       → within O (merge O fs gs) hs ≡ within O fs hs && within O gs hs
-      → cmpBuilt O d (context (pick d (intersectWith O fs gs) (merge O fs gs))) (context hs)
-      ≡ cmpBuilt O d (context fs) (context hs) && cmpBuilt O d (context gs) (context hs)
+      → cmp_built O d (context (pick d (intersect_with O fs gs) (merge O fs gs))) (context hs)
+      ≡ cmp_built O d (context fs) (context hs) && cmp_built O d (context gs) (context hs)
   unfolding cmp
-  key_context up fs gs hs h k = all_and (λ n t. has O (intersectWith O fs gs) n t) (λ n t. has O fs n t) (λ n t. has O gs n t) hs h
+  key_context up fs gs hs h k = all_and (λ n t. has O (intersect_with O fs gs) n t) (λ n t. has O fs n t) (λ n t. has O gs n t) hs h
   key_context down fs gs hs h k = k
 
   -- THE KEY: a bound compares with a type as both do. Upwards: sup a b ≤ c when a ≤ c and b ≤ c. Downwards: c ≤ sub a b when c ≤ a and c ≤ b.
@@ -242,58 +242,58 @@ module _ (O : Order) (L : Laws O) where
     key d (leaf s) (built y) c = key_mixed d s y c
     key d (built x) (leaf t) c = key_mixed d t x c ∙ and_comm (cmp O d (leaf t) c) (cmp O d (built x) c)
     key d (built x) (built y) (leaf u) = bound_leaf d x y u ∙ sym (and_same (scmp O d (top d) u))
-    key d (built x) (built y) (built z) = key-built d x y z
+    key d (built x) (built y) (built z) = key_built d x y z
 
-    key-built : (d : Dir) (x y z : Built) → cmp O d (boundBuilt O d x y) (built z) ≡ cmpBuilt O d x z && cmpBuilt O d y z
-    key-built d (list a) (list b) (list c) = key d a b c
-    key-built d (list a) (list b) (range c) = refl
-    key-built d (list a) (list b) (context hs) = refl
-    key-built d (list a) (list b) (function cs u) = refl
-    key-built d (list a) (range b) z = clash d (list a) (range b) z refl
-    key-built d (list a) (context gs) z = clash d (list a) (context gs) z refl
-    key-built d (list a) (function qs s) z = clash d (list a) (function qs s) z refl
-    key-built d (range a) (list b) z = clash d (range a) (list b) z refl
-    key-built d (range a) (range b) (list c) = refl
-    key-built d (range a) (range b) (range c) = key d a b c
-    key-built d (range a) (range b) (context hs) = refl
-    key-built d (range a) (range b) (function cs u) = refl
-    key-built d (range a) (context gs) z = clash d (range a) (context gs) z refl
-    key-built d (range a) (function qs s) z = clash d (range a) (function qs s) z refl
-    key-built d (context fs) (list b) z = clash d (context fs) (list b) z refl
-    key-built d (context fs) (range b) z = clash d (context fs) (range b) z refl
-    key-built d (context fs) (context gs) (list c) = refl
-    key-built d (context fs) (context gs) (range c) = refl
-    key-built d (context fs) (context gs) (context hs) = key_context d fs gs hs (λ n t. key_has fs gs n t) (key-within fs gs hs)
-    key-built d (context fs) (context gs) (function cs u) = refl
-    key-built d (context fs) (function qs s) z = clash d (context fs) (function qs s) z refl
-    key-built d (function ps r) (list b) z = clash d (function ps r) (list b) z refl
-    key-built d (function ps r) (range b) z = clash d (function ps r) (range b) z refl
-    key-built d (function ps r) (context gs) z = clash d (function ps r) (context gs) z refl
-    key-built d (function ps r) (function qs s) (list c) =
+    key_built : (d : Dir) (x y z : Built) → cmp O d (bound_built O d x y) (built z) ≡ cmp_built O d x z && cmp_built O d y z
+    key_built d (list a) (list b) (list c) = key d a b c
+    key_built d (list a) (list b) (range c) = refl
+    key_built d (list a) (list b) (context hs) = refl
+    key_built d (list a) (list b) (function cs u) = refl
+    key_built d (list a) (range b) z = clash d (list a) (range b) z refl
+    key_built d (list a) (context gs) z = clash d (list a) (context gs) z refl
+    key_built d (list a) (function qs s) z = clash d (list a) (function qs s) z refl
+    key_built d (range a) (list b) z = clash d (range a) (list b) z refl
+    key_built d (range a) (range b) (list c) = refl
+    key_built d (range a) (range b) (range c) = key d a b c
+    key_built d (range a) (range b) (context hs) = refl
+    key_built d (range a) (range b) (function cs u) = refl
+    key_built d (range a) (context gs) z = clash d (range a) (context gs) z refl
+    key_built d (range a) (function qs s) z = clash d (range a) (function qs s) z refl
+    key_built d (context fs) (list b) z = clash d (context fs) (list b) z refl
+    key_built d (context fs) (range b) z = clash d (context fs) (range b) z refl
+    key_built d (context fs) (context gs) (list c) = refl
+    key_built d (context fs) (context gs) (range c) = refl
+    key_built d (context fs) (context gs) (context hs) = key_context d fs gs hs (λ n t. key_has fs gs n t) (key_within fs gs hs)
+    key_built d (context fs) (context gs) (function cs u) = refl
+    key_built d (context fs) (function qs s) z = clash d (context fs) (function qs s) z refl
+    key_built d (function ps r) (list b) z = clash d (function ps r) (list b) z refl
+    key_built d (function ps r) (range b) z = clash d (function ps r) (range b) z refl
+    key_built d (function ps r) (context gs) z = clash d (function ps r) (context gs) z refl
+    key_built d (function ps r) (function qs s) (list c) =
         function_off d (same_count ps qs) (function (bounds O (flip d) ps qs) (bound O d r s)) (list c) refl
-    key-built d (function ps r) (function qs s) (range c) =
+    key_built d (function ps r) (function qs s) (range c) =
         function_off d (same_count ps qs) (function (bounds O (flip d) ps qs) (bound O d r s)) (range c) refl
-    key-built d (function ps r) (function qs s) (context hs) =
+    key_built d (function ps r) (function qs s) (context hs) =
         function_off d (same_count ps qs) (function (bounds O (flip d) ps qs) (bound O d r s)) (context hs) refl
-    key-built d (function ps r) (function qs s) (function cs u) =
-        key_function d ps qs cs r s u (λ h. key-tys (flip d) ps qs cs h) (key d r s u)
+    key_built d (function ps r) (function qs s) (function cs u) =
+        key_function d ps qs cs r s u (λ h. key_tys (flip d) ps qs cs h) (key d r s u)
 
-    key_has : (fs gs : Fields) (n : ℕ) (t : Ty) → has O (intersectWith O fs gs) n t ≡ has O fs n t && has O gs n t
+    key_has : (fs gs : Fields) (n : ℕ) (t : Ty) → has O (intersect_with O fs gs) n t ≡ has O fs n t && has O gs n t
     key_has no_fields gs n t = refl
     key_has (field m a fs) gs n t =
-        has_keep O m n a t gs fs (intersectWith O fs gs) (lookup m gs) refl (eqb n m) refl (key_has fs gs n t) (λ b. key up a b t)
+        has_keep O m n a t gs fs (intersect_with O fs gs) (lookup m gs) refl (eqb n m) refl (key_has fs gs n t) (λ b. key up a b t)
 
-    key-within : (fs gs hs : Fields) → within O (merge O fs gs) hs ≡ within O fs hs && within O gs hs
-    key-within no_fields gs hs = refl
-    key-within (field n a fs) gs hs =
+    key_within : (fs gs hs : Fields) → within O (merge O fs gs) hs ≡ within O fs hs && within O gs hs
+    key_within no_fields gs hs = refl
+    key_within (field n a fs) gs hs =
         within_place O n a (λ b. bound O down a b) hs (λ b c. key down a b c) (merge O fs gs)
-        ∙ ap (λ x. found (lookup n hs) (λ c. cmp O down a c) && x) (key-within fs gs hs)
+        ∙ ap (λ x. found (lookup n hs) (λ c. cmp O down a c) && x) (key_within fs gs hs)
         ∙ sym (and_assoc (found (lookup n hs) (λ c. cmp O down a c)) (within O fs hs) (within O gs hs))
 
-    key-tys : (d : Dir) (ps qs cs : Tys) → same_count ps qs ≡ true → cmps O d (bounds O d ps qs) cs ≡ cmps O d ps cs && cmps O d qs cs
-    key-tys d no_params no_params cs h = sym (and_same (cmps O d no_params cs))
-    key-tys d no_params (param b qs) cs h = absurd (false≢true h)
-    key-tys d (param a ps) no_params cs h = absurd (false≢true h)
-    key-tys d (param a ps) (param b qs) no_params h = refl
-    key-tys d (param a ps) (param b qs) (param c cs) h =
-        ap₂ ◌&&◌ (key d a b c) (key-tys d ps qs cs h) ∙ and_mix (cmp O d a c) (cmp O d b c) (cmps O d ps cs) (cmps O d qs cs)
+    key_tys : (d : Dir) (ps qs cs : Tys) → same_count ps qs ≡ true → cmps O d (bounds O d ps qs) cs ≡ cmps O d ps cs && cmps O d qs cs
+    key_tys d no_params no_params cs h = sym (and_same (cmps O d no_params cs))
+    key_tys d no_params (param b qs) cs h = absurd (false≢true h)
+    key_tys d (param a ps) no_params cs h = absurd (false≢true h)
+    key_tys d (param a ps) (param b qs) no_params h = refl
+    key_tys d (param a ps) (param b qs) (param c cs) h =
+        ap₂ ◌&&◌ (key d a b c) (key_tys d ps qs cs h) ∙ and_mix (cmp O d a c) (cmp O d b c) (cmps O d ps cs) (cmps O d qs cs)

@@ -11,13 +11,13 @@ use Rattle.form.specs.Trees.{v_built_in, v_type, v_irrelevant, Vals, no_items, i
 use Rattle.form.specs.Form.{count_tys}
 use Rattle.order.specs.Order.{fixed}
 use Rattle.order.specs.Types.{sup}
-use Rattle.order.specs.Values.{isDataBy, areData, holdData, least, leastItems, leastEntries}
+use Rattle.order.specs.Values.{is_data_by, are_data, hold_data, least, least_items, least_entries}
 use Rattle.order.specs.Inferred.{value_conforms_to, is_data, least_type}
 use Rattle.order.specs.Dmn.{dmn_conforms_to, Some, Parameters, ParametersBuilt, ParametersFields, ParametersTys}
 use Rattle.order.proofs.Simple.{fixed_laws}
-use Rattle.order.proofs.Holds.{Holds, HoldsBuilt, HoldsFields, HoldsTys, holds-sup}
+use Rattle.order.proofs.Holds.{Holds, HoldsBuilt, HoldsFields, HoldsTys, holds_sup}
 use Rattle.order.proofs.Dmn.{agrees_either}
-use Rattle.order.proofs.Least.{conforms-least}
+use Rattle.order.proofs.Least.{conforms_least}
 
 -- any name; at least one parameter
 abbrev P : ℕ → Type 0
@@ -58,11 +58,11 @@ mutual
 
 -- the least type of a data value has no function at all
 mutual
-  unfolding least isDataBy Holds
+  unfolding least is_data_by Holds
 
   plain : (v : Val) → is_data v ≡ true → Holds P Q (least_type v)
   plain (v_leaf l) h = tt
-  plain (v_range i j v w) h = let d = and_parts (is_data v) (is_data w) h in holds-sup P Q fixed (least_type v) (least_type w) (plain v d.0) (plain w d.1)
+  plain (v_range i j v w) h = let d = and_parts (is_data v) (is_data w) h in holds_sup P Q fixed (least_type v) (least_type w) (plain v d.0) (plain w d.1)
   plain (v_list vs) h = plain_items vs (leaf null) h tt
   plain (v_context es) h = plain_entries es h
   plain (v_function ps b r) h = absurd (false≢true h)
@@ -70,15 +70,15 @@ mutual
   plain (v_type t) h = absurd (false≢true h)
   plain v_irrelevant h = absurd (false≢true h)
 
-  plain_items : (vs : Vals) (t : Ty) → areData fixed vs ≡ true → Holds P Q t → Holds P Q (leastItems fixed vs t)
+  plain_items : (vs : Vals) (t : Ty) → are_data fixed vs ≡ true → Holds P Q t → Holds P Q (least_items fixed vs t)
   plain_items no_items t h g = g
   plain_items (item v vs) t h g =
-      let d = and_parts (is_data v) (areData fixed vs) h in
-      plain_items vs (sup fixed t (least_type v)) d.1 (holds-sup P Q fixed t (least_type v) g (plain v d.0))
+      let d = and_parts (is_data v) (are_data fixed vs) h in
+      plain_items vs (sup fixed t (least_type v)) d.1 (holds_sup P Q fixed t (least_type v) g (plain v d.0))
 
-  plain_entries : (es : Entries) → holdData fixed es ≡ true → HoldsFields P Q (leastEntries fixed es)
+  plain_entries : (es : Entries) → hold_data fixed es ≡ true → HoldsFields P Q (least_entries fixed es)
   plain_entries no_entries h = tt
-  plain_entries (entry n v es) h = let d = and_parts (is_data v) (holdData fixed es) h in (tt, plain v d.0, plain_entries es d.1)
+  plain_entries (entry n v es) h = let d = and_parts (is_data v) (hold_data fixed es) h in (tt, plain v d.0, plain_entries es d.1)
 
 pub data_is_dmn : (v : Val) (t : Ty) → is_data v ≡ true → value_conforms_to v t ≡ dmn_conforms_to (least_type v) t
-data_is_dmn v t h = conforms-least fixed fixed_laws v t h ∙ agrees_either (least_type v) t (inl (parameters (least_type v) (plain v h)))
+data_is_dmn v t h = conforms_least fixed fixed_laws v t h ∙ agrees_either (least_type v) t (inl (parameters (least_type v) (plain v h)))

@@ -14,7 +14,7 @@ use Rattle.order.specs.Values.{types_of, conforms}
 use Rattle.order.specs.Inferred.{value_conforms_to}
 use Rattle.order.specs.Dmn.{dmn_conforms_to, definition_type}
 use Rattle.order.proofs.Simple.{fixed_laws, flat_laws}
-use Rattle.order.proofs.Conform.{cmps-refl}
+use Rattle.order.proofs.Conform.{cmps_refl}
 use Rattle.order.proofs.Sentences.{le_functions}
 use Rattle.order.proofs.Least.{asc_params}
 
@@ -48,7 +48,7 @@ module _ (ps : Params) (b : ℕ) (r : Ty) where
   definition_same qs s w e k =
       definition_agrees qs s
       (subst (λ x. les fixed (types_of ps) x ≡ les strict_order x (types_of ps)) e
-      (cmps-refl fixed fixed_laws up (types_of ps) (asc_params ps w) ∙ sym (cmps-refl strict_order (flat_laws true) up (types_of ps) (asc_params ps w)))) k
+      (cmps_refl fixed fixed_laws up (types_of ps) (asc_params ps w) ∙ sym (cmps_refl strict_order (flat_laws true) up (types_of ps) (asc_params ps w)))) k
 
 -- and without parameters
 pub definition_plain : (b : ℕ) (r : Ty) (qs : Tys) (s : Ty) → conforms_to r s ≡ dmn_conforms_to r s

@@ -10,13 +10,13 @@ use mathlib.Core.Logic.{◌↔◌, ◌⊎◌, inl, inr}
 use lib.Dec.{eqb}
 use Rattle.form.specs.Trees.{any, Ty, leaf, built, Built, list, range, context, function, Fields, no_fields, field, Tys, no_params, param}
 use Rattle.order.specs.Order.{Dir, up, down, flip, pick, fixed, strict_order}
-use Rattle.order.specs.Types.{lookup, found, all_fields, empty, ignores, cmp, cmpBuilt, has, within, cmps, reduce, reduceBuilt, reduceFields, reduceTys}
+use Rattle.order.specs.Types.{lookup, found, all_fields, empty, ignores, cmp, cmp_built, has, within, cmps, reduce, reduce_built, reduce_fields, reduce_tys}
 use Rattle.order.specs.Document.{conforms_to, reduced_form}
 use Rattle.order.specs.Dmn.{dmn_conforms_to, if_found, results, results_built, results_has, results_within, results_tys, results_conform, Some, Parameters, ParametersBuilt}
 use Rattle.order.specs.Dmn.{ParametersFields, ParametersTys}
 use Rattle.order.proofs.Simple.{fixed_laws, and_left, and_both}
 use Rattle.order.proofs.Bools.{and_true, and_mix}
-use Rattle.order.proofs.Conform.{cmp-flip}
+use Rattle.order.proofs.Conform.{cmp_flip}
 use Rattle.order.proofs.Bound.{all_and}
 use Rattle.order.proofs.Laws.{le_reduce_left, le_reduce_right}
 
@@ -61,7 +61,7 @@ mutual
   cmp_splits down (built x) (leaf t) = same_test (cmp fixed down (built x) (leaf t))
   cmp_splits d (built x) (built y) = built_splits d x y
 
-  built_splits : (d : Dir) (x y : Built) → cmpBuilt strict_order d x y ≡ cmpBuilt fixed d x y && results_built d x y
+  built_splits : (d : Dir) (x y : Built) → cmp_built strict_order d x y ≡ cmp_built fixed d x y && results_built d x y
   built_splits d (list a) (list b) = cmp_splits d a b
   built_splits d (list a) (range b) = refl
   built_splits d (list a) (context gs) = refl
@@ -185,26 +185,26 @@ cmp_agrees d a b p = sym (cmp_splits d a b ∙ ap (λ q. cmp fixed d a b && q) (
 -- read from the other side for the second type
 pub agrees_either : (a b : Ty) → Parameters a ⊎ Parameters b → conforms_to a b ≡ dmn_conforms_to a b
 agrees_either a b (inl p) = cmp_agrees up a b p
-agrees_either a b (inr p) = cmp-flip fixed down a b ∙ cmp_agrees down b a p ∙ sym (cmp-flip strict_order down a b)
+agrees_either a b (inr p) = cmp_flip fixed down a b ∙ cmp_agrees down b a p ∙ sym (cmp_flip strict_order down a b)
 
 -- ---- reduced forms
 -- the results of functions without parameters are Any there
-all_reduced : (f : ℕ → Ty → Bool) (gs : Fields) → ((n : ℕ) (t : Ty) → f n (reduce fixed t) ≡ true) → all_fields f (reduceFields fixed gs) ≡ true
+all_reduced : (f : ℕ → Ty → Bool) (gs : Fields) → ((n : ℕ) (t : Ty) → f n (reduce fixed t) ≡ true) → all_fields f (reduce_fields fixed gs) ≡ true
 unfolding all_fields reduce
 all_reduced f no_fields h = refl
-all_reduced f (field n t gs) h = and_both (f n (reduce fixed t)) (all_fields f (reduceFields fixed gs)) (h n t) (all_reduced f gs h)
+all_reduced f (field n t gs) h = and_both (f n (reduce fixed t)) (all_fields f (reduce_fields fixed gs)) (h n t) (all_reduced f gs h)
 
-look_reduced : (n : ℕ) (gs : Fields) (f : Ty → Bool) → ((t : Ty) → f (reduce fixed t) ≡ true) → if_found (lookup n (reduceFields fixed gs)) f ≡ true
+look_reduced : (n : ℕ) (gs : Fields) (f : Ty → Bool) → ((t : Ty) → f (reduce fixed t) ≡ true) → if_found (lookup n (reduce_fields fixed gs)) f ≡ true
 unfolding lookup reduce
 look_reduced n no_fields f h = refl
 look_reduced n (field m t gs) f h = step (eqb n m) (look_reduced n gs f h)
   where
-    step : (q : Bool) → if_found (lookup n (reduceFields fixed gs)) f ≡ true → if_found (cond q (some (reduce fixed t)) (lookup n (reduceFields fixed gs))) f ≡ true
+    step : (q : Bool) → if_found (lookup n (reduce_fields fixed gs)) f ≡ true → if_found (cond q (some (reduce fixed t)) (lookup n (reduce_fields fixed gs))) f ≡ true
     step true k = h t
     step false k = k
 
-context_reduced : (d : Dir) (fs gs : Fields) → ((n : ℕ) (t : Ty) → results_has fs n (reduce fixed t) ≡ true) → results_within fs (reduceFields fixed gs) ≡ true
-    → pick d (all_fields (λ n t. results_has fs n t) (reduceFields fixed gs)) (results_within fs (reduceFields fixed gs)) ≡ true
+context_reduced : (d : Dir) (fs gs : Fields) → ((n : ℕ) (t : Ty) → results_has fs n (reduce fixed t) ≡ true) → results_within fs (reduce_fields fixed gs) ≡ true
+    → pick d (all_fields (λ n t. results_has fs n t) (reduce_fields fixed gs)) (results_within fs (reduce_fields fixed gs)) ≡ true
 context_reduced up fs gs h k = all_reduced (λ n t. results_has fs n t) gs h
 context_reduced down fs gs h k = k
 
@@ -219,7 +219,7 @@ any_any up = refl
 any_any down = refl
 
 result_reduced : (d : Dir) (ps qs : Tys) (r s : Ty) → results d (reduce fixed r) (reduce fixed s) ≡ true
-    → cond (empty (reduceTys fixed ps) && empty (reduceTys fixed qs))
+    → cond (empty (reduce_tys fixed ps) && empty (reduce_tys fixed qs))
     (cmp strict_order d (cond (ignores fixed ps) (leaf any) (reduce fixed r)) (cond (ignores fixed qs) (leaf any) (reduce fixed s)))
     (results d (cond (ignores fixed ps) (leaf any) (reduce fixed r)) (cond (ignores fixed qs) (leaf any) (reduce fixed s))) ≡ true
 unfolding results reduce
@@ -236,7 +236,7 @@ mutual
   results_reduced d (built x) (leaf t) = refl
   results_reduced d (built x) (built y) = built_reduced d x y
 
-  built_reduced : (d : Dir) (x y : Built) → results_built d (reduceBuilt fixed x) (reduceBuilt fixed y) ≡ true
+  built_reduced : (d : Dir) (x y : Built) → results_built d (reduce_built fixed x) (reduce_built fixed y) ≡ true
   built_reduced d (list a) (list b) = results_reduced d a b
   built_reduced d (list a) (range b) = refl
   built_reduced d (list a) (context gs) = refl
@@ -247,31 +247,31 @@ mutual
   built_reduced d (range a) (function qs s) = refl
   built_reduced d (context fs) (list b) = refl
   built_reduced d (context fs) (range b) = refl
-  built_reduced d (context fs) (context gs) = context_reduced d (reduceFields fixed fs) gs (λ n t. has_reduced fs n t) (within_reduced fs gs)
+  built_reduced d (context fs) (context gs) = context_reduced d (reduce_fields fixed fs) gs (λ n t. has_reduced fs n t) (within_reduced fs gs)
   built_reduced d (context fs) (function qs s) = refl
   built_reduced d (function ps r) (list b) = refl
   built_reduced d (function ps r) (range b) = refl
   built_reduced d (function ps r) (context gs) = refl
   built_reduced d (function ps r) (function qs s) =
-      and_both (results_tys (flip d) (reduceTys fixed ps) (reduceTys fixed qs)) _ (tys_reduced (flip d) ps qs)
+      and_both (results_tys (flip d) (reduce_tys fixed ps) (reduce_tys fixed qs)) _ (tys_reduced (flip d) ps qs)
       (result_reduced d ps qs r s (results_reduced d r s))
 
-  has_reduced : (fs : Fields) (n : ℕ) (t : Ty) → results_has (reduceFields fixed fs) n (reduce fixed t) ≡ true
+  has_reduced : (fs : Fields) (n : ℕ) (t : Ty) → results_has (reduce_fields fixed fs) n (reduce fixed t) ≡ true
   has_reduced no_fields n t = refl
   has_reduced (field m a fs) n t =
-      cond_true (eqb n m) (results up (reduce fixed a) (reduce fixed t)) (results_has (reduceFields fixed fs) n (reduce fixed t)) (results_reduced up a t) (has_reduced fs n t)
+      cond_true (eqb n m) (results up (reduce fixed a) (reduce fixed t)) (results_has (reduce_fields fixed fs) n (reduce fixed t)) (results_reduced up a t) (has_reduced fs n t)
 
-  within_reduced : (fs gs : Fields) → results_within (reduceFields fixed fs) (reduceFields fixed gs) ≡ true
+  within_reduced : (fs gs : Fields) → results_within (reduce_fields fixed fs) (reduce_fields fixed gs) ≡ true
   within_reduced no_fields gs = refl
   within_reduced (field n a fs) gs =
-      and_both (if_found (lookup n (reduceFields fixed gs)) (λ b. results down (reduce fixed a) b)) (results_within (reduceFields fixed fs) (reduceFields fixed gs))
+      and_both (if_found (lookup n (reduce_fields fixed gs)) (λ b. results down (reduce fixed a) b)) (results_within (reduce_fields fixed fs) (reduce_fields fixed gs))
       (look_reduced n gs (λ b. results down (reduce fixed a) b) (λ t. results_reduced down a t)) (within_reduced fs gs)
 
-  tys_reduced : (d : Dir) (ps qs : Tys) → results_tys d (reduceTys fixed ps) (reduceTys fixed qs) ≡ true
+  tys_reduced : (d : Dir) (ps qs : Tys) → results_tys d (reduce_tys fixed ps) (reduce_tys fixed qs) ≡ true
   tys_reduced d no_params qs = refl
   tys_reduced d (param a ps) no_params = refl
   tys_reduced d (param a ps) (param b qs) =
-      and_both (results d (reduce fixed a) (reduce fixed b)) (results_tys d (reduceTys fixed ps) (reduceTys fixed qs)) (results_reduced d a b) (tys_reduced d ps qs)
+      and_both (results d (reduce fixed a) (reduce fixed b)) (results_tys d (reduce_tys fixed ps) (reduce_tys fixed qs)) (results_reduced d a b) (tys_reduced d ps qs)
 
 -- here types are compared as DMN compares their reduced forms
 pub reduced_is_dmn : (a b : Ty) → conforms_to a b ≡ dmn_conforms_to (reduced_form a) (reduced_form b)

@@ -67,56 +67,56 @@ module _ (c e : Ty → Ty → Bool) (R : DmnRules c) (S : DmnRules e) where
     agree (leaf s) (built y) down = built_leaf y s
     agree (built x) (leaf t) up = built_leaf x t
     agree (built x) (leaf t) down = leaf_built t x
-    agree (built x) (built y) d = agree-built x y d
+    agree (built x) (built y) d = agree_built x y d
 
-    agree-built : (x y : Built) (d : Dir) → pick d (c (built x) (built y)) (c (built y) (built x)) ≡ pick d (e (built x) (built y)) (e (built y) (built x))
-    agree-built (list a) (list b) up = R.lists a b ∙ agree a b up ∙ sym (S.lists a b)
-    agree-built (list a) (list b) down = R.lists b a ∙ agree a b down ∙ sym (S.lists b a)
-    agree-built (range a) (range b) up = R.ranges a b ∙ agree a b up ∙ sym (S.ranges a b)
-    agree-built (range a) (range b) down = R.ranges b a ∙ agree a b down ∙ sym (S.ranges b a)
-    agree-built (context fs) (context gs) up =
+    agree_built : (x y : Built) (d : Dir) → pick d (c (built x) (built y)) (c (built y) (built x)) ≡ pick d (e (built x) (built y)) (e (built y) (built x))
+    agree_built (list a) (list b) up = R.lists a b ∙ agree a b up ∙ sym (S.lists a b)
+    agree_built (list a) (list b) down = R.lists b a ∙ agree a b down ∙ sym (S.lists b a)
+    agree_built (range a) (range b) up = R.ranges a b ∙ agree a b up ∙ sym (S.ranges a b)
+    agree_built (range a) (range b) down = R.ranges b a ∙ agree a b down ∙ sym (S.ranges b a)
+    agree_built (context fs) (context gs) up =
         R.contexts fs gs
-        ∙ all_ext (λ n t. found (lookup n fs) (λ a. c a t)) (λ n t. found (lookup n fs) (λ a. e a t)) gs (λ n t. agree-found fs n t)
+        ∙ all_ext (λ n t. found (lookup n fs) (λ a. c a t)) (λ n t. found (lookup n fs) (λ a. e a t)) gs (λ n t. agree_found fs n t)
         ∙ sym (S.contexts fs gs)
-    agree-built (context fs) (context gs) down = R.contexts gs fs ∙ agree-within fs gs ∙ sym (S.contexts gs fs)
-    agree-built (function ps r) (function qs s) up = R.functions ps qs r s ∙ ap₂ ◌&&◌ (agree-pairs ps qs down) (agree r s up) ∙ sym (S.functions ps qs r s)
-    agree-built (function ps r) (function qs s) down = R.functions qs ps s r ∙ ap₂ ◌&&◌ (agree-pairs ps qs up) (agree r s down) ∙ sym (S.functions qs ps s r)
-    agree-built (list a) (range b) d = unlike d (list a) (range b) (λ z. omega arith)
-    agree-built (list a) (context gs) d = unlike d (list a) (context gs) (λ z. omega arith)
-    agree-built (list a) (function qs s) d = unlike d (list a) (function qs s) (λ z. omega arith)
-    agree-built (range a) (list b) d = unlike d (range a) (list b) (λ z. omega arith)
-    agree-built (range a) (context gs) d = unlike d (range a) (context gs) (λ z. omega arith)
-    agree-built (range a) (function qs s) d = unlike d (range a) (function qs s) (λ z. omega arith)
-    agree-built (context fs) (list b) d = unlike d (context fs) (list b) (λ z. omega arith)
-    agree-built (context fs) (range b) d = unlike d (context fs) (range b) (λ z. omega arith)
-    agree-built (context fs) (function qs s) d = unlike d (context fs) (function qs s) (λ z. omega arith)
-    agree-built (function ps r) (list b) d = unlike d (function ps r) (list b) (λ z. omega arith)
-    agree-built (function ps r) (range b) d = unlike d (function ps r) (range b) (λ z. omega arith)
-    agree-built (function ps r) (context gs) d = unlike d (function ps r) (context gs) (λ z. omega arith)
+    agree_built (context fs) (context gs) down = R.contexts gs fs ∙ agree_within fs gs ∙ sym (S.contexts gs fs)
+    agree_built (function ps r) (function qs s) up = R.functions ps qs r s ∙ ap₂ ◌&&◌ (agree_pairs ps qs down) (agree r s up) ∙ sym (S.functions ps qs r s)
+    agree_built (function ps r) (function qs s) down = R.functions qs ps s r ∙ ap₂ ◌&&◌ (agree_pairs ps qs up) (agree r s down) ∙ sym (S.functions qs ps s r)
+    agree_built (list a) (range b) d = unlike d (list a) (range b) (λ z. omega arith)
+    agree_built (list a) (context gs) d = unlike d (list a) (context gs) (λ z. omega arith)
+    agree_built (list a) (function qs s) d = unlike d (list a) (function qs s) (λ z. omega arith)
+    agree_built (range a) (list b) d = unlike d (range a) (list b) (λ z. omega arith)
+    agree_built (range a) (context gs) d = unlike d (range a) (context gs) (λ z. omega arith)
+    agree_built (range a) (function qs s) d = unlike d (range a) (function qs s) (λ z. omega arith)
+    agree_built (context fs) (list b) d = unlike d (context fs) (list b) (λ z. omega arith)
+    agree_built (context fs) (range b) d = unlike d (context fs) (range b) (λ z. omega arith)
+    agree_built (context fs) (function qs s) d = unlike d (context fs) (function qs s) (λ z. omega arith)
+    agree_built (function ps r) (list b) d = unlike d (function ps r) (list b) (λ z. omega arith)
+    agree_built (function ps r) (range b) d = unlike d (function ps r) (range b) (λ z. omega arith)
+    agree_built (function ps r) (context gs) d = unlike d (function ps r) (context gs) (λ z. omega arith)
 
-    agree-found : (fs : Fields) (n : ℕ) (t : Ty) → found (lookup n fs) (λ a. c a t) ≡ found (lookup n fs) (λ a. e a t)
-    agree-found no_fields n t = refl
-    agree-found (field m a fs) n t = step (eqb n m) (agree a t up) (agree-found fs n t)
+    agree_found : (fs : Fields) (n : ℕ) (t : Ty) → found (lookup n fs) (λ a. c a t) ≡ found (lookup n fs) (λ a. e a t)
+    agree_found no_fields n t = refl
+    agree_found (field m a fs) n t = step (eqb n m) (agree a t up) (agree_found fs n t)
       where
         step : (q : Bool) → c a t ≡ e a t → found (lookup n fs) (λ x. c x t) ≡ found (lookup n fs) (λ x. e x t)
             → found (cond q (some a) (lookup n fs)) (λ x. c x t) ≡ found (cond q (some a) (lookup n fs)) (λ x. e x t)
         step true h k = h
         step false h k = k
 
-    agree-within : (fs gs : Fields) → all_fields (λ n t. found (lookup n gs) (λ b. c b t)) fs ≡ all_fields (λ n t. found (lookup n gs) (λ b. e b t)) fs
-    agree-within no_fields gs = refl
-    agree-within (field n a fs) gs = ap₂ ◌&&◌ (found_ext (lookup n gs) (λ b. c b a) (λ b. e b a) (λ b. agree a b down)) (agree-within fs gs)
+    agree_within : (fs gs : Fields) → all_fields (λ n t. found (lookup n gs) (λ b. c b t)) fs ≡ all_fields (λ n t. found (lookup n gs) (λ b. e b t)) fs
+    agree_within no_fields gs = refl
+    agree_within (field n a fs) gs = ap₂ ◌&&◌ (found_ext (lookup n gs) (λ b. c b a) (λ b. e b a) (λ b. agree a b down)) (agree_within fs gs)
 
     -- of two parameter lists, the first compared in the direction
-    agree-pairs : (ps qs : Tys) (d : Dir) → pick d (all_pairs c ps qs) (all_pairs c qs ps) ≡ pick d (all_pairs e ps qs) (all_pairs e qs ps)
-    agree-pairs no_params no_params up = refl
-    agree-pairs no_params no_params down = refl
-    agree-pairs no_params (param b qs) up = refl
-    agree-pairs no_params (param b qs) down = refl
-    agree-pairs (param a ps) no_params up = refl
-    agree-pairs (param a ps) no_params down = refl
-    agree-pairs (param a ps) (param b qs) up = ap₂ ◌&&◌ (agree a b up) (agree-pairs ps qs up)
-    agree-pairs (param a ps) (param b qs) down = ap₂ ◌&&◌ (agree a b down) (agree-pairs ps qs down)
+    agree_pairs : (ps qs : Tys) (d : Dir) → pick d (all_pairs c ps qs) (all_pairs c qs ps) ≡ pick d (all_pairs e ps qs) (all_pairs e qs ps)
+    agree_pairs no_params no_params up = refl
+    agree_pairs no_params no_params down = refl
+    agree_pairs no_params (param b qs) up = refl
+    agree_pairs no_params (param b qs) down = refl
+    agree_pairs (param a ps) no_params up = refl
+    agree_pairs (param a ps) no_params down = refl
+    agree_pairs (param a ps) (param b qs) up = ap₂ ◌&&◌ (agree a b up) (agree_pairs ps qs up)
+    agree_pairs (param a ps) (param b qs) down = ap₂ ◌&&◌ (agree a b down) (agree_pairs ps qs down)
 
 -- ---- the strict reading
 pairs_are : (ps qs : Tys) → les strict_order ps qs ≡ all_pairs dmn_conforms_to ps qs

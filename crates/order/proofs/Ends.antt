@@ -117,7 +117,7 @@ reading_ends reading =
       null_least_lem = λ s. or_true (related reading 9 (code s));
       any_greatest_lem = λ s. ap (λ q. related reading (code s) 0 || q) (or_true (eqb (code s) 9)) ∙ or_true (related reading (code s) 0);
       to_null = λ s. ap (λ q. q || (eqb (code s) 9 || eqb (code s) 9)) (related_end reading (code s) 9 refl) ∙ or_self (eqb (code s) 9);
-      from_any = λ s. ap (λ q. q || (eqb (code s) 0 || eqb 0 (code s))) (end_related reading 0 (code s) refl) ∙ zero-either (code s);
+      from_any = λ s. ap (λ q. q || (eqb (code s) 0 || eqb 0 (code s))) (end_related reading 0 (code s) refl) ∙ zero_either (code s);
       join_same = λ s. ap (λ q. cond (same s null) s (cond (same s null) s (cond q s (far up s)))) (eqb_self (code s)) ∙ one_way (same s null) s;
       null_join = λ s. refl;
       join_null = λ s. either (same s null) s null (λ e. sym (same_eq s null e));
@@ -129,8 +129,8 @@ reading_ends reading =
     far : Dir → Simple → Simple
     far d s = decode (nearest reading d (code s) (code s))
 
-    zero-either : (i : ℕ) → eqb i 0 || eqb 0 i ≡ eqb i 0
-    zero-either i = go (eqb i 0) refl
+    zero_either : (i : ℕ) → eqb i 0 || eqb 0 i ≡ eqb i 0
+    zero_either i = go (eqb i 0) refl
       where
         go : (q : Bool) → eqb i 0 ≡ q → q || eqb 0 i ≡ q
         go true e = refl

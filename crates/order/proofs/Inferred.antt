@@ -18,7 +18,7 @@ use Rattle.order.specs.Types.{lookup, found, all_fields, cmp}
 use Rattle.order.specs.Ascending.{Asc, AscBuilt, AscFields}
 use Rattle.order.specs.Document.{conforms_to, eq_ty, eq_fields, null_or_same, instance_built, is_instance_of}
 use Rattle.order.specs.Dmn.{dmn_conforms_to}
-use Rattle.order.specs.Values.{leaf_type, to_list, conforms, allConform, has_value, isDataBy, areData, holdData}
+use Rattle.order.specs.Values.{leaf_type, to_list, conforms, all_conform, has_value, is_data_by, are_data, hold_data}
 use Rattle.order.specs.Inferred.{value_conforms_to, is_data, least_type, list_type, type_of, first_type, items_below, entry_types}
 use Rattle.order.proofs.Simple.{fixed_laws, flat_laws, and_left, and_right, and_both}
 use Rattle.order.proofs.Bools.{or_cases}
@@ -28,7 +28,7 @@ use Rattle.order.proofs.Laws.{le_refl, le_trans}
 use Rattle.order.proofs.Sentences.{le_contexts}
 use Rattle.order.proofs.Equal.{eq_ty_same, eq_fields_same}
 use Rattle.order.proofs.WellFormed.{asc_of}
-use Rattle.order.proofs.Least.{le_null, le_any, conforms-least}
+use Rattle.order.proofs.Least.{le_null, le_any, conforms_least}
 use Rattle.order.proofs.TypeOf.{asc_entry_types}
 
 -- ---- instances
@@ -73,17 +73,17 @@ instance_conforms (built x) (built y) w h = built_instance x y (asc_of (built x)
 -- ---- the inferred type
 conforms_up : (v : Val) (t u : Ty) → is_data v ≡ true → value_conforms_to v t ≡ true → conforms_to t u ≡ true → value_conforms_to v u ≡ true
 conforms_up v t u d p q =
-    conforms-least fixed fixed_laws v u d ∙ le_trans fixed fixed_laws (least_type v) t u (sym (conforms-least fixed fixed_laws v t d) ∙ p) q
+    conforms_least fixed fixed_laws v u d ∙ le_trans fixed fixed_laws (least_type v) t u (sym (conforms_least fixed fixed_laws v t d) ∙ p) q
 
 any_conforms : (v : Val) → is_data v ≡ true → value_conforms_to v (leaf any) ≡ true
-any_conforms v d = conforms-least fixed fixed_laws v (leaf any) d ∙ le_any fixed fixed_laws (least_type v)
+any_conforms v d = conforms_least fixed fixed_laws v (leaf any) d ∙ le_any fixed fixed_laws (least_type v)
 
-any_items : (vs : Vals) → areData fixed vs ≡ true → allConform fixed vs (leaf any) ≡ true
-unfolding conforms isDataBy
+any_items : (vs : Vals) → are_data fixed vs ≡ true → all_conform fixed vs (leaf any) ≡ true
+unfolding conforms is_data_by
 any_items no_items d = refl
 any_items (item v vs) d =
-    and_both (value_conforms_to v (leaf any)) (allConform fixed vs (leaf any)) (any_conforms v (and_left (is_data v) (areData fixed vs) d))
-    (any_items vs (and_right (is_data v) (areData fixed vs) d))
+    and_both (value_conforms_to v (leaf any)) (all_conform fixed vs (leaf any)) (any_conforms v (and_left (is_data v) (are_data fixed vs) d))
+    (any_items vs (and_right (is_data v) (are_data fixed vs) d))
 
 both_ends : (v w : Val) (q : Bool) → eq_ty (type_of v) (type_of w) ≡ q → is_data v ≡ true → is_data w ≡ true
     → value_conforms_to v (type_of v) ≡ true → value_conforms_to w (type_of w) ≡ true
@@ -92,14 +92,14 @@ both_ends v w true e dv dw p q =
     and_both (value_conforms_to v (type_of v)) (value_conforms_to w (type_of v)) p (subst (λ t. value_conforms_to w t ≡ true) (sym (eq_ty_same (type_of v) (type_of w) e)) q)
 both_ends v w false e dv dw p q = and_both (value_conforms_to v (leaf any)) (value_conforms_to w (leaf any)) (any_conforms v dv) (any_conforms w dw)
 
-items_or_any : (vs : Vals) (t : Ty) (q : Bool) → areData fixed vs ≡ true → (q ≡ true → allConform fixed vs t ≡ true)
-    → allConform fixed vs (cond q t (leaf any)) ≡ true
+items_or_any : (vs : Vals) (t : Ty) (q : Bool) → are_data fixed vs ≡ true → (q ≡ true → all_conform fixed vs t ≡ true)
+    → all_conform fixed vs (cond q t (leaf any)) ≡ true
 items_or_any vs t true d h = h refl
 items_or_any vs t false d h = any_items vs d
 
 -- the type of a list, where items whose types conform to a type conform to it themselves
-list_conforms : (vs : Vals) → areData fixed vs ≡ true → ((t : Ty) → items_below vs (some t) ≡ true → allConform fixed vs t ≡ true)
-    → to_list fixed (list_type (first_type vs) (items_below vs (first_type vs))) (λ u. allConform fixed vs u) ≡ true
+list_conforms : (vs : Vals) → are_data fixed vs ≡ true → ((t : Ty) → items_below vs (some t) ≡ true → all_conform fixed vs t ≡ true)
+    → to_list fixed (list_type (first_type vs) (items_below vs (first_type vs))) (λ u. all_conform fixed vs u) ≡ true
 unfolding conforms type_of
 list_conforms no_items d h = refl
 list_conforms (item v vs) d h = items_or_any (item v vs) (type_of v) (items_below (item v vs) (some (type_of v))) d (h (type_of v))
@@ -114,7 +114,7 @@ value_skip (field m t gs) k n v es w h =
     ap₂ ◌&&◌ (ap (λ q. cond q (conforms fixed v t) (has_value fixed es m t)) ne) (value_skip gs (suc m) n v es w.2 (omega (arith, w.0)))
 
 mutual
-  unfolding conforms isDataBy type_of WfV cmp all_fields
+  unfolding conforms is_data_by type_of WfV cmp all_fields
 
   pub type_of_conforms : (v : Val) → WfV v → is_data v ≡ true → value_conforms_to v (type_of v) ≡ true
   type_of_conforms (v_leaf l) h d = fixed_laws.reflexive (leaf_type l)
@@ -130,19 +130,19 @@ mutual
   type_of_conforms v_irrelevant h d = absurd (false≢true d)
 
   -- items whose types conform to t
-  items_conform : (vs : Vals) (t : Ty) → WfVals vs → areData fixed vs ≡ true → items_below vs (some t) ≡ true → allConform fixed vs t ≡ true
+  items_conform : (vs : Vals) (t : Ty) → WfVals vs → are_data fixed vs ≡ true → items_below vs (some t) ≡ true → all_conform fixed vs t ≡ true
   items_conform no_items t h d e = refl
   items_conform (item v vs) t h d e =
-      let dv = and_left (is_data v) (areData fixed vs) d in
-      and_both (value_conforms_to v t) (allConform fixed vs t)
+      let dv = and_left (is_data v) (are_data fixed vs) d in
+      and_both (value_conforms_to v t) (all_conform fixed vs t)
       (conforms_up v (type_of v) t dv (type_of_conforms v h.0 dv) (and_left (conforms_to (type_of v) t) (items_below vs (some t)) e))
-      (items_conform vs t h.1 (and_right (is_data v) (areData fixed vs) d) (and_right (conforms_to (type_of v) t) (items_below vs (some t)) e))
+      (items_conform vs t h.1 (and_right (is_data v) (are_data fixed vs) d) (and_right (conforms_to (type_of v) t) (items_below vs (some t)) e))
 
-  entries_conform_lem : (es : Entries) (k : ℕ) → WfEntries es k → holdData fixed es ≡ true → all_fields (λ n t. has_value fixed es n t) (entry_types es) ≡ true
+  entries_conform_lem : (es : Entries) (k : ℕ) → WfEntries es k → hold_data fixed es ≡ true → all_fields (λ n t. has_value fixed es n t) (entry_types es) ≡ true
   entries_conform_lem no_entries k h d = refl
   entries_conform_lem (entry n v es) k h d =
       and_both (has_value fixed (entry n v es) n (type_of v)) (all_fields (λ m t. has_value fixed (entry n v es) m t) (entry_types es))
       (ap (λ q. cond q (value_conforms_to v (type_of v)) (has_value fixed es n (type_of v))) (eq-eqb n n refl)
-      ∙ type_of_conforms v h.1.1.0 (and_left (is_data v) (holdData fixed es) d))
+      ∙ type_of_conforms v h.1.1.0 (and_left (is_data v) (hold_data fixed es) d))
       (value_skip (entry_types es) (suc n) n v es (rw add-one at (asc_entry_types es (n + 1) h.1.1.1)) (omega arith)
-      ∙ entries_conform_lem es (n + 1) h.1.1.1 (and_right (is_data v) (holdData fixed es) d))
+      ∙ entries_conform_lem es (n + 1) h.1.1.1 (and_right (is_data v) (hold_data fixed es) d))

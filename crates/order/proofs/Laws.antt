@@ -11,7 +11,7 @@ use Rattle.order.proofs.Simple.{and_left, and_right, and_both}
 use Rattle.form.specs.Trees.{Ty}
 use Rattle.order.specs.Types.{le, reduce, bound, sup, sub}
 use Rattle.order.specs.Ascending.{Asc}
-use Rattle.order.proofs.Conform.{cmp-flip, cmp-reduce, reduce-reduce, cmp-refl, cmp-trans, antisym}
+use Rattle.order.proofs.Conform.{cmp_flip, cmp_reduce, reduce_reduce, cmp_refl, cmp_trans, antisym}
 use Rattle.order.proofs.Bound.{key}
 use Rattle.order.proofs.Bools.{and_comm, and_assoc}
 use Rattle.order.proofs.Answers.{asc-sup}
@@ -19,10 +19,10 @@ use Rattle.order.proofs.Answers.{asc-sup}
 module _ (O : Order) (L : Laws O) where
   -- a type conforms as its reduced form does, on either side
   pub le_reduce_left : (a c : Ty) → le O (reduce O a) c ≡ le O a c
-  le_reduce_left a c = cmp-reduce O up a c
+  le_reduce_left a c = cmp_reduce O up a c
 
   pub le_reduce_right : (c a : Ty) → le O c (reduce O a) ≡ le O c a
-  le_reduce_right c a = sym (cmp-flip O up (reduce O a) c) ∙ cmp-reduce O down a c ∙ cmp-flip O up a c
+  le_reduce_right c a = sym (cmp_flip O up (reduce O a) c) ∙ cmp_reduce O down a c ∙ cmp_flip O up a c
 
   -- the common supertype conforms to a type exactly when both do
   pub le_sup : (a b c : Ty) → le O (sup O a b) c ≡ le O a c && le O b c
@@ -31,20 +31,20 @@ module _ (O : Order) (L : Laws O) where
   -- a type conforms to the common subtype exactly when it conforms to both
   pub le_sub : (a b c : Ty) → le O c (sub O a b) ≡ le O c a && le O c b
   le_sub a b c =
-      le_reduce_right c (bound O down a b) ∙ sym (cmp-flip O up (bound O down a b) c) ∙ key O L down a b c
-      ∙ ap₂ ◌&&◌ (cmp-flip O up a c) (cmp-flip O up b c)
+      le_reduce_right c (bound O down a b) ∙ sym (cmp_flip O up (bound O down a b) c) ∙ key O L down a b c
+      ∙ ap₂ ◌&&◌ (cmp_flip O up a c) (cmp_flip O up b c)
 
   -- reflexive and transitive
   pub le_refl : (a : Ty) → Asc a → le O a a ≡ true
-  le_refl a w = cmp-refl O L up a w
+  le_refl a w = cmp_refl O L up a w
 
   pub le_trans : (a b c : Ty) → le O a b ≡ true → le O b c ≡ true → le O a c ≡ true
-  le_trans a b c p q = cmp-trans O L b a c p q
+  le_trans a b c p q = cmp_trans O L b a c p q
 
   -- each conforms to the other exactly when the reduced forms are equal
   pub mutual_reduce : (a b : Ty) → Asc a → Asc b → ((le O a b ≡ true) × (le O b a ≡ true)) ↔ (reduce O a ≡ reduce O b)
   mutual_reduce a b v w = (
-    λ h. antisym O L a b v w h.0 (cmp-flip O up a b ∙ h.1),
+    λ h. antisym O L a b v w h.0 (cmp_flip O up a b ∙ h.1),
     λ e. (
       sym (le_reduce_left a b) ∙ ap (λ x. le O x b) e ∙ le_reduce_left b b ∙ le_refl b w,
       sym (le_reduce_left b a) ∙ ap (λ x. le O x a) (sym e) ∙ le_reduce_left a a ∙ le_refl a v,
@@ -72,10 +72,10 @@ module _ (O : Order) (L : Laws O) where
 
   -- answers are reduced
   pub sup_reduced : (a b : Ty) → reduce O (sup O a b) ≡ sup O a b
-  sup_reduced a b = reduce-reduce O (bound O up a b)
+  sup_reduced a b = reduce_reduce O (bound O up a b)
 
   pub sub_reduced : (a b : Ty) → reduce O (sub O a b) ≡ sub O a b
-  sub_reduced a b = reduce-reduce O (bound O down a b)
+  sub_reduced a b = reduce_reduce O (bound O down a b)
 
   -- A REDUCED TYPE IS KNOWN BY WHAT IT CONFORMS TO
   pub by_conformance : (a b : Ty) → Asc a → Asc b → reduce O a ≡ a → reduce O b ≡ b → ((c : Ty) → le O a c ≡ le O b c) → a ≡ b

@@ -1,6 +1,6 @@
 -- A least type is never longer than its value, at most one level deeper, and well-formed where the value has fewer than 65,536 bytes.
 -- Idea: lengths and levels of supertypes (Size), summed over the value.
--- Index: `size-least`, `size-items`, `level-least`, `level-items`, `wf_least` (least types); `length_enc_v`, `size_one` (values); `size_types_of`, `level_types_of`, `count_types_of`,
+-- Index: `size_least`, `size_items`, `level_least`, `level_items`, `wf_least` (least types); `length_enc_v`, `size_one` (values); `size_types_of`, `level_types_of`, `count_types_of`,
 -- `fits_params` (the parameters of a definition).
 -- Assumes nothing.
 use Prim.Native.Nat.{ℕ, ◌+◌, ◌<◌, ◌≤◌, max}
@@ -19,12 +19,12 @@ use Rattle.order.specs.Order.{Order}
 use Rattle.order.specs.Types.{sup}
 use Rattle.order.specs.Ascending.{Asc}
 use Rattle.order.specs.Size.{size, size_fields, size_tys, size_leaf, size_params, size_val, size_vals, size_entries}
-use Rattle.order.specs.Values.{types_of, least, leastItems, leastEntries}
+use Rattle.order.specs.Values.{types_of, least, least_items, least_entries}
 use Rattle.order.proofs.Answers.{asc-sup}
-use Rattle.order.proofs.Holds.{Holds, HoldsFields, HoldsTys, holds-sup, holds-reduce}
-use Rattle.order.proofs.Size.{length_enc, size_sup, size-reduce, level_sup, level-reduce}
+use Rattle.order.proofs.Holds.{Holds, HoldsFields, HoldsTys, holds_sup, holds_reduce}
+use Rattle.order.proofs.Size.{length_enc, size_sup, size_reduce, level_sup, level_reduce}
 use Rattle.order.proofs.WellFormed.{Fits, fits_of, wf_of}
-use Rattle.order.proofs.Least.{asc-least, asc_null}
+use Rattle.order.proofs.Least.{asc_least, asc_null}
 
 -- ---- the size is the length of the encoding
 length_leaf : (l : Leaf) → length (enc_leaf l) ≡ size_leaf l
@@ -98,78 +98,78 @@ module _ (O : Order) where
   mutual
     unfolding size size_val least WfV
 
-    pub size-least : (v : Val) → WfV v → size (least O v) ≤ size_val v
-    size-least (v_leaf l) h = size_one l
-    size-least (v_range i j v w) h =
-        let x = size_sup O (least O v) (least O w) (asc-least O v h.1.1.0) in
-        omega (arith, size-least v h.1.1.0, size-least w h.1.1.1)
-    size-least (v_list vs) h = omega (arith, size-items vs (leaf null) h.1 (asc_null O))
-    size-least (v_context es) h = omega (arith, size-least-entries es 0 h.1)
-    size-least (v_function ps b r) h =
-        let x = size-reduce O (built (function (types_of ps) r)) in
+    pub size_least : (v : Val) → WfV v → size (least O v) ≤ size_val v
+    size_least (v_leaf l) h = size_one l
+    size_least (v_range i j v w) h =
+        let x = size_sup O (least O v) (least O w) (asc_least O v h.1.1.0) in
+        omega (arith, size_least v h.1.1.0, size_least w h.1.1.1)
+    size_least (v_list vs) h = omega (arith, size_items vs (leaf null) h.1 (asc_null O))
+    size_least (v_context es) h = omega (arith, size_least_entries es 0 h.1)
+    size_least (v_function ps b r) h =
+        let x = size_reduce O (built (function (types_of ps) r)) in
         omega (arith, size_types_of ps)
-    size-least (v_built_in b) h = omega arith
-    size-least (v_type t) h = omega arith
-    size-least v_irrelevant h = omega arith
+    size_least (v_built_in b) h = omega arith
+    size_least (v_type t) h = omega arith
+    size_least v_irrelevant h = omega arith
 
-    pub size-items : (vs : Vals) (t : Ty) → WfVals vs → Asc t → size (leastItems O vs t) ≤ size t + size_vals vs
-    size-items no_items t h g = omega arith
-    size-items (item v vs) t h g =
+    pub size_items : (vs : Vals) (t : Ty) → WfVals vs → Asc t → size (least_items O vs t) ≤ size t + size_vals vs
+    size_items no_items t h g = omega arith
+    size_items (item v vs) t h g =
         let x = size_sup O t (least O v) g in
-        let y = size-items vs (sup O t (least O v)) h.1 (asc-sup O t (least O v) g (asc-least O v h.0)) in
-        omega (arith, size-least v h.0)
+        let y = size_items vs (sup O t (least O v)) h.1 (asc-sup O t (least O v) g (asc_least O v h.0)) in
+        omega (arith, size_least v h.0)
 
-    size-least-entries : (es : Entries) (k : ℕ) → WfEntries es k → size_fields (leastEntries O es) ≤ size_entries es
-    size-least-entries no_entries k h = omega arith
-    size-least-entries (entry n v es) k h = omega (arith, size-least v h.1.1.0, size-least-entries es (n + 1) h.1.1.1)
+    size_least_entries : (es : Entries) (k : ℕ) → WfEntries es k → size_fields (least_entries O es) ≤ size_entries es
+    size_least_entries no_entries k h = omega arith
+    size_least_entries (entry n v es) k h = omega (arith, size_least v h.1.1.0, size_least_entries es (n + 1) h.1.1.1)
 
   mutual
     unfolding level level_v least
 
     -- an empty list has level 1, and List<Null> level 2
-    pub level-least : (v : Val) → level (least O v) ≤ level_v v + 1
-    level-least (v_leaf l) = omega arith
-    level-least (v_range i j v w) = omega (arith, level_sup O (least O v) (least O w), level-least v, level-least w)
-    level-least (v_list vs) = omega (arith, level-items vs (leaf null))
-    level-least (v_context es) = omega (arith, level-least-entries es)
-    level-least (v_function ps b r) = omega (arith, level-reduce O (built (function (types_of ps) r)), level_types_of ps)
-    level-least (v_built_in b) = omega arith
-    level-least (v_type t) = omega arith
-    level-least v_irrelevant = omega arith
+    pub level_least : (v : Val) → level (least O v) ≤ level_v v + 1
+    level_least (v_leaf l) = omega arith
+    level_least (v_range i j v w) = omega (arith, level_sup O (least O v) (least O w), level_least v, level_least w)
+    level_least (v_list vs) = omega (arith, level_items vs (leaf null))
+    level_least (v_context es) = omega (arith, level_least_entries es)
+    level_least (v_function ps b r) = omega (arith, level_reduce O (built (function (types_of ps) r)), level_types_of ps)
+    level_least (v_built_in b) = omega arith
+    level_least (v_type t) = omega arith
+    level_least v_irrelevant = omega arith
 
-    pub level-items : (vs : Vals) (t : Ty) → level (leastItems O vs t) ≤ max (level t) (level_vals vs + 1)
-    level-items no_items t = omega arith
-    level-items (item v vs) t = omega (arith, level-items vs (sup O t (least O v)), level_sup O t (least O v), level-least v)
+    pub level_items : (vs : Vals) (t : Ty) → level (least_items O vs t) ≤ max (level t) (level_vals vs + 1)
+    level_items no_items t = omega arith
+    level_items (item v vs) t = omega (arith, level_items vs (sup O t (least O v)), level_sup O t (least O v), level_least v)
 
-    level-least-entries : (es : Entries) → level_fields (leastEntries O es) ≤ level_entries es + 1
-    level-least-entries no_entries = omega arith
-    level-least-entries (entry n v es) = omega (arith, level-least v, level-least-entries es)
+    level_least_entries : (es : Entries) → level_fields (least_entries O es) ≤ level_entries es + 1
+    level_least_entries no_entries = omega arith
+    level_least_entries (entry n v es) = omega (arith, level_least v, level_least_entries es)
 
   -- ---- numbers fit their places
   mutual
     unfolding least Holds WfV
 
-    fits-least : (v : Val) → WfV v → Fits (least O v)
-    fits-least (v_leaf l) h = tt
-    fits-least (v_range i j v w) h =
-        holds-sup (λ n. n < name_end) (λ c. c < 256) O (least O v) (least O w) (fits-least v h.1.1.0) (fits-least w h.1.1.1)
-    fits-least (v_list vs) h = fits-items vs (leaf null) h.1 tt
-    fits-least (v_context es) h = fits-entries es 0 h.1
-    fits-least (v_function ps b r) h =
-        holds-reduce (λ n. n < name_end) (λ c. c < 256) O (built (function (types_of ps) r))
+    fits_least : (v : Val) → WfV v → Fits (least O v)
+    fits_least (v_leaf l) h = tt
+    fits_least (v_range i j v w) h =
+        holds_sup (λ n. n < name_end) (λ c. c < 256) O (least O v) (least O w) (fits_least v h.1.1.0) (fits_least w h.1.1.1)
+    fits_least (v_list vs) h = fits_items vs (leaf null) h.1 tt
+    fits_least (v_context es) h = fits_entries es 0 h.1
+    fits_least (v_function ps b r) h =
+        holds_reduce (λ n. n < name_end) (λ c. c < 256) O (built (function (types_of ps) r))
         (omega (arith, h.0, count_types_of ps), fits_params ps h.1.1.1, fits_of r h.1.1.0)
-    fits-least (v_built_in b) h = tt
-    fits-least (v_type t) h = tt
-    fits-least v_irrelevant h = tt
+    fits_least (v_built_in b) h = tt
+    fits_least (v_type t) h = tt
+    fits_least v_irrelevant h = tt
 
-    fits-items : (vs : Vals) (t : Ty) → WfVals vs → Fits t → Fits (leastItems O vs t)
-    fits-items no_items t h g = g
-    fits-items (item v vs) t h g =
-        fits-items vs (sup O t (least O v)) h.1 (holds-sup (λ n. n < name_end) (λ c. c < 256) O t (least O v) g (fits-least v h.0))
+    fits_items : (vs : Vals) (t : Ty) → WfVals vs → Fits t → Fits (least_items O vs t)
+    fits_items no_items t h g = g
+    fits_items (item v vs) t h g =
+        fits_items vs (sup O t (least O v)) h.1 (holds_sup (λ n. n < name_end) (λ c. c < 256) O t (least O v) g (fits_least v h.0))
 
-    fits-entries : (es : Entries) (k : ℕ) → WfEntries es k → HoldsFields (λ n. n < name_end) (λ c. c < 256) (leastEntries O es)
-    fits-entries no_entries k h = tt
-    fits-entries (entry n v es) k h = (h.1.0, fits-least v h.1.1.0, fits-entries es (n + 1) h.1.1.1)
+    fits_entries : (es : Entries) (k : ℕ) → WfEntries es k → HoldsFields (λ n. n < name_end) (λ c. c < 256) (least_entries O es)
+    fits_entries no_entries k h = tt
+    fits_entries (entry n v es) k h = (h.1.0, fits_least v h.1.1.0, fits_entries es (n + 1) h.1.1.1)
 
   pub wf_least : (v : Val) → WfV v → size_val v < 65536 → Wf (least O v)
-  wf_least v h s = wf_of (least O v) (asc-least O v h) (fits-least v h) (omega (arith, size-least v h))
+  wf_least v h s = wf_of (least O v) (asc_least O v h) (fits_least v h) (omega (arith, size_least v h))

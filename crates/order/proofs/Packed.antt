@@ -1,9 +1,9 @@
 -- The number of a table (`packed`) is the table's relation: the order of that reading is the table's order.
 -- Idea: bit j of a packed number is the j-th byte packed (`pack_bit`), so both relations agree between Null and Any, and at the ends and on the diagonal the laws decide.
 -- The common bound of two types is found by a fold over the codes 1 to 8: with m the least common bound, m stays below the best so far, is taken when the fold comes to it,
--- and is kept from then on (`narrowed-keeps`, `narrowed-takes`).
+-- and is kept from then on (`narrowed_keeps`, `narrowed_takes`).
 -- Index: `pack_bit`, `pack_lt`, `flag`, `place_lt`, `packed_bit`, `packed_even` (the bits of a packed number); `inner_or_end` (the eight types between Null and Any);
--- `below_table`, `cmp_table` (the relation, and in a direction); `narrowed-keeps`, `narrowed-takes`, `bound-table` (common bounds); `packed_order`, `fixed_packed`, `fixed_order`.
+-- `below_table`, `cmp_table` (the relation, and in a direction); `narrowed_keeps`, `narrowed_takes`, `bound_table` (common bounds); `packed_order`, `fixed_packed`, `fixed_order`.
 -- Assumes nothing.
 use mathlib.Core.Path.{◌≡◌, refl, sym, ◌∙◌, ap, subst}
 use mathlib.Core.Bool.{Bool, true, false, not, cond, ◌&&◌, ◌||◌, true≢false, false≢true}
@@ -158,11 +158,11 @@ module _ (table : List ℕ) (l : Loads table) where
       ap (λ n. eqb n 1)
       (packed_bit table flags (8 * (i - 1) + (j - 1)) (omega arith)
       ∙ ap (λ c. cond c 0 (get_or table (10 * ((8 * (i - 1) + (j - 1)) / 8) + (8 * (i - 1) + (j - 1)) % 8 + 11) 0))
-      (ne_eqb ((8 * (i - 1) + (j - 1)) % 9) 0 (λ e. ne (on-diagonal e)))
+      (ne_eqb ((8 * (i - 1) + (j - 1)) % 9) 0 (λ e. ne (on_diagonal e)))
       ∙ ap (λ n. get_or table n 0) row)
     where
-      on-diagonal : (8 * (i - 1) + (j - 1)) % 9 ≡ 0 → i ≡ j
-      on-diagonal e = back (diagonal (i - 1) (j - 1) ((8 * (i - 1) + (j - 1)) / 9) (omega arith) (omega arith) (omega arith))
+      on_diagonal : (8 * (i - 1) + (j - 1)) % 9 ≡ 0 → i ≡ j
+      on_diagonal e = back (diagonal (i - 1) (j - 1) ((8 * (i - 1) + (j - 1)) / 9) (omega arith) (omega arith) (omega arith))
         where
           back : i - 1 ≡ j - 1 → i ≡ j
           back h = omega arith
@@ -219,10 +219,10 @@ module _ (R : ℕ → ℕ → Bool) (i j m : ℕ) (least : (u : ℕ) → u < 9 �
   better_below u best h = and_right (R j u) (R u best) (and_right (R i u) (R j u && R u best) h)
 
   module _ (only : (u : ℕ) → u < 9 → R m u ≡ true → R u m ≡ true → u ≡ m) where
-    pub narrowed-keeps : (u k : ℕ) → u + k ≤ 9 → narrowed better m u k ≡ m
+    pub narrowed_keeps : (u k : ℕ) → u + k ≤ 9 → narrowed better m u k ≡ m
     unfolding narrowed
-    narrowed-keeps u zero h = refl
-    narrowed-keeps u (suc k) h = step (better u m) refl (narrowed-keeps (suc u) k (omega arith))
+    narrowed_keeps u zero h = refl
+    narrowed_keeps u (suc k) h = step (better u m) refl (narrowed_keeps (suc u) k (omega arith))
       where
         small : u < 9
         small = omega arith
@@ -232,11 +232,11 @@ module _ (R : ℕ → ℕ → Bool) (i j m : ℕ) (least : (u : ℕ) → u < 9 �
             ap (λ n. narrowed better n (suc u) k) (only u small (least u small (better_first u m e) (better_second u m e)) (better_below u m e)) ∙ ih
         step false e ih = ih
 
-    pub narrowed-takes : R i m ≡ true → R j m ≡ true → (best u k : ℕ) → u ≤ m → m < u + k → u + k ≤ 9 → R m best ≡ true → narrowed better best u k ≡ m
+    pub narrowed_takes : R i m ≡ true → R j m ≡ true → (best u k : ℕ) → u ≤ m → m < u + k → u + k ≤ 9 → R m best ≡ true → narrowed better best u k ≡ m
     unfolding narrowed
-    narrowed-takes p q best u zero a b h r = omega arith
-    narrowed-takes p q best u (suc k) a b h r =
-        step (ltb u m) refl (narrowed-keeps (suc u) k (omega arith)) (λ c. narrowed-takes p q (cond (better u best) u best) (suc u) k c (omega arith) (omega arith))
+    narrowed_takes p q best u zero a b h r = omega arith
+    narrowed_takes p q best u (suc k) a b h r =
+        step (ltb u m) refl (narrowed_keeps (suc u) k (omega arith)) (λ c. narrowed_takes p q (cond (better u best) u best) (suc u) k c (omega arith) (omega arith))
       where
         small : u < 9
         small = omega arith
@@ -304,11 +304,11 @@ module _ (table : List ℕ) (l : Loads table) (d : Dir) where
   laws = table_laws table l
 
   pub cmp_table : (s t : Simple) → below_in (packed table) d (code s) (code t) ≡ scmp (table_order table) d s t
-  cmp_table = by-dir d
+  cmp_table = by_dir d
     where
-      by-dir : (e : Dir) (s t : Simple) → below_in (packed table) e (code s) (code t) ≡ scmp (table_order table) e s t
-      by-dir up s t = unfold table_order in below_table table l s t
-      by-dir down s t = unfold table_order in below_table table l t s
+      by_dir : (e : Dir) (s t : Simple) → below_in (packed table) e (code s) (code t) ≡ scmp (table_order table) e s t
+      by_dir up s t = unfold table_order in below_table table l s t
+      by_dir down s t = unfold table_order in below_table table l t s
 
   module _ (s t : Simple) where
     abbrev found : Simple
@@ -320,15 +320,15 @@ module _ (table : List ℕ) (l : Loads table) (d : Dir) where
     second_below : below_in (packed table) d (code t) (code found) ≡ true
     second_below = cmp_table t found ∙ bound_second ordered laws d s t
 
-    least-found :
+    least_found :
         (u : ℕ) → u < 9 → below_in (packed table) d (code s) u ≡ true → below_in (packed table) d (code t) u ≡ true → below_in (packed table) d (code found) u ≡ true
-    least-found =
+    least_found =
         at_code (λ u. below_in (packed table) d (code s) u ≡ true → below_in (packed table) d (code t) u ≡ true → below_in (packed table) d (code found) u ≡ true)
         (λ x p q.
         cmp_table found x ∙ scmp_bound ordered laws d s t x ∙ and_both (scmp ordered d s x) (scmp ordered d t x) (sym (cmp_table s x) ∙ p) (sym (cmp_table t x) ∙ q))
 
-    only-found : (u : ℕ) → u < 9 → below_in (packed table) d (code found) u ≡ true → below_in (packed table) d u (code found) ≡ true → u ≡ code found
-    only-found =
+    only_found : (u : ℕ) → u < 9 → below_in (packed table) d (code found) u ≡ true → below_in (packed table) d u (code found) ≡ true → u ≡ code found
+    only_found =
         at_code (λ u. below_in (packed table) d (code found) u ≡ true → below_in (packed table) d u (code found) ≡ true → u ≡ code found)
         (λ x p q. ap code (antisym ordered laws d x found (sym (cmp_table x found) ∙ q) (sym (cmp_table found x) ∙ p)))
 
@@ -336,41 +336,41 @@ module _ (table : List ℕ) (l : Loads table) (d : Dir) where
     topmost : found ≡ top d → decode (code (top d)) ≡ found
     topmost h = decode_code (top d) ∙ sym h
 
-    above-top : scmp ordered d (top d) found ≡ true → found ≡ top d
-    above-top h = antisym ordered laws d found (top d) (scmp_top ordered laws d found) h
+    above_top : scmp ordered d (top d) found ≡ true → found ≡ top d
+    above_top h = antisym ordered laws d found (top d) (scmp_top ordered laws d found) h
 
     module _ (p : same s (bottom d) ≡ false) (q : same t (bottom d) ≡ false) (e : same s t ≡ false) where
       -- without a table
-      found-alone : ltb (packed table) 2 ≡ true → found ≡ top d
-      found-alone h =
+      found_alone : ltb (packed table) 2 ≡ true → found ≡ top d
+      found_alone h =
           alone d s t found p q e (in_fixed d s found ∙ sym (ap (λ n. below_in n d (code s) (code found)) (packed_zero table l h)) ∙ first_below)
           (in_fixed d t found ∙ sym (ap (λ n. below_in n d (code t) (code found)) (packed_zero table l h)) ∙ second_below)
 
       -- one of the two is at an end
-      found-end : is_inner (code s) && is_inner (code t) ≡ false → found ≡ top d
-      found-end h = above-top (step (is_inner (code s)) refl h)
+      found_end : is_inner (code s) && is_inner (code t) ≡ false → found ≡ top d
+      found_end h = above_top (step (is_inner (code s)) refl h)
         where
           step : (x : Bool) → is_inner (code s) ≡ x → x && is_inner (code t) ≡ false → scmp ordered d (top d) found ≡ true
           step true a b = subst (λ x. scmp ordered d x found ≡ true) (end_top d t b q) (bound_second ordered laws d s t)
           step false a b = subst (λ x. scmp ordered d x found ≡ true) (end_top d s a p) (bound_first ordered laws d s t)
 
       -- the bound of a type that is not the least is not the least
-      not-bottom : (x : Bool) → same found (bottom d) ≡ x → x ≡ false
-      not-bottom true h = absurd (true≢false (sym (eq-eqb (code s) (code (bottom d)) (ap code least-one)) ∙ p))
+      not_bottom : (x : Bool) → same found (bottom d) ≡ x → x ≡ false
+      not_bottom true h = absurd (true≢false (sym (eq-eqb (code s) (code (bottom d)) (ap code least-one)) ∙ p))
         where
           least-one : s ≡ bottom d
           least-one =
               antisym ordered laws d s (bottom d) (subst (λ x. scmp ordered d s x ≡ true) (same_eq found (bottom d) h) (bound_first ordered laws d s t))
               (scmp_bottom ordered laws d s)
-      not-bottom false h = refl
+      not_bottom false h = refl
 
       -- by the fold
-      found-inner : narrowed (closer (packed table) d (code s) (code t)) (code (top d)) 1 8 ≡ code found
-      found-inner = step (is_inner (code found)) refl
+      found_inner : narrowed (closer (packed table) d (code s) (code t)) (code (top d)) 1 8 ≡ code found
+      found_inner = step (is_inner (code found)) refl
         where
           step : (x : Bool) → is_inner (code found) ≡ x → narrowed (closer (packed table) d (code s) (code t)) (code (top d)) 1 8 ≡ code found
           step true h =
-              narrowed-takes (below_in (packed table) d) (code s) (code t) (code found) least-found only-found first_below second_below (code (top d)) 1 8
+              narrowed_takes (below_in (packed table) d) (code s) (code t) (code found) least_found only_found first_below second_below (code (top d)) 1 8
               (leb-true 1 (code found) (and_left (leb 1 (code found)) (leb (code found) 8) h))
               (low (code found) (leb-true (code found) 8 (and_right (leb 1 (code found)) (leb (code found) 8) h))) (omega arith)
               (cmp_table found (top d) ∙ scmp_top ordered laws d found)
@@ -379,8 +379,8 @@ module _ (table : List ℕ) (l : Loads table) (d : Dir) where
               low n a = omega arith
           step false h =
               ap (λ n. narrowed (closer (packed table) d (code s) (code t)) n 1 8)
-              (ap code (sym (end_top d found h (not-bottom (same found (bottom d)) refl))))
-              ∙ narrowed-keeps (below_in (packed table) d) (code s) (code t) (code found) least-found only-found 1 8 (omega arith)
+              (ap code (sym (end_top d found h (not_bottom (same found (bottom d)) refl))))
+              ∙ narrowed_keeps (below_in (packed table) d) (code s) (code t) (code found) least_found only_found 1 8 (omega arith)
 
       nearest_found : decode (nearest (packed table) d (code s) (code t)) ≡ found
       nearest_found = step (ltb (packed table) 2) (is_inner (code s) && is_inner (code t)) refl refl
@@ -388,12 +388,12 @@ module _ (table : List ℕ) (l : Loads table) (d : Dir) where
           step :
               (x y : Bool) → ltb (packed table) 2 ≡ x → is_inner (code s) && is_inner (code t) ≡ y
               → decode (cond x (code (top d)) (cond y (narrowed (closer (packed table) d (code s) (code t)) (code (top d)) 1 8) (code (top d)))) ≡ found
-          step true y a b = topmost (found-alone a)
-          step false true a b = ap decode found-inner ∙ decode_code found
-          step false false a b = topmost (found-end b)
+          step true y a b = topmost (found_alone a)
+          step false true a b = ap decode found_inner ∙ decode_code found
+          step false false a b = topmost (found_end b)
 
-    pub bound-table : sbound (order_of (packed table)) d s t ≡ sbound (table_order table) d s t
-    bound-table = bound_formula (packed table) d s t ∙ step (same s (bottom d)) (same t (bottom d)) (same s t) refl refl refl
+    pub bound_table : sbound (order_of (packed table)) d s t ≡ sbound (table_order table) d s t
+    bound_table = bound_formula (packed table) d s t ∙ step (same s (bottom d)) (same t (bottom d)) (same s t) refl refl refl
       where
         step :
             (x y z : Bool) → same s (bottom d) ≡ x → same t (bottom d) ≡ y → same s t ≡ z
@@ -417,8 +417,8 @@ packed_order table l =
     record {
       strict = ap (λ n. eqb n 1) (packed_even table (flags table l)) i;
       sle = λ s t. below_table table l s t i;
-      sjoin = λ s t. bound-table table l up s t i;
-      smeet = λ s t. bound-table table l down s t i;
+      sjoin = λ s t. bound_table table l up s t i;
+      smeet = λ s t. bound_table table l down s t i;
     }
 
 -- ---- document 01's relation as a table

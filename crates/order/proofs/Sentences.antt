@@ -15,12 +15,12 @@ use borrow.Author.Tests.{eqb-true, eqb-false, ne_eqb, eq-eqb, ltb-true}
 use Rattle.form.specs.Trees.{Simple, any, null, code, Ty, leaf, built, list, range, context, function, Fields, no_fields, field, Tys, no_params, param, Leaf, Params, Val, v_leaf, v_range, v_list}
 use Rattle.form.specs.Trees.{v_context, v_function, v_built_in, v_type, v_irrelevant, Vals, no_items, item, Entries, no_entries, entry}
 use Rattle.order.specs.Order.{same, up, down, Order, fixed, flat, flat_join, flat_meet, flat_order, strict_order}
-use Rattle.order.specs.Types.{lookup, found, all_fields, same_count, kind, ignores, empty, cmp, le, les, reduce, reduceFields, reduceTys, keep, insert_with, bound}
-use Rattle.order.specs.Types.{intersectWith, merge, sup, sub}
+use Rattle.order.specs.Types.{lookup, found, all_fields, same_count, kind, ignores, empty, cmp, le, les, reduce, reduce_fields, reduce_tys, keep, insert_with, bound}
+use Rattle.order.specs.Types.{intersect_with, merge, sup, sub}
 use Rattle.order.specs.Types.{sup_fields, sub_fields, sup_tys, sub_tys}
 use Rattle.order.specs.Ascending.{AscFields, Asc}
 use Rattle.order.specs.Document.{conforms_to, reduced_form, supertype, subtype, eq_ty, instance_built, is_instance_of}
-use Rattle.order.specs.Values.{leaf_type, is_any, conforms, allConform, isDataBy, areData, holdData, least, leastItems, leastEntries, types_of}
+use Rattle.order.specs.Values.{leaf_type, is_any, conforms, all_conform, is_data_by, are_data, hold_data, least, least_items, least_entries, types_of}
 use Rattle.order.specs.Inferred.{value_conforms_to, least_type, type_of, items_below, entry_types}
 use Rattle.order.specs.Sentences.{each_field, each_parameter, each_pair, in_both, in_either, all_items, all_entries, each_entry, TypeSentences, SupertypeSentences, SubtypeSentences, ValueSentences}
 use Rattle.order.specs.Sentences.{LeastTypeSentences, InferredSentences, Sentences}
@@ -29,7 +29,7 @@ use Rattle.order.proofs.Alone.{le_simple_built, le_built_simple, le_lists, le_ra
 use Rattle.order.proofs.Alone.{sub_ranges, sub_contexts, least_lists}
 use Rattle.order.proofs.Simple.{flat_laws, fixed_laws, same_eq}
 use Rattle.order.proofs.Bools.{and_false, and_assoc, and_true, or_cases}
-use Rattle.order.proofs.Conform.{has_look, flip-tys, all_ext, look_below}
+use Rattle.order.proofs.Conform.{has_look, flip_tys, all_ext, look_below}
 use Rattle.order.proofs.Bound.{cmp_other, bound_other}
 use Rattle.order.proofs.Answers.{asc-merge, asc-weaken, merge-first, merge-second, merge-both}
 use Rattle.order.proofs.Laws.{le_sup}
@@ -45,10 +45,10 @@ module _ (O : Order) where
 
   -- equal counts, each parameter of B ≤ that of A, result of A ≤ that of B; without parameters the result is not looked at
   pub le_functions : (ps qs : Tys) (r s : Ty) → le O (built (function ps r)) (built (function qs s)) ≡ les O qs ps && (ignores O ps || le O r s)
-  le_functions ps qs r s = le_functions_down O ps qs r s ∙ ap (λ x. x && (ignores O ps || le O r s)) (flip-tys O up ps qs)
+  le_functions ps qs r s = le_functions_down O ps qs r s ∙ ap (λ x. x && (ignores O ps || le O r s)) (flip_tys O up ps qs)
 
   -- COMMON NAMES, two ascending lists in step
-  common_skip : (fs : Fields) (m k : ℕ) (b : Ty) (gs : Fields) → AscFields fs k → m < k → intersectWith O fs (field m b gs) ≡ intersectWith O fs gs
+  common_skip : (fs : Fields) (m k : ℕ) (b : Ty) (gs : Fields) → AscFields fs k → m < k → intersect_with O fs (field m b gs) ≡ intersect_with O fs gs
   unfolding bound lookup Asc
   common_skip no_fields m k b gs w h = refl
   common_skip (field n a fs) m k b gs w h =
@@ -56,35 +56,35 @@ module _ (O : Order) where
       (common_skip fs m (suc n) b gs w.2 (omega (arith, w.0)))
 
   pub sup_fields_second : (fs : Fields) (m k : ℕ) (b : Ty) (gs : Fields) → AscFields fs k → m < k → sup_fields O fs (field m b gs) ≡ sup_fields O fs gs
-  sup_fields_second fs m k b gs w h = ap (reduceFields O) (common_skip fs m k b gs w h)
+  sup_fields_second fs m k b gs w h = ap (reduce_fields O) (common_skip fs m k b gs w h)
 
   pub sup_fields_first : (n : ℕ) (a : Ty) (fs gs : Fields) → AscFields gs (suc n) → sup_fields O (field n a fs) gs ≡ sup_fields O fs gs
   unfolding bound
   sup_fields_first n a fs gs w =
-      ap (λ o. reduceFields O (keep n o (λ c. bound O up a c) (intersectWith O fs gs))) (look_below O gs (suc n) n w (omega arith))
+      ap (λ o. reduce_fields O (keep n o (λ c. bound O up a c) (intersect_with O fs gs))) (look_below O gs (suc n) n w (omega arith))
 
   pub sup_fields_both : (n : ℕ) (a b : Ty) (fs gs : Fields) → AscFields fs (suc n)
       → sup_fields O (field n a fs) (field n b gs) ≡ field n (sup O a b) (sup_fields O fs gs)
   unfolding bound lookup reduce
   sup_fields_both n a b fs gs w =
-      ap₂ (λ q x. reduceFields O (keep n (cond q (some b) (lookup n gs)) (λ c. bound O up a c) x)) (eq-eqb n n refl)
+      ap₂ (λ q x. reduce_fields O (keep n (cond q (some b) (lookup n gs)) (λ c. bound O up a c) x)) (eq-eqb n n refl)
       (common_skip fs n (suc n) b gs w (omega arith))
 
   -- ALL NAMES, two ascending lists in step
   pub sub_fields_first : (n : ℕ) (a : Ty) (fs gs : Fields) → AscFields fs (suc n) → AscFields gs (suc n)
       → sub_fields O (field n a fs) gs ≡ field n (reduce O a) (sub_fields O fs gs)
   unfolding reduce
-  sub_fields_first n a fs gs v w = ap (reduceFields O) (merge-first O n a fs gs v w)
+  sub_fields_first n a fs gs v w = ap (reduce_fields O) (merge-first O n a fs gs v w)
 
   pub sub_fields_second : (fs : Fields) (m k : ℕ) (b : Ty) (gs : Fields) → AscFields fs k → m < k
       → sub_fields O fs (field m b gs) ≡ field m (reduce O b) (sub_fields O fs gs)
   unfolding reduce
-  sub_fields_second fs m k b gs w h = ap (reduceFields O) (merge-second O fs m k b gs w h)
+  sub_fields_second fs m k b gs w h = ap (reduce_fields O) (merge-second O fs m k b gs w h)
 
   pub sub_fields_both : (n : ℕ) (a b : Ty) (fs gs : Fields) → AscFields fs (suc n)
       → sub_fields O (field n a fs) (field n b gs) ≡ field n (sub O a b) (sub_fields O fs gs)
   unfolding reduce
-  sub_fields_both n a b fs gs v = ap (reduceFields O) (merge-both O n a b fs gs v)
+  sub_fields_both n a b fs gs v = ap (reduce_fields O) (merge-both O n a b fs gs v)
 
 -- ---- THE SENTENCES
 not_true : (q : Bool) → (q ≡ true → ⊥) → q ≡ false
@@ -125,12 +125,12 @@ unfolding cmp
 plain no_params r s = refl
 plain (param b qs) r s = refl
 
-reduced_fields : (fs : Fields) → reduceFields fixed fs ≡ each_field reduced_form fs
+reduced_fields : (fs : Fields) → reduce_fields fixed fs ≡ each_field reduced_form fs
 unfolding reduce each_field
 reduced_fields no_fields = refl
 reduced_fields (field n t fs) = ap (field n (reduced_form t)) (reduced_fields fs)
 
-reduced_tys : (ps : Tys) → reduceTys fixed ps ≡ each_parameter reduced_form ps
+reduced_tys : (ps : Tys) → reduce_tys fixed ps ≡ each_parameter reduced_form ps
 unfolding reduce each_parameter
 reduced_tys no_params = refl
 reduced_tys (param t ps) = ap (param (reduced_form t)) (reduced_tys ps)
@@ -175,7 +175,7 @@ mapped_cond : (f : Ty → Ty) (q : Bool) (t : Ty) (o : Option Ty) → cond q (so
 mapped_cond f true t o = refl
 mapped_cond f false t o = refl
 
-look_reduce : (n : ℕ) (fs : Fields) → lookup n (reduceFields fixed fs) ≡ mapped reduced_form (lookup n fs)
+look_reduce : (n : ℕ) (fs : Fields) → lookup n (reduce_fields fixed fs) ≡ mapped reduced_form (lookup n fs)
 unfolding lookup reduce
 look_reduce n no_fields = refl
 look_reduce n (field m t fs) = ap (cond (eqb n m) (some (reduced_form t))) (look_reduce n fs) ∙ mapped_cond reduced_form (eqb n m) t (lookup n fs)
@@ -204,10 +204,10 @@ look_keep n m a fs gs cs (some b) e true q h =
     ∙ sym (ap (in_both (λ x y. bound fixed up x y) (some a)) (ap (λ k. lookup k gs) (eqb-true n m q) ∙ e))
 look_keep n m a fs gs cs (some b) e false q h = ap (λ i. cond i (some (bound fixed up a b)) (lookup n cs)) q ∙ h
 
-look_common : (n : ℕ) (fs gs : Fields) → lookup n (intersectWith fixed fs gs) ≡ in_both (λ x y. bound fixed up x y) (lookup n fs) (lookup n gs)
+look_common : (n : ℕ) (fs gs : Fields) → lookup n (intersect_with fixed fs gs) ≡ in_both (λ x y. bound fixed up x y) (lookup n fs) (lookup n gs)
 unfolding bound lookup
 look_common n no_fields gs = refl
-look_common n (field m a fs) gs = look_keep n m a fs gs (intersectWith fixed fs gs) (lookup m gs) refl (eqb n m) refl (look_common n fs gs)
+look_common n (field m a fs) gs = look_keep n m a fs gs (intersect_with fixed fs gs) (lookup m gs) refl (eqb n m) refl (look_common n fs gs)
 
 -- a name of either
 mapped_either : (f : Ty → Ty → Ty) (o p : Option Ty) → mapped reduced_form (in_either f (λ t. t) o p) ≡ in_either (λ a b. reduced_form (f a b)) reduced_form o p
@@ -335,7 +335,7 @@ supertype_sentences = record {
   lists = sup_lists fixed;
   ranges = sup_ranges fixed;
   contexts = sup_contexts fixed;
-  common_names = λ n fs gs. look_reduce n (intersectWith fixed fs gs) ∙ ap (mapped reduced_form) (look_common n fs gs) ∙ mapped_both (λ x y. bound fixed up x y) (lookup n fs) (lookup n gs);
+  common_names = λ n fs gs. look_reduce n (intersect_with fixed fs gs) ∙ ap (mapped reduced_form) (look_common n fs gs) ∙ mapped_both (λ x y. bound fixed up x y) (lookup n fs) (lookup n gs);
   functions = λ ps qs r s h k. sup_functions fixed ps qs r s h ∙ ap₂ (λ x q. built (function x (cond q (leaf any) (supertype r s)))) (sub_pairs fixed ps qs) k;
   plain_functions = λ r s. sup_functions fixed no_params no_params r s counted;
   other_simple = λ s t h k d. sup_simple fixed s t ∙ ap leaf (join_other s t h k d);
@@ -390,7 +390,7 @@ own_type l (leaf s) h k = (
 )
 own_type l (built y) h k = (λ e. absurd (not_below_null (leaf_type l) h e), λ e. absurd (let z : ◌≡◌ {A = ℕ} 0 1 = cc in omega arith))
 
-every_item : (vs : Vals) (u : Ty) → allConform fixed vs u ≡ all_items (λ v. value_conforms_to v u) vs
+every_item : (vs : Vals) (u : Ty) → all_conform fixed vs u ≡ all_items (λ v. value_conforms_to v u) vs
 unfolding conforms all_items
 every_item no_items u = refl
 every_item (item v vs) u = ap (λ x. value_conforms_to v u && x) (every_item vs u)
@@ -453,22 +453,22 @@ value_sentences = record {
 }
 
 -- ---- least type
-pub every_data : (O : Order) (vs : Vals) → areData O vs ≡ all_items (isDataBy O) vs
-unfolding isDataBy all_items
+pub every_data : (O : Order) (vs : Vals) → are_data O vs ≡ all_items (is_data_by O) vs
+unfolding is_data_by all_items
 every_data O no_items = refl
-every_data O (item v vs) = ap (λ x. isDataBy O v && x) (every_data O vs)
+every_data O (item v vs) = ap (λ x. is_data_by O v && x) (every_data O vs)
 
-pub every_entry : (O : Order) (es : Entries) → holdData O es ≡ all_entries (isDataBy O) es
-unfolding isDataBy all_entries
+pub every_entry : (O : Order) (es : Entries) → hold_data O es ≡ all_entries (is_data_by O) es
+unfolding is_data_by all_entries
 every_entry O no_entries = refl
-every_entry O (entry n v es) = ap (λ x. isDataBy O v && x) (every_entry O es)
+every_entry O (entry n v es) = ap (λ x. is_data_by O v && x) (every_entry O es)
 
-least_each : (es : Entries) → leastEntries fixed es ≡ each_entry least_type es
+least_each : (es : Entries) → least_entries fixed es ≡ each_entry least_type es
 unfolding least each_entry
 least_each no_entries = refl
 least_each (entry n v es) = ap (field n (least_type v)) (least_each es)
 
-items_below_type : (vs : Vals) (t u : Ty) → conforms_to (leastItems fixed vs t) u ≡ conforms_to t u && all_items (λ v. conforms_to (least_type v) u) vs
+items_below_type : (vs : Vals) (t u : Ty) → conforms_to (least_items fixed vs t) u ≡ conforms_to t u && all_items (λ v. conforms_to (least_type v) u) vs
 unfolding least all_items
 items_below_type no_items t u = sym (and_true (conforms_to t u))
 items_below_type (item v vs) t u =
@@ -476,7 +476,7 @@ items_below_type (item v vs) t u =
     ∙ and_assoc (conforms_to t u) (conforms_to (least_type v) u) (all_items (λ w. conforms_to (least_type w) u) vs)
 
 least_type_sentences : LeastTypeSentences
-unfolding isDataBy least cmp
+unfolding is_data_by least cmp
 least_type_sentences = record {
   data_leaf = λ l. refl;
   data_range = λ i j v w. refl;

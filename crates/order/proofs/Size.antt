@@ -1,7 +1,7 @@
 -- Lengths and levels: an answer is never longer than the two inputs together, nor deeper than the deeper one.
 -- Idea: induction on both types; a context's names are taken in ascending order, each counted once.
--- Index: `length_enc`, `length_fields`, `length_tys` (a size is a length); `size_sup`, `size_sub`, `size-bound`, `size-reduce` (lengths); `level_sup`, `level_sub`, `level-bound`,
--- `level-reduce` (levels); `size_positive`, `size_val_positive`, `level_positive`.
+-- Index: `length_enc`, `length_fields`, `length_tys` (a size is a length); `size_sup`, `size_sub`, `size_bound`, `size_reduce` (lengths); `level_sup`, `level_sub`, `level_bound`,
+-- `level_reduce` (levels); `size_positive`, `size_val_positive`, `level_positive`.
 -- Assumes nothing.
 use Prim.Native.Nat.{ℕ, suc, ◌+◌, ◌≤◌, max}
 use native.Mathlib.Omega.{arith}
@@ -18,7 +18,7 @@ use Rattle.form.specs.Limits.{name_width}
 use Rattle.form.specs.Form.{enc, enc_built, enc_fields, enc_tys, count_fields, level, level_built, level_fields, level_tys}
 use Rattle.form.proofs.First.{length_front}
 use Rattle.order.specs.Order.{Dir, up, down, flip, pick, Order, top, bottom, scmp}
-use Rattle.order.specs.Types.{lookup, same_count, ignores, reduce, reduceBuilt, reduceFields, reduceTys, keep, insert_with, bound, boundBuilt, intersectWith, merge, bounds, sup, sub}
+use Rattle.order.specs.Types.{lookup, same_count, ignores, reduce, reduce_built, reduce_fields, reduce_tys, keep, insert_with, bound, bound_built, intersect_with, merge, bounds, sup, sub}
 use Rattle.order.specs.Ascending.{Asc, AscBuilt, AscFields, AscTys}
 use Rattle.order.specs.Size.{size, size_built, size_fields, size_tys, size_val}
 
@@ -116,88 +116,88 @@ module _ (O : Order) where
   mutual
     unfolding size bound Asc
 
-    pub size-bound : (d : Dir) (a b : Ty) → Asc a → size (bound O d a b) ≤ size a + size b
-    size-bound d (leaf s) (leaf t) v = omega arith
-    size-bound d (leaf s) (built y) v =
+    pub size_bound : (d : Dir) (a b : Ty) → Asc a → size (bound O d a b) ≤ size a + size b
+    size_bound d (leaf s) (leaf t) v = omega arith
+    size_bound d (leaf s) (built y) v =
         size_cond (scmp O d s (bottom d)) (built y) (leaf (top d)) (1 + size_built y) (omega arith) (omega arith)
-    size-bound d (built x) (leaf t) v =
+    size_bound d (built x) (leaf t) v =
         size_cond (scmp O d t (bottom d)) (built x) (leaf (top d)) (size_built x + 1) (omega arith) (omega arith)
-    size-bound d (built x) (built y) v = size-bound-built d x y v
+    size_bound d (built x) (built y) v = size_bound_built d x y v
 
-    size-bound-built : (d : Dir) (x y : Built) → AscBuilt x → size (boundBuilt O d x y) ≤ size_built x + size_built y
-    size-bound-built d (list a) (list b) v = omega (arith, size-bound d a b v)
-    size-bound-built d (list a) (range b) v = omega arith
-    size-bound-built d (list a) (context gs) v = omega arith
-    size-bound-built d (list a) (function qs s) v = omega arith
-    size-bound-built d (range a) (list b) v = omega arith
-    size-bound-built d (range a) (range b) v = omega (arith, size-bound d a b v)
-    size-bound-built d (range a) (context gs) v = omega arith
-    size-bound-built d (range a) (function qs s) v = omega arith
-    size-bound-built d (context fs) (list b) v = omega arith
-    size-bound-built d (context fs) (range b) v = omega arith
-    size-bound-built d (context fs) (context gs) v =
-        let x = size_pick d (intersectWith O fs gs) (merge O fs gs) (size_fields fs + size_fields gs)
-        (omega (arith, size-common fs gs 0 v, size_from_zero gs)) (size-merge fs gs 0 v) in
+    size_bound_built : (d : Dir) (x y : Built) → AscBuilt x → size (bound_built O d x y) ≤ size_built x + size_built y
+    size_bound_built d (list a) (list b) v = omega (arith, size_bound d a b v)
+    size_bound_built d (list a) (range b) v = omega arith
+    size_bound_built d (list a) (context gs) v = omega arith
+    size_bound_built d (list a) (function qs s) v = omega arith
+    size_bound_built d (range a) (list b) v = omega arith
+    size_bound_built d (range a) (range b) v = omega (arith, size_bound d a b v)
+    size_bound_built d (range a) (context gs) v = omega arith
+    size_bound_built d (range a) (function qs s) v = omega arith
+    size_bound_built d (context fs) (list b) v = omega arith
+    size_bound_built d (context fs) (range b) v = omega arith
+    size_bound_built d (context fs) (context gs) v =
+        let x = size_pick d (intersect_with O fs gs) (merge O fs gs) (size_fields fs + size_fields gs)
+        (omega (arith, size_common fs gs 0 v, size_from_zero gs)) (size_merge fs gs 0 v) in
         omega arith
-    size-bound-built d (context fs) (function qs s) v = omega arith
-    size-bound-built d (function ps r) (list b) v = omega arith
-    size-bound-built d (function ps r) (range b) v = omega arith
-    size-bound-built d (function ps r) (context gs) v = omega arith
-    size-bound-built d (function ps r) (function qs s) v =
+    size_bound_built d (context fs) (function qs s) v = omega arith
+    size_bound_built d (function ps r) (list b) v = omega arith
+    size_bound_built d (function ps r) (range b) v = omega arith
+    size_bound_built d (function ps r) (context gs) v = omega arith
+    size_bound_built d (function ps r) (function qs s) v =
         size_cond (same_count ps qs) (built (function (bounds O (flip d) ps qs) (bound O d r s))) (leaf (top d))
         (2 + size_tys ps + size r + (2 + size_tys qs + size s))
-        (omega (arith, size-bounds (flip d) ps qs v.0, size-bound d r s v.1)) (omega arith)
+        (omega (arith, size_bounds (flip d) ps qs v.0, size_bound d r s v.1)) (omega arith)
 
-    size-common : (fs gs : Fields) (k : ℕ) → AscFields fs k → size_fields (intersectWith O fs gs) ≤ size_fields fs + size_from k gs
-    size-common no_fields gs k v = omega arith
-    size-common (field n a fs) gs k v =
-        let x = size-common fs gs (suc n) v.2 in
-        let y = size_keep n a (lookup n gs) (λ b. bound O up a b) (intersectWith O fs gs) (λ b. size-bound up a b v.1) in
+    size_common : (fs gs : Fields) (k : ℕ) → AscFields fs k → size_fields (intersect_with O fs gs) ≤ size_fields fs + size_from k gs
+    size_common no_fields gs k v = omega arith
+    size_common (field n a fs) gs k v =
+        let x = size_common fs gs (suc n) v.2 in
+        let y = size_keep n a (lookup n gs) (λ b. bound O up a b) (intersect_with O fs gs) (λ b. size_bound up a b v.1) in
         let z = size_from_look n k gs v.0 in
         omega arith
 
-    size-merge : (fs gs : Fields) (k : ℕ) → AscFields fs k → size_fields (merge O fs gs) ≤ size_fields fs + size_fields gs
-    size-merge no_fields gs k v = omega arith
-    size-merge (field n a fs) gs k v =
-        let x = size-merge fs gs (suc n) v.2 in
-        let y = size_place n a (λ b. bound O down a b) (merge O fs gs) (λ b. size-bound down a b v.1) in
+    size_merge : (fs gs : Fields) (k : ℕ) → AscFields fs k → size_fields (merge O fs gs) ≤ size_fields fs + size_fields gs
+    size_merge no_fields gs k v = omega arith
+    size_merge (field n a fs) gs k v =
+        let x = size_merge fs gs (suc n) v.2 in
+        let y = size_place n a (λ b. bound O down a b) (merge O fs gs) (λ b. size_bound down a b v.1) in
         omega arith
 
-    size-bounds : (d : Dir) (ps qs : Tys) → AscTys ps → size_tys (bounds O d ps qs) ≤ size_tys ps + size_tys qs
-    size-bounds d no_params no_params v = omega arith
-    size-bounds d no_params (param b qs) v = omega arith
-    size-bounds d (param a ps) no_params v = omega arith
-    size-bounds d (param a ps) (param b qs) v = omega (arith, size-bound d a b v.0, size-bounds d ps qs v.1)
+    size_bounds : (d : Dir) (ps qs : Tys) → AscTys ps → size_tys (bounds O d ps qs) ≤ size_tys ps + size_tys qs
+    size_bounds d no_params no_params v = omega arith
+    size_bounds d no_params (param b qs) v = omega arith
+    size_bounds d (param a ps) no_params v = omega arith
+    size_bounds d (param a ps) (param b qs) v = omega (arith, size_bound d a b v.0, size_bounds d ps qs v.1)
 
   mutual
     unfolding size reduce
 
-    pub size-reduce : (a : Ty) → size (reduce O a) ≤ size a
-    size-reduce (leaf s) = omega arith
-    size-reduce (built x) = size-reduce-built x
+    pub size_reduce : (a : Ty) → size (reduce O a) ≤ size a
+    size_reduce (leaf s) = omega arith
+    size_reduce (built x) = size_reduce_built x
 
-    size-reduce-built : (x : Built) → size_built (reduceBuilt O x) ≤ size_built x
-    size-reduce-built (list a) = omega (arith, size-reduce a)
-    size-reduce-built (range a) = omega (arith, size-reduce a)
-    size-reduce-built (context fs) = omega (arith, size-reduce-fields fs)
-    size-reduce-built (function ps r) =
-        let x = size_cond (ignores O ps) (leaf any) (reduce O r) (size r) (size_positive r) (size-reduce r) in
-        omega (arith, size-reduce-tys ps)
+    size_reduce_built : (x : Built) → size_built (reduce_built O x) ≤ size_built x
+    size_reduce_built (list a) = omega (arith, size_reduce a)
+    size_reduce_built (range a) = omega (arith, size_reduce a)
+    size_reduce_built (context fs) = omega (arith, size_reduce_fields fs)
+    size_reduce_built (function ps r) =
+        let x = size_cond (ignores O ps) (leaf any) (reduce O r) (size r) (size_positive r) (size_reduce r) in
+        omega (arith, size_reduce_tys ps)
 
-    size-reduce-fields : (fs : Fields) → size_fields (reduceFields O fs) ≤ size_fields fs
-    size-reduce-fields no_fields = omega arith
-    size-reduce-fields (field n a fs) = omega (arith, size-reduce a, size-reduce-fields fs)
+    size_reduce_fields : (fs : Fields) → size_fields (reduce_fields O fs) ≤ size_fields fs
+    size_reduce_fields no_fields = omega arith
+    size_reduce_fields (field n a fs) = omega (arith, size_reduce a, size_reduce_fields fs)
 
-    size-reduce-tys : (ps : Tys) → size_tys (reduceTys O ps) ≤ size_tys ps
-    size-reduce-tys no_params = omega arith
-    size-reduce-tys (param a ps) = omega (arith, size-reduce a, size-reduce-tys ps)
+    size_reduce_tys : (ps : Tys) → size_tys (reduce_tys O ps) ≤ size_tys ps
+    size_reduce_tys no_params = omega arith
+    size_reduce_tys (param a ps) = omega (arith, size_reduce a, size_reduce_tys ps)
 
   -- an answer is never longer than the two inputs together
   pub size_sup : (a b : Ty) → Asc a → size (sup O a b) ≤ size a + size b
-  size_sup a b v = omega (arith, size-reduce (bound O up a b), size-bound up a b v)
+  size_sup a b v = omega (arith, size_reduce (bound O up a b), size_bound up a b v)
 
   pub size_sub : (a b : Ty) → Asc a → size (sub O a b) ≤ size a + size b
-  size_sub a b v = omega (arith, size-reduce (bound O down a b), size-bound down a b v)
+  size_sub a b v = omega (arith, size_reduce (bound O down a b), size_bound down a b v)
 
 -- ---- levels
 level_cond : (q : Bool) (a b : Ty) (k : ℕ) → level a ≤ k → level b ≤ k → level (cond q a b) ≤ k
@@ -267,84 +267,84 @@ module _ (O : Order) where
   mutual
     unfolding level bound
 
-    pub level-bound : (d : Dir) (a b : Ty) → level (bound O d a b) ≤ max (level a) (level b)
-    level-bound d (leaf s) (leaf t) = omega arith
-    level-bound d (leaf s) (built y) =
+    pub level_bound : (d : Dir) (a b : Ty) → level (bound O d a b) ≤ max (level a) (level b)
+    level_bound d (leaf s) (leaf t) = omega arith
+    level_bound d (leaf s) (built y) =
         level_cond (scmp O d s (bottom d)) (built y) (leaf (top d)) (max 1 (suc (level_built y))) (omega arith) (omega arith)
-    level-bound d (built x) (leaf t) =
+    level_bound d (built x) (leaf t) =
         level_cond (scmp O d t (bottom d)) (built x) (leaf (top d)) (max (suc (level_built x)) 1) (omega arith) (omega arith)
-    level-bound d (built x) (built y) = level-bound-built d x y
+    level_bound d (built x) (built y) = level_bound_built d x y
 
-    level-bound-built : (d : Dir) (x y : Built) → level (boundBuilt O d x y) ≤ max (suc (level_built x)) (suc (level_built y))
-    level-bound-built d (list a) (list b) = omega (arith, level-bound d a b)
-    level-bound-built d (list a) (range b) = omega arith
-    level-bound-built d (list a) (context gs) = omega arith
-    level-bound-built d (list a) (function qs s) = omega arith
-    level-bound-built d (range a) (list b) = omega arith
-    level-bound-built d (range a) (range b) = omega (arith, level-bound d a b)
-    level-bound-built d (range a) (context gs) = omega arith
-    level-bound-built d (range a) (function qs s) = omega arith
-    level-bound-built d (context fs) (list b) = omega arith
-    level-bound-built d (context fs) (range b) = omega arith
-    level-bound-built d (context fs) (context gs) =
-        let x = level_pick d (intersectWith O fs gs) (merge O fs gs) (max (level_fields fs) (level_fields gs)) (level-common fs gs) (level-merge fs gs) in
+    level_bound_built : (d : Dir) (x y : Built) → level (bound_built O d x y) ≤ max (suc (level_built x)) (suc (level_built y))
+    level_bound_built d (list a) (list b) = omega (arith, level_bound d a b)
+    level_bound_built d (list a) (range b) = omega arith
+    level_bound_built d (list a) (context gs) = omega arith
+    level_bound_built d (list a) (function qs s) = omega arith
+    level_bound_built d (range a) (list b) = omega arith
+    level_bound_built d (range a) (range b) = omega (arith, level_bound d a b)
+    level_bound_built d (range a) (context gs) = omega arith
+    level_bound_built d (range a) (function qs s) = omega arith
+    level_bound_built d (context fs) (list b) = omega arith
+    level_bound_built d (context fs) (range b) = omega arith
+    level_bound_built d (context fs) (context gs) =
+        let x = level_pick d (intersect_with O fs gs) (merge O fs gs) (max (level_fields fs) (level_fields gs)) (level_common fs gs) (level_merge fs gs) in
         omega arith
-    level-bound-built d (context fs) (function qs s) = omega arith
-    level-bound-built d (function ps r) (list b) = omega arith
-    level-bound-built d (function ps r) (range b) = omega arith
-    level-bound-built d (function ps r) (context gs) = omega arith
-    level-bound-built d (function ps r) (function qs s) =
+    level_bound_built d (context fs) (function qs s) = omega arith
+    level_bound_built d (function ps r) (list b) = omega arith
+    level_bound_built d (function ps r) (range b) = omega arith
+    level_bound_built d (function ps r) (context gs) = omega arith
+    level_bound_built d (function ps r) (function qs s) =
         level_cond (same_count ps qs) (built (function (bounds O (flip d) ps qs) (bound O d r s))) (leaf (top d))
         (max (suc (max (level_tys ps) (level r))) (suc (max (level_tys qs) (level s))))
-        (omega (arith, level-bounds (flip d) ps qs, level-bound d r s)) (omega arith)
+        (omega (arith, level_bounds (flip d) ps qs, level_bound d r s)) (omega arith)
 
-    level-common : (fs gs : Fields) → level_fields (intersectWith O fs gs) ≤ max (level_fields fs) (level_fields gs)
-    level-common no_fields gs = omega arith
-    level-common (field n a fs) gs =
-        let x = level-common fs gs in
-        let y = level_keep n a (lookup n gs) (λ b. bound O up a b) (intersectWith O fs gs) (λ b. level-bound up a b) in
+    level_common : (fs gs : Fields) → level_fields (intersect_with O fs gs) ≤ max (level_fields fs) (level_fields gs)
+    level_common no_fields gs = omega arith
+    level_common (field n a fs) gs =
+        let x = level_common fs gs in
+        let y = level_keep n a (lookup n gs) (λ b. bound O up a b) (intersect_with O fs gs) (λ b. level_bound up a b) in
         let z = level_look n gs in
         omega arith
 
-    level-merge : (fs gs : Fields) → level_fields (merge O fs gs) ≤ max (level_fields fs) (level_fields gs)
-    level-merge no_fields gs = omega arith
-    level-merge (field n a fs) gs =
-        let x = level-merge fs gs in
-        let y = level_place n a (λ b. bound O down a b) (merge O fs gs) (λ b. level-bound down a b) in
+    level_merge : (fs gs : Fields) → level_fields (merge O fs gs) ≤ max (level_fields fs) (level_fields gs)
+    level_merge no_fields gs = omega arith
+    level_merge (field n a fs) gs =
+        let x = level_merge fs gs in
+        let y = level_place n a (λ b. bound O down a b) (merge O fs gs) (λ b. level_bound down a b) in
         omega arith
 
-    level-bounds : (d : Dir) (ps qs : Tys) → level_tys (bounds O d ps qs) ≤ max (level_tys ps) (level_tys qs)
-    level-bounds d no_params no_params = omega arith
-    level-bounds d no_params (param b qs) = omega arith
-    level-bounds d (param a ps) no_params = omega arith
-    level-bounds d (param a ps) (param b qs) = omega (arith, level-bound d a b, level-bounds d ps qs)
+    level_bounds : (d : Dir) (ps qs : Tys) → level_tys (bounds O d ps qs) ≤ max (level_tys ps) (level_tys qs)
+    level_bounds d no_params no_params = omega arith
+    level_bounds d no_params (param b qs) = omega arith
+    level_bounds d (param a ps) no_params = omega arith
+    level_bounds d (param a ps) (param b qs) = omega (arith, level_bound d a b, level_bounds d ps qs)
 
   mutual
     unfolding level reduce
 
-    pub level-reduce : (a : Ty) → level (reduce O a) ≤ level a
-    level-reduce (leaf s) = omega arith
-    level-reduce (built x) = omega (arith, level-reduce-built x)
+    pub level_reduce : (a : Ty) → level (reduce O a) ≤ level a
+    level_reduce (leaf s) = omega arith
+    level_reduce (built x) = omega (arith, level_reduce_built x)
 
-    level-reduce-built : (x : Built) → level_built (reduceBuilt O x) ≤ level_built x
-    level-reduce-built (list a) = omega (arith, level-reduce a)
-    level-reduce-built (range a) = omega (arith, level-reduce a)
-    level-reduce-built (context fs) = omega (arith, level-reduce-fields fs)
-    level-reduce-built (function ps r) =
-        let x = level_cond (ignores O ps) (leaf any) (reduce O r) (level r) (level_positive r) (level-reduce r) in
-        omega (arith, level-reduce-tys ps)
+    level_reduce_built : (x : Built) → level_built (reduce_built O x) ≤ level_built x
+    level_reduce_built (list a) = omega (arith, level_reduce a)
+    level_reduce_built (range a) = omega (arith, level_reduce a)
+    level_reduce_built (context fs) = omega (arith, level_reduce_fields fs)
+    level_reduce_built (function ps r) =
+        let x = level_cond (ignores O ps) (leaf any) (reduce O r) (level r) (level_positive r) (level_reduce r) in
+        omega (arith, level_reduce_tys ps)
 
-    level-reduce-fields : (fs : Fields) → level_fields (reduceFields O fs) ≤ level_fields fs
-    level-reduce-fields no_fields = omega arith
-    level-reduce-fields (field n a fs) = omega (arith, level-reduce a, level-reduce-fields fs)
+    level_reduce_fields : (fs : Fields) → level_fields (reduce_fields O fs) ≤ level_fields fs
+    level_reduce_fields no_fields = omega arith
+    level_reduce_fields (field n a fs) = omega (arith, level_reduce a, level_reduce_fields fs)
 
-    level-reduce-tys : (ps : Tys) → level_tys (reduceTys O ps) ≤ level_tys ps
-    level-reduce-tys no_params = omega arith
-    level-reduce-tys (param a ps) = omega (arith, level-reduce a, level-reduce-tys ps)
+    level_reduce_tys : (ps : Tys) → level_tys (reduce_tys O ps) ≤ level_tys ps
+    level_reduce_tys no_params = omega arith
+    level_reduce_tys (param a ps) = omega (arith, level_reduce a, level_reduce_tys ps)
 
   -- nor deeper than the deeper one
   pub level_sup : (a b : Ty) → level (sup O a b) ≤ max (level a) (level b)
-  level_sup a b = omega (arith, level-reduce (bound O up a b), level-bound up a b)
+  level_sup a b = omega (arith, level_reduce (bound O up a b), level_bound up a b)
 
   pub level_sub : (a b : Ty) → level (sub O a b) ≤ max (level a) (level b)
-  level_sub a b = omega (arith, level-reduce (bound O down a b), level-bound down a b)
+  level_sub a b = omega (arith, level_reduce (bound O down a b), level_bound down a b)

@@ -5,11 +5,11 @@ use mathlib.Core.Bool.{true, ◌&&◌}
 use Rattle.form.specs.Trees.{Ty, built, function, Tys, no_params, param}
 use Rattle.order.specs.Order.{up, down, strict_order}
 use Rattle.order.specs.Types.{empty, cmp, reduce, sup, sub}
-use Rattle.order.specs.Values.{conforms, isDataBy, least}
+use Rattle.order.specs.Values.{conforms, is_data_by, least}
 use Rattle.order.specs.Sentences.{each_pair}
 use Rattle.order.specs.Dmn.{dmn_conforms_to, definition_type}
 use Rattle.order.specs.Strict.{StrictSentences}
-use Rattle.order.proofs.Conform.{reduce-strict}
+use Rattle.order.proofs.Conform.{reduce_strict}
 use Rattle.order.proofs.StrictBounds.{reduced_bound}
 use Rattle.order.proofs.Sentences.{sup_functions, sub_functions, sub_pairs, sup_pairs, null_sup, any_sub, counted, any_value, only_any, every_data, every_entry}
 
@@ -19,10 +19,10 @@ plain no_params r s = refl
 plain (param b qs) r s = refl
 
 nothing_reduced : (t : Ty) → reduce strict_order t ≡ t
-nothing_reduced t = reduce-strict strict_order t refl
+nothing_reduced t = reduce_strict strict_order t refl
 
 pub strict_sentences : StrictSentences
-unfolding conforms isDataBy least each_pair
+unfolding conforms is_data_by least each_pair
 strict_sentences = record {
   plain_functions = plain;
   definitions = λ ps b r t. refl;

@@ -8,8 +8,8 @@ use Prim.Native.Nat.{ℕ}
 use lib.Dec.{eqb, ltb}
 use Rattle.form.specs.Trees.{Ty, leaf, built, Built, list, range, context, function, Fields, no_fields, field, Tys, no_params, param}
 use Rattle.order.specs.Order.{Dir, up, down, flip, pick, top, fixed, strict_order}
-use Rattle.order.specs.Types.{lookup, keep, insert_with, same_count, reduce, bound, boundBuilt, intersectWith, merge, bounds}
-use Rattle.order.proofs.Conform.{reduce-strict}
+use Rattle.order.specs.Types.{lookup, keep, insert_with, same_count, reduce, bound, bound_built, intersect_with, merge, bounds}
+use Rattle.order.proofs.Conform.{reduce_strict}
 
 keep_same : (n : ℕ) (o : Option Ty) (f g : Ty → Ty) (fs gs : Fields) → ((b : Ty) → f b ≡ g b) → fs ≡ gs → keep n o f fs ≡ keep n o g gs
 keep_same n none f g fs gs h e = e
@@ -33,7 +33,7 @@ mutual
   bound_same (built x) (leaf t) down = refl
   bound_same (built x) (built y) d = built_same x y d
 
-  built_same : (x y : Built) (d : Dir) → boundBuilt strict_order d x y ≡ boundBuilt fixed d x y
+  built_same : (x y : Built) (d : Dir) → bound_built strict_order d x y ≡ bound_built fixed d x y
   built_same (list a) (list b) d = ap (λ t. built (list t)) (bound_same a b d)
   built_same (list a) (range b) d = refl
   built_same (list a) (context gs) d = refl
@@ -53,10 +53,10 @@ mutual
   built_same (function ps r) (function qs s) d =
       ap₂ (λ x y. cond (same_count ps qs) (built (function x y)) (leaf (top d))) (pairs_same ps qs (flip d)) (bound_same r s d)
 
-  common_same : (fs gs : Fields) → intersectWith strict_order fs gs ≡ intersectWith fixed fs gs
+  common_same : (fs gs : Fields) → intersect_with strict_order fs gs ≡ intersect_with fixed fs gs
   common_same no_fields gs = refl
   common_same (field n a fs) gs =
-      keep_same n (lookup n gs) (λ b. bound strict_order up a b) (λ b. bound fixed up a b) (intersectWith strict_order fs gs) (intersectWith fixed fs gs)
+      keep_same n (lookup n gs) (λ b. bound strict_order up a b) (λ b. bound fixed up a b) (intersect_with strict_order fs gs) (intersect_with fixed fs gs)
       (λ b. bound_same a b up) (common_same fs gs)
 
   merge_same : (fs gs : Fields) → merge strict_order fs gs ≡ merge fixed fs gs
@@ -72,4 +72,4 @@ mutual
   pairs_same (param a ps) (param b qs) d = ap₂ param (bound_same a b d) (pairs_same ps qs d)
 
 pub reduced_bound : (d : Dir) (a b : Ty) → reduce fixed (reduce strict_order (bound strict_order d a b)) ≡ reduce fixed (bound fixed d a b)
-reduced_bound d a b = ap (reduce fixed) (reduce-strict strict_order (bound strict_order d a b) refl ∙ bound_same a b d)
+reduced_bound d a b = ap (reduce fixed) (reduce_strict strict_order (bound strict_order d a b) refl ∙ bound_same a b d)

@@ -36,19 +36,19 @@ module _ (r : Simple → Simple → Bool) (s t u : Simple) where
   under = every (λ c. imp (r s c && r t c) (r u c))
 
   module _ (h : is_join r s t u ≡ true) where
-    join-left : r s u ≡ true
-    join-left = and_left (r s u) (r t u && under) h
+    join_left : r s u ≡ true
+    join_left = and_left (r s u) (r t u && under) h
 
-    join-right : r t u ≡ true
-    join-right = and_left (r t u) under (and_right (r s u) (r t u && under) h)
+    join_right : r t u ≡ true
+    join_right = and_left (r t u) under (and_right (r s u) (r t u && under) h)
 
-    join-under : (c : Simple) → r s c && r t c ≡ true → r u c ≡ true
-    join-under c =
+    join_under : (c : Simple) → r s c && r t c ≡ true → r u c ≡ true
+    join_under c =
         imp_use (r s c && r t c) (r u c) (every_at (λ x. imp (r s x && r t x) (r u x)) (and_right (r t u) under (and_right (r s u) (r t u && under) h)) c)
 
     pub exact : ((x y z : Simple) → r x y ≡ true → r y z ≡ true → r x z ≡ true) → (c : Simple) → r u c ≡ r s c && r t c
     exact through c =
-        bool_iff (r u c) (r s c && r t c) (λ e. and_both (r s c) (r t c) (through s u c join-left e) (through t u c join-right e)) (join-under c)
+        bool_iff (r u c) (r s c && r t c) (λ e. and_both (r s c) (r t c) (through s u c join_left e) (through t u c join_right e)) (join_under c)
 
   pub passes : r s u ≡ true → r t u ≡ true → ((c : Simple) → r s c && r t c ≡ true → r u c ≡ true) → is_join r s t u ≡ true
   passes p q h =
@@ -121,13 +121,13 @@ module _ (r : Simple → Simple → Bool) (o : is_ordered r ≡ true) (j : has_j
   unfolding gather
   gather_above s t c h (x ∷ xs) here =
       subst (λ q. r c (cond q (join r c (gather r s t xs)) (gather r s t xs)) ≡ true) (sym h)
-      (join-left r c (gather r s t xs) (join r c (gather r s t xs)) (join_found c (gather r s t xs)))
+      (join_left r c (gather r s t xs) (join r c (gather r s t xs)) (join_found c (gather r s t xs)))
   gather_above s t c h (x ∷ xs) (there i) = step (r x s && r x t) (gather_above s t c h xs i)
     where
       step : (q : Bool) → r c (gather r s t xs) ≡ true → r c (cond q (join r x (gather r s t xs)) (gather r s t xs)) ≡ true
       step true ih =
           trans_of r o c (gather r s t xs) (join r x (gather r s t xs)) ih
-          (join-right r x (gather r s t xs) (join r x (gather r s t xs)) (join_found x (gather r s t xs)))
+          (join_right r x (gather r s t xs) (join r x (gather r s t xs)) (join_found x (gather r s t xs)))
       step false ih = ih
 
   -- what is gathered passes as a meet

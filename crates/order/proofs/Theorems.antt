@@ -10,7 +10,7 @@ use Rattle.order.proofs.Answers.{asc-sup, asc-sub}
 use Rattle.order.proofs.Laws as laws
 use Rattle.order.proofs.Size.{length_enc, size_sup, size_sub, level_sup, level_sub}
 use Rattle.order.proofs.WellFormed.{asc_of, wf_sup, wf_sub}
-use Rattle.order.proofs.Reduced.{wf-reduce}
+use Rattle.order.proofs.Reduced.{wf_reduce}
 
 pub theorems : (O : Order) → Laws O → Theorems O
 theorems O L = record {
@@ -23,7 +23,7 @@ theorems O L = record {
   subtype_below = λ a b v w. let s = asc-sub O a b (asc_of a v) (asc_of b w) in (laws.sub_left O L a b s, laws.sub_right O L a b s);
   subtype_greatest = laws.sub_greatest O L;
   each_other = λ a b v w. laws.mutual_reduce O L a b (asc_of a v) (asc_of b w);
-  reduced_well_formed = wf-reduce O;
+  reduced_well_formed = wf_reduce O;
   supertype_reduced = laws.sup_reduced O L;
   subtype_reduced = laws.sub_reduced O L;
   supertype_well_formed = λ a b v w h. wf_sup O a b v w (omega (arith, length_enc a, length_enc b));

@@ -15,21 +15,21 @@ use Rattle.order.specs.ValueTheorems.{ValueTheorems, InferredType}
 use Rattle.order.proofs.Simple.{fixed_laws}
 use Rattle.order.proofs.Size.{length_enc}
 use Rattle.order.proofs.Least as laws
-use Rattle.order.proofs.LeastSize.{length_enc_v, size-least, level-least, wf_least}
+use Rattle.order.proofs.LeastSize.{length_enc_v, size_least, level_least, wf_least}
 use Rattle.order.proofs.TypeOf.{size_type_of, level_type_of, wf_type_of}
 
 pub value_theorems : (O : Order) → Laws O → ValueTheorems O
 value_theorems O L =
     record {
-      by_least_type = laws.conforms-least O L;
+      by_least_type = laws.conforms_least O L;
       equal_least_types = λ v w hv hw sv sw dv dw.
           laws.least_equal O L Wf v w hv hw dv dw
           (wf_least O v hv (omega (arith, length_enc_v v)))
           (wf_least O w hw (omega (arith, length_enc_v w)));
       least_reduced = laws.least_reduced O;
       least_well_formed = λ v h s. wf_least O v h (omega (arith, length_enc_v v));
-      least_length = λ v h. omega (arith, length_enc_v v, length_enc (least O v), size-least O v h);
-      least_level = level-least O;
+      least_length = λ v h. omega (arith, length_enc_v v, length_enc (least O v), size_least O v h);
+      least_level = level_least O;
     }
 
 -- document 01's relation

@@ -7,7 +7,7 @@ use Rattle.form.specs.Trees.{v_irrelevant, Vals, no_items, item, Entries, no_ent
 use Rattle.order.specs.Order.{fixed}
 use Rattle.order.specs.Types.{found}
 use Rattle.order.specs.Document.{conforms_to, eq_ty}
-use Rattle.order.specs.Values.{leaf_type, types_of, conforms, isDataBy, least}
+use Rattle.order.specs.Values.{leaf_type, types_of, conforms, is_data_by, least}
 
 -- `Value::is_conformant`
 abbrev pub value_conforms_to : Val → Ty → Bool
@@ -15,7 +15,7 @@ value_conforms_to v t = conforms fixed v t
 
 -- Data values: 00 to 0B and 10 throughout
 abbrev pub is_data : Val → Bool
-is_data v = isDataBy fixed v
+is_data v = is_data_by fixed v
 
 -- Least type, of a data value
 abbrev pub least_type : Val → Ty

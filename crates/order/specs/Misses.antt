@@ -10,7 +10,7 @@ use Rattle.form.specs.Trees.{Vals, no_items, item, Entries, no_entries, entry}
 use Rattle.order.specs.Order.{Order}
 use Rattle.order.specs.Types.{all_fields}
 use Rattle.order.specs.Size.{size, size_fields, size_val, size_vals, size_entries}
-use Rattle.order.specs.Values.{conforms, allConform, has_value}
+use Rattle.order.specs.Values.{conforms, all_conform, has_value}
 
 -- The spot: the failing part of the value with the type required there; or the context, its type and the name that it lacks. A place counts the bytes from the
 -- beginning of the value, and the other one those from the beginning of the type.
@@ -86,22 +86,22 @@ module _ (O : Order) where
     pub miss : Val → Ty → Option Miss
     miss (v_leaf l) t = stop (v_leaf l) t
     miss (v_range i j v w) t = into_range t (stop (v_range i j v w) t) (λ u. map (shift 3 1) (first (miss v u) (map (shift (size_val v) 0) (miss w u))))
-    miss (v_list vs) t = into_list t (stop (v_list vs) t) (λ u. map (shift 3 1) (missItems vs u))
-    miss (v_context es) t = into_context t (stop (v_context es) t) (λ fs. miss_fields (λ n u. behind 3 (missEntry es n u)) (λ n. lacks 0 es 0 fs n) 3 fs)
+    miss (v_list vs) t = into_list t (stop (v_list vs) t) (λ u. map (shift 3 1) (miss_items vs u))
+    miss (v_context es) t = into_context t (stop (v_context es) t) (λ fs. miss_fields (λ n u. behind 3 (miss_entry es n u)) (λ n. lacks 0 es 0 fs n) 3 fs)
     miss (v_function ps b r) t = stop (v_function ps b r) t
     miss (v_built_in n) t = stop (v_built_in n) t
     miss (v_type a) t = stop (v_type a) t
     miss v_irrelevant t = stop v_irrelevant t
 
     -- places are counted from the first item
-    pub missItems : Vals → Ty → Option Miss
-    missItems no_items u = none
-    missItems (item v vs) u = first (miss v u) (map (shift (size_val v) 0) (missItems vs u))
+    pub miss_items : Vals → Ty → Option Miss
+    miss_items no_items u = none
+    miss_items (item v vs) u = first (miss v u) (map (shift (size_val v) 0) (miss_items vs u))
 
     -- and from the first entry
-    pub missEntry : Entries → ℕ → Ty → Named
-    missEntry no_entries n u = absent
-    missEntry (entry m v es) n u = cond (eqb n m) (behind name_width (named_by (miss v u))) (behind (name_width + size_val v) (missEntry es n u))
+    pub miss_entry : Entries → ℕ → Ty → Named
+    miss_entry no_entries n u = absent
+    miss_entry (entry m v es) n u = cond (eqb n m) (behind name_width (named_by (miss v u))) (behind (name_width + size_val v) (miss_entry es n u))
 
 -- ---- The same as a relation
 -- the walk goes into the parts of a range, list or context against a type of that kind, and of nothing else: not of a function
@@ -142,7 +142,7 @@ module _ (O : Order) where
   pub data Step : Val → Ty → ℕ → ℕ → Val → Ty → Type 0 where
     into_start : {i j : ℕ} {v w : Val} {u : Ty} → conforms O v u ≡ false → Step (v_range i j v w) (built (range u)) 3 1 v u
     into_end : {i j : ℕ} {v w : Val} {u : Ty} → conforms O v u ≡ true → conforms O w u ≡ false → Step (v_range i j v w) (built (range u)) (3 + size_val v) 1 w u
-    into_item : (before : Vals) (v : Val) (after : Vals) {u : Ty} → allConform O before u ≡ true → conforms O v u ≡ false
+    into_item : (before : Vals) (v : Val) (after : Vals) {u : Ty} → all_conform O before u ≡ true → conforms O v u ≡ false
         → Step (v_list (items_then before (item v after))) (built (list u)) (3 + size_vals before) 1 v u
     into_entry : (ahead : Entries) (n : ℕ) (v : Val) (rest : Entries) (before : Fields) (u : Ty) (after : Fields) → without n ahead ≡ true
         → meets (entries_then ahead (entry n v rest)) before ≡ true → conforms O v u ≡ false

@@ -7,7 +7,7 @@ use Rattle.form.specs.Trees.{v_type, v_irrelevant, Vals, Entries}
 use Rattle.order.specs.Order.{strict_order}
 use Rattle.order.specs.Types.{empty, same_count, reduce, sup, sub}
 use Rattle.order.specs.Document.{reduced_form, supertype, subtype}
-use Rattle.order.specs.Values.{conforms, isDataBy, least}
+use Rattle.order.specs.Values.{conforms, is_data_by, least}
 use Rattle.order.specs.Sentences.{each_pair, all_items, all_entries}
 use Rattle.order.specs.Dmn.{dmn_conforms_to, definition_type}
 
@@ -32,14 +32,14 @@ pub record StrictSentences : Type 0 where
   pub supertype_reduced : (a b : Ty) → reduced_form (sup strict_order a b) ≡ supertype a b
   pub subtype_reduced : (a b : Ty) → reduced_form (sub strict_order a b) ≡ subtype a b
   -- 13 is given for 0D, 0E and 0F only: data is 00 to 0C and 10 throughout
-  pub data_leaf : (l : Leaf) → isDataBy strict_order (v_leaf l) ≡ true
-  pub data_range : (i j : ℕ) (v w : Val) → isDataBy strict_order (v_range i j v w) ≡ isDataBy strict_order v && isDataBy strict_order w
-  pub data_list : (vs : Vals) → isDataBy strict_order (v_list vs) ≡ all_items (isDataBy strict_order) vs
-  pub data_context : (es : Entries) → isDataBy strict_order (v_context es) ≡ all_entries (isDataBy strict_order) es
-  pub definition_is_data : (ps : Params) (b : ℕ) (r : Ty) → isDataBy strict_order (v_function ps b r) ≡ true
-  pub no_built_in : (n : ℕ) → isDataBy strict_order (v_built_in n) ≡ false
-  pub no_type : (t : Ty) → isDataBy strict_order (v_type t) ≡ false
-  pub no_irrelevant : isDataBy strict_order v_irrelevant ≡ false
+  pub data_leaf : (l : Leaf) → is_data_by strict_order (v_leaf l) ≡ true
+  pub data_range : (i j : ℕ) (v w : Val) → is_data_by strict_order (v_range i j v w) ≡ is_data_by strict_order v && is_data_by strict_order w
+  pub data_list : (vs : Vals) → is_data_by strict_order (v_list vs) ≡ all_items (is_data_by strict_order) vs
+  pub data_context : (es : Entries) → is_data_by strict_order (v_context es) ≡ all_entries (is_data_by strict_order) es
+  pub definition_is_data : (ps : Params) (b : ℕ) (r : Ty) → is_data_by strict_order (v_function ps b r) ≡ true
+  pub no_built_in : (n : ℕ) → is_data_by strict_order (v_built_in n) ≡ false
+  pub no_type : (t : Ty) → is_data_by strict_order (v_type t) ≡ false
+  pub no_irrelevant : is_data_by strict_order v_irrelevant ≡ false
   -- the least type of a FunctionDefinition is its function type
   pub least_definition : (ps : Params) (b : ℕ) (r : Ty) → least strict_order (v_function ps b r) ≡ definition_type ps r
   -- 0D, 0E and 0F conform to Any alone, as in the ported call

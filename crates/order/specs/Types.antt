@@ -46,25 +46,25 @@ module _ (O : Order) where
     cmp d (leaf s) (leaf t) = scmp O d s t
     cmp d (leaf s) (built y) = scmp O d s (bottom d)
     cmp d (built x) (leaf t) = scmp O d (top d) t
-    cmp d (built x) (built y) = cmpBuilt d x y
+    cmp d (built x) (built y) = cmp_built d x y
 
-    pub cmpBuilt : Dir → Built → Built → Bool
-    cmpBuilt d (list a) (list b) = cmp d a b
-    cmpBuilt d (list a) (range b) = false
-    cmpBuilt d (list a) (context gs) = false
-    cmpBuilt d (list a) (function qs s) = false
-    cmpBuilt d (range a) (list b) = false
-    cmpBuilt d (range a) (range b) = cmp d a b
-    cmpBuilt d (range a) (context gs) = false
-    cmpBuilt d (range a) (function qs s) = false
-    cmpBuilt d (context fs) (list b) = false
-    cmpBuilt d (context fs) (range b) = false
-    cmpBuilt d (context fs) (context gs) = pick d (all_fields (λ n t. has fs n t) gs) (within fs gs)
-    cmpBuilt d (context fs) (function qs s) = false
-    cmpBuilt d (function ps r) (list b) = false
-    cmpBuilt d (function ps r) (range b) = false
-    cmpBuilt d (function ps r) (context gs) = false
-    cmpBuilt d (function ps r) (function qs s) = cmps (flip d) ps qs && (ignores ps || cmp d r s)
+    pub cmp_built : Dir → Built → Built → Bool
+    cmp_built d (list a) (list b) = cmp d a b
+    cmp_built d (list a) (range b) = false
+    cmp_built d (list a) (context gs) = false
+    cmp_built d (list a) (function qs s) = false
+    cmp_built d (range a) (list b) = false
+    cmp_built d (range a) (range b) = cmp d a b
+    cmp_built d (range a) (context gs) = false
+    cmp_built d (range a) (function qs s) = false
+    cmp_built d (context fs) (list b) = false
+    cmp_built d (context fs) (range b) = false
+    cmp_built d (context fs) (context gs) = pick d (all_fields (λ n t. has fs n t) gs) (within fs gs)
+    cmp_built d (context fs) (function qs s) = false
+    cmp_built d (function ps r) (list b) = false
+    cmp_built d (function ps r) (range b) = false
+    cmp_built d (function ps r) (context gs) = false
+    cmp_built d (function ps r) (function qs s) = cmps (flip d) ps qs && (ignores ps || cmp d r s)
 
     -- the context has the name, with a type that conforms to t
     pub has : Fields → ℕ → Ty → Bool
@@ -95,21 +95,21 @@ module _ (O : Order) where
   unfoldable mutual
     pub reduce : Ty → Ty
     reduce (leaf s) = leaf s
-    reduce (built x) = built (reduceBuilt x)
+    reduce (built x) = built (reduce_built x)
 
-    pub reduceBuilt : Built → Built
-    reduceBuilt (list a) = list (reduce a)
-    reduceBuilt (range a) = range (reduce a)
-    reduceBuilt (context fs) = context (reduceFields fs)
-    reduceBuilt (function ps r) = function (reduceTys ps) (cond (ignores ps) (leaf any) (reduce r))
+    pub reduce_built : Built → Built
+    reduce_built (list a) = list (reduce a)
+    reduce_built (range a) = range (reduce a)
+    reduce_built (context fs) = context (reduce_fields fs)
+    reduce_built (function ps r) = function (reduce_tys ps) (cond (ignores ps) (leaf any) (reduce r))
 
-    pub reduceFields : Fields → Fields
-    reduceFields no_fields = no_fields
-    reduceFields (field n a fs) = field n (reduce a) (reduceFields fs)
+    pub reduce_fields : Fields → Fields
+    reduce_fields no_fields = no_fields
+    reduce_fields (field n a fs) = field n (reduce a) (reduce_fields fs)
 
-    pub reduceTys : Tys → Tys
-    reduceTys no_params = no_params
-    reduceTys (param a ps) = param (reduce a) (reduceTys ps)
+    pub reduce_tys : Tys → Tys
+    reduce_tys no_params = no_params
+    reduce_tys (param a ps) = param (reduce a) (reduce_tys ps)
 
 -- keep a common name
 abbrev pub keep : ℕ → Option Ty → (Ty → Ty) → Fields → Fields
@@ -128,31 +128,31 @@ module _ (O : Order) where
     bound d (leaf s) (leaf t) = leaf (sbound O d s t)
     bound d (leaf s) (built y) = cond (scmp O d s (bottom d)) (built y) (leaf (top d))
     bound d (built x) (leaf t) = cond (scmp O d t (bottom d)) (built x) (leaf (top d))
-    bound d (built x) (built y) = boundBuilt d x y
+    bound d (built x) (built y) = bound_built d x y
 
-    pub boundBuilt : Dir → Built → Built → Ty
-    boundBuilt d (list a) (list b) = built (list (bound d a b))
-    boundBuilt d (list a) (range b) = leaf (top d)
-    boundBuilt d (list a) (context gs) = leaf (top d)
-    boundBuilt d (list a) (function qs s) = leaf (top d)
-    boundBuilt d (range a) (list b) = leaf (top d)
-    boundBuilt d (range a) (range b) = built (range (bound d a b))
-    boundBuilt d (range a) (context gs) = leaf (top d)
-    boundBuilt d (range a) (function qs s) = leaf (top d)
-    boundBuilt d (context fs) (list b) = leaf (top d)
-    boundBuilt d (context fs) (range b) = leaf (top d)
-    boundBuilt d (context fs) (context gs) = built (context (pick d (intersectWith fs gs) (merge fs gs)))
-    boundBuilt d (context fs) (function qs s) = leaf (top d)
-    boundBuilt d (function ps r) (list b) = leaf (top d)
-    boundBuilt d (function ps r) (range b) = leaf (top d)
-    boundBuilt d (function ps r) (context gs) = leaf (top d)
-    boundBuilt d (function ps r) (function qs s) =
+    pub bound_built : Dir → Built → Built → Ty
+    bound_built d (list a) (list b) = built (list (bound d a b))
+    bound_built d (list a) (range b) = leaf (top d)
+    bound_built d (list a) (context gs) = leaf (top d)
+    bound_built d (list a) (function qs s) = leaf (top d)
+    bound_built d (range a) (list b) = leaf (top d)
+    bound_built d (range a) (range b) = built (range (bound d a b))
+    bound_built d (range a) (context gs) = leaf (top d)
+    bound_built d (range a) (function qs s) = leaf (top d)
+    bound_built d (context fs) (list b) = leaf (top d)
+    bound_built d (context fs) (range b) = leaf (top d)
+    bound_built d (context fs) (context gs) = built (context (pick d (intersect_with fs gs) (merge fs gs)))
+    bound_built d (context fs) (function qs s) = leaf (top d)
+    bound_built d (function ps r) (list b) = leaf (top d)
+    bound_built d (function ps r) (range b) = leaf (top d)
+    bound_built d (function ps r) (context gs) = leaf (top d)
+    bound_built d (function ps r) (function qs s) =
         cond (same_count ps qs) (built (function (bounds (flip d) ps qs) (bound d r s))) (leaf (top d))
 
     -- the common names, each at its supertype
-    pub intersectWith : Fields → Fields → Fields
-    intersectWith no_fields gs = no_fields
-    intersectWith (field n a fs) gs = keep n (lookup n gs) (λ b. bound up a b) (intersectWith fs gs)
+    pub intersect_with : Fields → Fields → Fields
+    intersect_with no_fields gs = no_fields
+    intersect_with (field n a fs) gs = keep n (lookup n gs) (λ b. bound up a b) (intersect_with fs gs)
 
     -- all names, common ones at their subtype
     pub merge : Fields → Fields → Fields
@@ -173,13 +173,13 @@ module _ (O : Order) where
 
   -- reduced: the entries of the supertype and of the subtype of two contexts, the supertypes and the subtypes of two parameter lists
   abbrev pub sup_fields : Fields → Fields → Fields
-  sup_fields fs gs = reduceFields O (intersectWith fs gs)
+  sup_fields fs gs = reduce_fields O (intersect_with fs gs)
 
   abbrev pub sub_fields : Fields → Fields → Fields
-  sub_fields fs gs = reduceFields O (merge fs gs)
+  sub_fields fs gs = reduce_fields O (merge fs gs)
 
   abbrev pub sup_tys : Tys → Tys → Tys
-  sup_tys ps qs = reduceTys O (bounds up ps qs)
+  sup_tys ps qs = reduce_tys O (bounds up ps qs)
 
   abbrev pub sub_tys : Tys → Tys → Tys
-  sub_tys ps qs = reduceTys O (bounds down ps qs)
+  sub_tys ps qs = reduce_tys O (bounds down ps qs)

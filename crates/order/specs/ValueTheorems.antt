@@ -8,14 +8,14 @@ use Rattle.form.specs.Widths.{leaf_command, command_t}
 use Rattle.form.specs.Form.{enc, enc_v, level, level_v, Wf, WfV}
 use Rattle.order.specs.Order.{Order}
 use Rattle.order.specs.Types.{le, reduce}
-use Rattle.order.specs.Values.{conforms, isDataBy, least}
+use Rattle.order.specs.Values.{conforms, is_data_by, least}
 use Rattle.order.specs.Inferred.{type_of}
 
 pub record ValueTheorems (O : Order) : Type 0 where
   -- a data value conforms to a type exactly when its least type does
-  pub by_least_type : (v : Val) (t : Ty) → isDataBy O v ≡ true → conforms O v t ≡ le O (least O v) t
+  pub by_least_type : (v : Val) (t : Ty) → is_data_by O v ≡ true → conforms O v t ≡ le O (least O v) t
   -- least types are equal exactly when no type has one of the two values conforming to it and the other not
-  pub equal_least_types : (v w : Val) → WfV v → WfV w → length (enc_v v) < 65536 → length (enc_v w) < 65536 → isDataBy O v ≡ true → isDataBy O w ≡ true
+  pub equal_least_types : (v w : Val) → WfV v → WfV w → length (enc_v v) < 65536 → length (enc_v w) < 65536 → is_data_by O v ≡ true → is_data_by O w ≡ true
       → (least O v ≡ least O w) ↔ ((t : Ty) → Wf t → conforms O v t ≡ conforms O w t)
   -- a least type is reduced; well-formed; never longer than its value; at most one level deeper
   pub least_reduced : (v : Val) → reduce O (least O v) ≡ least O v

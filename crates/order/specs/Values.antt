@@ -72,16 +72,16 @@ module _ (O : Order) where
     pub conforms : Val → Ty → Bool
     conforms (v_leaf l) t = cmp O up (leaf (leaf_type l)) t
     conforms (v_range i j v w) t = to_range t (λ u. conforms v u && conforms w u)
-    conforms (v_list vs) t = to_list t (λ u. allConform vs u)
+    conforms (v_list vs) t = to_list t (λ u. all_conform vs u)
     conforms (v_context es) t = to_context t (λ fs. all_fields (λ n u. has_value es n u) fs)
     conforms (v_function ps b r) t = conforms_definition (types_of ps) r t
     conforms (v_built_in b) t = is_any t
     conforms (v_type a) t = is_any t
     conforms v_irrelevant t = is_any t
 
-    pub allConform : Vals → Ty → Bool
-    allConform no_items u = true
-    allConform (item v vs) u = conforms v u && allConform vs u
+    pub all_conform : Vals → Ty → Bool
+    all_conform no_items u = true
+    all_conform (item v vs) u = conforms v u && all_conform vs u
 
     -- the name is present, and its value conforms
     pub has_value : Entries → ℕ → Ty → Bool
@@ -90,41 +90,41 @@ module _ (O : Order) where
 
   -- Data: 00 to 0B and 10 throughout; with the strict reading also function definitions.
   unfoldable mutual
-    pub isDataBy : Val → Bool
-    isDataBy (v_leaf l) = true
-    isDataBy (v_range i j v w) = isDataBy v && isDataBy w
-    isDataBy (v_list vs) = areData vs
-    isDataBy (v_context es) = holdData es
-    isDataBy (v_function ps b r) = O.strict
-    isDataBy (v_built_in b) = false
-    isDataBy (v_type a) = false
-    isDataBy v_irrelevant = false
+    pub is_data_by : Val → Bool
+    is_data_by (v_leaf l) = true
+    is_data_by (v_range i j v w) = is_data_by v && is_data_by w
+    is_data_by (v_list vs) = are_data vs
+    is_data_by (v_context es) = hold_data es
+    is_data_by (v_function ps b r) = O.strict
+    is_data_by (v_built_in b) = false
+    is_data_by (v_type a) = false
+    is_data_by v_irrelevant = false
 
-    pub areData : Vals → Bool
-    areData no_items = true
-    areData (item v vs) = isDataBy v && areData vs
+    pub are_data : Vals → Bool
+    are_data no_items = true
+    are_data (item v vs) = is_data_by v && are_data vs
 
-    pub holdData : Entries → Bool
-    holdData no_entries = true
-    holdData (entry n v es) = isDataBy v && holdData es
+    pub hold_data : Entries → Bool
+    hold_data no_entries = true
+    hold_data (entry n v es) = is_data_by v && hold_data es
 
   -- The least type, of a data value. (Of a value that is no data it says nothing: a function definition has its reduced function type here, any other Any.)
   unfoldable mutual
     pub least : Val → Ty
     least (v_leaf l) = leaf (leaf_type l)
     least (v_range i j v w) = built (range (sup O (least v) (least w)))
-    least (v_list vs) = built (list (leastItems vs (leaf null)))
-    least (v_context es) = built (context (leastEntries es))
+    least (v_list vs) = built (list (least_items vs (leaf null)))
+    least (v_context es) = built (context (least_entries es))
     least (v_function ps b r) = reduce O (built (function (types_of ps) r))
     least (v_built_in b) = leaf any
     least (v_type a) = leaf any
     least v_irrelevant = leaf any
 
     -- the supertype of t and of the least types of all items, from the left
-    pub leastItems : Vals → Ty → Ty
-    leastItems no_items t = t
-    leastItems (item v vs) t = leastItems vs (sup O t (least v))
+    pub least_items : Vals → Ty → Ty
+    least_items no_items t = t
+    least_items (item v vs) t = least_items vs (sup O t (least v))
 
-    pub leastEntries : Entries → Fields
-    leastEntries no_entries = no_fields
-    leastEntries (entry n v es) = field n (least v) (leastEntries es)
+    pub least_entries : Entries → Fields
+    least_entries no_entries = no_fields
+    least_entries (entry n v es) = field n (least v) (least_entries es)

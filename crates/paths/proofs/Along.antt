@@ -1,8 +1,8 @@
 -- The walk along a path, over the bytes: what `way::survey`, its loop over the entries and `way::read` owe.
 -- Idea: the answer of the whole is the answer from here (`RunInv`); and where all entries were read, what stays and what is cut are those of the entries that are left, behind what was passed.
 -- Index: `Fitting`, `within_new`, `within_old`, `cut_small`, `stays_level` (on trees); `path_parts` (a path); `surveyed`, `surveyed_is`, `Answer`, `fault_answer`, `flat_answer` (answers);
--- `Child`, `child`, `child_is`, `child_cut`, `child_rest` (an entry's value); `Cutting`, `Left`, `Along`, `along_start`, `along_none`, `along-fall`, `along-fault`, `along-fits`, `along-cut`,
--- `along-this`, `along-before`, `along-behind`, `along_end` (the loop); `whole_surveyed`, `empty_surveyed`, `settled_refused`, `settled_done` (the whole).
+-- `Child`, `child`, `child_is`, `child_cut`, `child_rest` (an entry's value); `Cutting`, `Left`, `Along`, `along_start`, `along_none`, `along_fall`, `along_fault`, `along_fits`, `along_cut`,
+-- `along_this`, `along_before`, `along_behind`, `along_end` (the loop); `whole_surveyed`, `empty_surveyed`, `settled_refused`, `settled_done` (the whole).
 -- Assumes nothing.
 use Prim.Native.Nat.{ℕ, suc, ◌+◌, ◌-◌, ◌<◌, ◌≤◌, max}
 use native.Mathlib.Omega.{arith}
@@ -26,8 +26,8 @@ use Rattle.form.proofs.Accepted.{refused_done}
 use Rattle.form.proofs.Runs.{RunInv, run_start, run_done, named_none, end_is, behind}
 use Rattle.form.proofs.Runs as runs
 use Rattle.form.proofs.WalkAnswers.{told_part, told_ended, ample}
-use Rattle.form.proofs.Loops.{ToldAt, names_none, names-fall, names-fault, names-walk}
-use Rattle.form.proofs.ValueLaws.{v-context-is, entries_law, entries_flat}
+use Rattle.form.proofs.Loops.{ToldAt, names_none, names_fall, names_fault, names_walk}
+use Rattle.form.proofs.ValueLaws.{v_context_is, entries_law, entries_flat}
 use Rattle.order.specs.Size.{size_val, size_entries}
 use Rattle.types.proofs.Reading.{got_seen}
 use Rattle.types.specs.At.{seen}
@@ -273,7 +273,7 @@ along_start l s n name p cut h k c e z =
     let entries = read_entries (read_v (l - 1)) n 0 (drop 3 s) in
     let zero : n - 0 ≡ n = omega arith in
     record {
-      is = v-context-is l s (omega arith) k w.1 n e w.0 ∙ up_three entries;
+      is = v_context_is l s (omega arith) k w.1 n e w.0 ∙ up_three entries;
       context = λ v q. let K = context_val (as_context l s v q c) in (K.es, K.is, ap (λ (j : ℕ). entries_at (l - 1) j 0 (drop 3 s)) e ∙ K.entries);
       run = run_start level_entries (λ (j : ℕ). read_named no_entries entry ascending (read_v (l - 1)) j 0) s n 3 0 h (omega arith);
       shallow = omega arith;
@@ -316,29 +316,29 @@ module _ {l : ℕ} {s : List ℕ} {n name : ℕ} {p : List ℕ} {at deep rest le
 
   module _ (q : i < n) (two : name_width ≤ length s - at) {x : ℕ} (ex : x ≡ num_at name_width at s) where
     -- the names fall
-    pub along-fall : (path : List ℕ) (r t rest' : ℕ) (k : Cut) → x < least → (r ≡ 0) × (t ≡ 2) → Answer l s path r t rest' k
-    along-fall path r t rest' k h e =
+    pub along_fall : (path : List ℕ) (r t rest' : ℕ) (k : Cut) → x < least → (r ≡ 0) × (t ≡ 2) → Answer l s path r t rest' k
+    along_fall path r t rest' k h e =
         stopped path r t rest' k
-        (names-fall level_v level_entries no_entries entry ascending entries_law entries_flat (read_v (l - 1)) least W.run x ex two q 0 (length s) r t h e.0 e.1) e.0
+        (names_fall level_v level_entries no_entries entry ascending entries_law entries_flat (read_v (l - 1)) least W.run x ex two q 0 (length s) r t h e.0 e.1) e.0
 
     module _ (above : least ≤ x) {r t : ℕ} (told : ToldAt level_v (read_v (l - 1)) s (at + name_width) r t) where
       -- the entry's value is at fault
-      pub along-fault : (path : List ℕ) (r' t' rest' : ℕ) (k : Cut) → r ≡ 0 → (r' ≡ 0) × (t' ≡ t) → Answer l s path r' t' rest' k
-      along-fault path r' t' rest' k z e =
+      pub along_fault : (path : List ℕ) (r' t' rest' : ℕ) (k : Cut) → r ≡ 0 → (r' ≡ 0) × (t' ≡ t) → Answer l s path r' t' rest' k
+      along_fault path r' t' rest' k z e =
           stopped path r' t' rest' k
-          (rw (e.0, e.1) (names-fault level_v level_entries no_entries entry ascending entries_law entries_flat (read_v (l - 1)) least W.run x ex two q above r t 0 (length s) told z)) e.0
+          (rw (e.0, e.1) (names_fault level_v level_entries no_entries entry ascending entries_law entries_flat (read_v (l - 1)) least W.run x ex two q above r t 0 (length s) told z)) e.0
 
       module _ (some_bytes : r ≡ 0 → ⊥) where
         abbrev C : Child (l - 1) s (at + name_width) r t
         C = child (l - 1) s (at + name_width) r t told some_bytes
 
         -- it ends within the bytes
-        pub along-fits : at + name_width + r ≤ length s
-        along-fits = omega (arith, C.fits, W.run.inside)
+        pub along_fits : at + name_width + r ≤ length s
+        along_fits = omega (arith, C.fits, W.run.inside)
 
         -- its cut lies within it
-        pub along-cut : (w : ℕ) (k : Cut) → Surveyed p (value_at (l - 1) (behind (at + name_width) s)) w k → Fitting r k
-        along-cut w k h = child_cut C p w k h
+        pub along_cut : (w : ℕ) (k : Cut) → Surveyed p (value_at (l - 1) (behind (at + name_width) s)) w k → Fitting r k
+        along_cut w k h = child_cut C p w k h
 
         on : (d rest' : ℕ) (k : Cut) → d ≡ max deep t → rest' + 3 ≤ at + name_width + r
             → ((es : Entries) → entries_at (l - 1) n 0 (drop 3 s) ≡ some es → Left l s n name p es (at + name_width + r) rest' (x + 1) (i + 1) k)
@@ -347,7 +347,7 @@ module _ {l : ℕ} {s : List ℕ} {n name : ℕ} {p : List ℕ} {at deep rest le
             record {
               is = W.is;
               context = W.context;
-              run = names-walk level_v level_entries no_entries entry ascending entries_law entries_flat (read_v (l - 1)) least W.run x ex two q above r t d told some_bytes e;
+              run = names_walk level_v level_entries no_entries entry ascending entries_law entries_flat (read_v (l - 1)) least W.run x ex two q above r t d told some_bytes e;
               shallow = omega (arith, e, W.shallow, C.low);
               low = h;
               left = f;
@@ -381,9 +381,9 @@ module _ {l : ℕ} {s : List ℕ} {n name : ℕ} {p : List ℕ} {at deep rest le
           stay-this d w rest' z e = omega (arith, e, z, L.stay, ap (stays_in name (stays p)) first ∙ stays_this name x (stays p) C.x A.more d)
 
         -- past the entry of the path's name
-        pub along-this : x ≡ name → (w : ℕ) (k : Cut) → Surveyed p (value_at (l - 1) (behind (at + name_width) s)) w k → {d rest' : ℕ} {k' : Cut} → d ≡ max deep t → rest' ≡ max rest w
+        pub along_this : x ≡ name → (w : ℕ) (k : Cut) → Surveyed p (value_at (l - 1) (behind (at + name_width) s)) w k → {d rest' : ℕ} {k' : Cut} → d ≡ max deep t → rest' ≡ max rest w
             → k' ≡ within at r t k → Along l s n name p (at + name_width + r) d rest' (x + 1) (i + 1) k'
-        along-this b w k h {d} {rest'} {k'} ed er ek =
+        along_this b w k h {d} {rest'} {k'} ed er ek =
             let I = child_is C p w k h in
             on d rest' k' ed (omega (arith, er, W.low, child_rest C p w k h)) (λ es e.
             let L = W.left es e in
@@ -397,9 +397,9 @@ module _ {l : ℕ} {s : List ℕ} {n name : ℕ} {p : List ℕ} {at deep rest le
             })
 
         -- past the entry of a smaller name
-        pub along-before : x < name → {d rest' : ℕ} {k : Cut} → d ≡ max deep t → rest' ≡ max rest t → k ≡ cut_here (at + name_width + r) 0 0
+        pub along_before : x < name → {d rest' : ℕ} {k : Cut} → d ≡ max deep t → rest' ≡ max rest t → k ≡ cut_here (at + name_width + r) 0 0
             → Along l s n name p (at + name_width + r) d rest' (x + 1) (i + 1) k
-        along-before b {d} {rest'} {k} ed er ek =
+        along_before b {d} {rest'} {k} ed er ek =
             on d rest' k ed (omega (arith, er, W.low, C.low)) (λ es e.
             let L = W.left es e in
             record {
@@ -410,8 +410,8 @@ module _ {l : ℕ} {s : List ℕ} {n name : ℕ} {p : List ℕ} {at deep rest le
             })
 
         -- past the entry of a larger name
-        pub along-behind : name < x → {d rest' : ℕ} → d ≡ max deep t → rest' ≡ max rest t → Along l s n name p (at + name_width + r) d rest' (x + 1) (i + 1) cut
-        along-behind b {d} {rest'} ed er =
+        pub along_behind : name < x → {d rest' : ℕ} → d ≡ max deep t → rest' ≡ max rest t → Along l s n name p (at + name_width + r) d rest' (x + 1) (i + 1) cut
+        along_behind b {d} {rest'} ed er =
             on d rest' cut ed (omega (arith, er, W.low, C.low)) (λ es e.
             let L = W.left es e in
             record {

@@ -1,7 +1,7 @@
 -- The calls: refusals in their order, then the answer.
 -- Index: `Opened`, `opened`, `opened_short`, `is_refused`, `code_refused`, `read_whole_lem` (the context of a call);
--- `refused_value`, `refused_names`, `refused-other`, `refused-not`, `held_byte` (`refusal`); `judged_refused`, `judged_told` (what the walk along a path judged);
--- `Searched`, `searched`, `searched_new`, `searched-left`, `searched-part`, `searched-name`, `searched_room` (what it finds);
+-- `refused_value`, `refused_names`, `refused_other`, `refused_not`, `held_byte` (`refusal`); `judged_refused`, `judged_told` (what the walk along a path judged);
+-- `Searched`, `searched`, `searched_new`, `searched_left`, `searched_part`, `searched_name`, `searched_room` (what it finds);
 -- `entry_call`, `first_none`, `first_done`, `part_refused`, `call_refused` (calls that find a part);
 -- `AllStand`, `stand_deep`, `stand_entry`, `stand_first`, `lend_within`, `lent` (a part that is lent);
 -- `found_deep`, `found_entry`, `len_done`, `empty_yes`, `empty_no`, `Entered`, `entered`, `context_yes`, `context_no` (questions).
@@ -158,13 +158,13 @@ module _ (c : List ℕ) (k : ℕ) {v : Val} (reads : read_value c ≡ done v) wh
   held_byte = some_byte value_levels c v (whole_value value_levels c v (read_whole_lem c v reads))
 
   module _ (h : k ≤ most_names) where
-    pub refused-other : (get_or c 0 0 ≡ 11 → ⊥) → 12 ≡ lent_code (context_of c k)
+    pub refused_other : (get_or c 0 0 ≡ 11 → ⊥) → 12 ≡ lent_code (context_of c k)
     unfolding context_of ◌>>=◌ ◌>>◌
-    refused-other d = rw (reads, le-leb k most_names h, whole_other value_levels c v (read_whole_lem c v reads) d)
+    refused_other d = rw (reads, le-leb k most_names h, whole_other value_levels c v (read_whole_lem c v reads) d)
 
-    pub refused-not : get_or c 0 0 ≡ 11 → 0 ≡ lent_code (context_of c k)
+    pub refused_not : get_or c 0 0 ≡ 11 → 0 ≡ lent_code (context_of c k)
     unfolding context_of ◌>>=◌ ◌>>◌
-    refused-not e = let K = whole_context value_levels c v (read_whole_lem c v reads) e in rw (reads, le-leb k most_names h, K.is)
+    refused_not e = let K = whole_context value_levels c v (read_whole_lem c v reads) e in rw (reads, le-leb k most_names h, K.is)
 
 -- ---- what the walk along a path judged
 module _ (c : List ℕ) (code level : ℕ) (j : judged code level ≡ check_value c) where
@@ -198,7 +198,7 @@ pub record Searched (c p : List ℕ) (k : Cut) : Type 0 where
 pub searched : (c p : List ℕ) {d : ℕ} (rest : ℕ) (k : Cut) → ValueTold c d → length p ≤ most_names → get_or c 0 0 ≡ 11
     → (length c ≤ most_bytes → Surveyed p (whole_at value_levels c) rest k) → Searched c p k
 searched c p rest k A h e f =
-    let O = opened c (length p) 0 (refused-not c (length p) A.reads h e) refl in
+    let O = opened c (length p) 0 (refused_not c (length p) A.reads h e) refl in
     let w = is_whole value_levels c (v_context O.es) (context_read value_levels c O.es O.ctx.read) in
     let short = A.accepted.short in
     record { opened = O; short = short; cut = (surveyed_is p (whole_at value_levels c) rest k (v_context O.es) w (f short)).1 }
@@ -220,15 +220,15 @@ module _ {c p : List ℕ} {k : Cut} (S : Searched c p k) where
     there : (b : Bool) → ltb k.names (length p) ≡ b → done (cond b none part) ≡ extent_of (search_deep_call c p)
     there b e = ap₂ (λ x y. done (cond x none (cond y none part))) (sym (ne_eqb k.gone 0 d)) (sym e) ∙ cut_found
 
-    pub searched-left : k.names < length p → done none ≡ extent_of (search_deep_call c p)
-    searched-left h = there true (lt-ltb k.names (length p) h)
+    pub searched_left : k.names < length p → done none ≡ extent_of (search_deep_call c p)
+    searched_left h = there true (lt-ltb k.names (length p) h)
 
-    pub searched-part : length p ≤ k.names → done part ≡ extent_of (search_deep_call c p)
-    searched-part h = there false (le-ltb k.names (length p) h)
+    pub searched_part : length p ≤ k.names → done part ≡ extent_of (search_deep_call c p)
+    searched_part h = there false (le-ltb k.names (length p) h)
 
     -- an entry goes, so its name does
-    pub searched-name : name_width ≤ k.gone
-    searched-name = let e = ap (λ j. j.gone) S.cut in omega (arith, e, cut_entry p S.opened.es (λ z. d (e ∙ z)))
+    pub searched_name : name_width ≤ k.gone
+    searched_name = let e = ap (λ j. j.gone) S.cut in omega (arith, e, cut_entry p S.opened.es (λ z. d (e ∙ z)))
 
   pub searched_room : k.at + name_width < 2 ^ 64
   searched_room =
@@ -255,8 +255,8 @@ module _ (c : List ℕ) (O : Opened c 0) where
         let z : num_at 2 1 c - 0 ≡ num_at 2 1 c = omega arith in
         this 30 0 (num_at 2 1 c) 3 0 c O.es (omega (arith, d)) (ap (λ (k : ℕ). entries_at 30 k 0 (drop 3 c)) z ∙ O.ctx.entries)
 
-    pub first-inside : 5 ≤ length c
-    first-inside = omega (arith, first_entry.two)
+    pub first_inside : 5 ≤ length c
+    first_inside = omega (arith, first_entry.two)
 
     pub first_done : (k : ℕ) → k ≡ size_at_v (value_at 30 (behind 5 c)) → done (some (piece 5 k)) ≡ extent_of (get_first_call c)
     first_done k e =

@@ -1,7 +1,7 @@
 -- The ends of a range that was read, in terms of its bytes, and the answers from them.
 -- Idea: each end is seen once, by its command (`Edge`); the answer is then read off both ends.
--- Index: `Sorted`, `number_start`, `low_sorted`, `past_numbers` (kinds with an order); `Edge`, `Edges`, `edges` (the ends); `start_three`, `end-three`, `start-off`, `null_null`, `null-other`,
--- `end-null`, `no_number`, `numbers-done`, `end-other`, `texts-done`, `keys-done` (the answers of `in_order`); `start_inside`, `null-near`, `null-inside`, `end-near`, `end-inside`,
+-- Index: `Sorted`, `number_start`, `low_sorted`, `past_numbers` (kinds with an order); `Edge`, `Edges`, `edges` (the ends); `start_three`, `end_three`, `start_off`, `null_null`, `null_other`,
+-- `end_null`, `no_number`, `numbers-done`, `end_other`, `texts-done`, `keys-done` (the answers of `in_order`); `start_inside`, `null_near`, `null_inside`, `end_near`, `end_inside`,
 -- `numbers-there`, `texts-inside`, `keys-inside` (what is read is there).
 -- Assumes nothing.
 use Prim.Native.Nat.{ℕ, ◌+◌, ◌-◌, ◌<◌, ◌≤◌}
@@ -247,58 +247,58 @@ module _ {s : List ℕ} (R : Ranged s) where
   start_three h = E.is false (rw (eq-eqb I 3 h))
 
   module _ (x : I ≡ 3 → ⊥) where
-    pub end-three : J ≡ 3 → RangeIs s false
-    end-three h = E.is false (rw (ne_eqb I 3 x, eq-eqb J 3 h))
+    pub end_three : J ≡ 3 → RangeIs s false
+    end_three h = E.is false (rw (ne_eqb I 3 x, eq-eqb J 3 h))
 
     module _ (y : J ≡ 3 → ⊥) where
       answer : (r : Bool) → r ≡ in_order I J E.p E.q → RangeIs s r
       answer r h = E.is r (rw (ne_eqb I 3 x, ne_eqb J 3 y) h)
 
       -- neither Null nor a kind with an order
-      pub start-off : (C ≡ 0 → ⊥) → ((C ≡ 2) ⊎ (C ≡ 16) → ⊥) → (2 ≤ C → 9 ≤ C) → RangeIs s false
-      start-off f g h = answer false (rw (edge_off E.first f (unsorted C g h)))
+      pub start_off : (C ≡ 0 → ⊥) → ((C ≡ 2) ⊎ (C ≡ 16) → ⊥) → (2 ≤ C → 9 ≤ C) → RangeIs s false
+      start_off f g h = answer false (rw (edge_off E.first f (unsorted C g h)))
 
       -- ---- the start is Null
       module _ (c : C ≡ 0) {w : ℕ} (e : w ≡ width_of C) where
-        pub null-near : w + 4 ≡ 5
-        null-near = omega (arith, e, null_width C c)
+        pub null_near : w + 4 ≡ 5
+        null_near = omega (arith, e, null_width C c)
 
         second : Edge s (w + 4) E.q E.n
-        second = subst (λ k. Edge s k E.q E.n) (omega (arith, null-near, (edge_null E.first c).1)) E.second
+        second = subst (λ k. Edge s k E.q E.n) (omega (arith, null_near, (edge_null E.first c).1)) E.second
 
-        pub null-inside : w + 4 < length s
-        null-inside = edge_inside second
+        pub null_inside : w + 4 < length s
+        null_inside = edge_inside second
 
         pub null_null : get_or s (w + 4) 0 ≡ 0 → RangeIs s false
         null_null h = answer false (rw ((edge_null E.first c).0, (edge_null second h).0))
 
-        pub null-other : (get_or s (w + 4) 0 ≡ 0 → ⊥) → RangeIs s (ltb I 2)
-        null-other h = answer (ltb I 2) (rw (edge_null E.first c).0 (from_null I J second h))
+        pub null_other : (get_or s (w + 4) 0 ≡ 0 → ⊥) → RangeIs s (ltb I 2)
+        null_other h = answer (ltb I 2) (rw (edge_null E.first c).0 (from_null I J second h))
 
       -- ---- the start is of a kind with an order, of this width
       module _ (g : Sorted C) {w : ℕ} (e : w ≡ width_of C) where
         wide : (E.m ≡ w + 1) × (E.m ≤ 10)
         wide = let d = edge_wide s 3 E.p E.m E.first g in (omega (arith, d.0), d.1)
 
-        pub end-near : w + 4 ≤ 13
-        end-near = omega (arith, wide.0, wide.1)
+        pub end_near : w + 4 ≤ 13
+        end_near = omega (arith, wide.0, wide.1)
 
         behind : Edge s (w + 4) E.q E.n
         behind = subst (λ k. Edge s k E.q E.n) (omega (arith, wide.0)) E.second
 
-        pub end-inside : w + 4 < length s
-        end-inside = edge_inside behind
+        pub end_inside : w + 4 < length s
+        end_inside = edge_inside behind
 
-        pub end-null : get_or s (w + 4) 0 ≡ 0 → RangeIs s (ltb J 2)
-        end-null d = answer (ltb J 2) (rw (edge_null behind d).0 (to_null I J E.first g))
+        pub end_null : get_or s (w + 4) 0 ≡ 0 → RangeIs s (ltb J 2)
+        end_null d = answer (ltb J 2) (rw (edge_null behind d).0 (to_null I J E.first g))
 
-        end-apart : (get_or s (w + 4) 0 ≡ 0 → ⊥) → (leaf_type_command (get_or s (w + 4) 0) ≡ leaf_type_command C → ⊥) → RangeIs s false
-        end-apart d k = answer false (apart I J E.first behind g d k)
+        end_apart : (get_or s (w + 4) 0 ≡ 0 → ⊥) → (leaf_type_command (get_or s (w + 4) 0) ≡ leaf_type_command C → ⊥) → RangeIs s false
+        end_apart d k = answer false (apart I J E.first behind g d k)
 
       -- ---- a number, and the type of the end's command
       module _ (n : (C ≡ 2) ⊎ (C ≡ 16)) {w : ℕ} (e : w ≡ width_of C) {u : ℕ} (f : u ≡ leaf_type_command (get_or s (w + 4) 0)) where
         pub no_number : (get_or s (w + 4) 0 ≡ 0 → ⊥) → (u ≡ 0x22 → ⊥) → RangeIs s false
-        no_number d k = end-apart (number_start n) e d (λ z. k (f ∙ z ∙ number_type n))
+        no_number d k = end_apart (number_start n) e d (λ z. k (f ∙ z ∙ number_type n))
 
         module _ (h : u ≡ 0x22) where
           first-number : (E.p ≡ decimal (num_at 8 4 s) (exponent_at s 3)) × NumberAt s 3
@@ -318,8 +318,8 @@ module _ {s : List ℕ} (R : Ranged s) where
         sorted : Sorted C
         sorted = low_sorted (omega arith) k
 
-        pub end-other : (get_or s (w + 4) 0 ≡ 0 → ⊥) → (get_or s (w + 4) 0 ≡ C → ⊥) → RangeIs s false
-        end-other d z = end-apart sorted e d (λ t. z (type_low C (get_or s (w + 4) 0) h k t))
+        pub end_other : (get_or s (w + 4) 0 ≡ 0 → ⊥) → (get_or s (w + 4) 0 ≡ C → ⊥) → RangeIs s false
+        end_other d z = end_apart sorted e d (λ t. z (type_low C (get_or s (w + 4) 0) h k t))
 
         module _ (d : get_or s (w + 4) 0 ≡ C) where
           module _ (t : C ≡ 3) where

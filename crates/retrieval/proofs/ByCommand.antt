@@ -1,6 +1,6 @@
 -- What `retrieve` answers, by the commands of the value and of the type.
--- Index: `kind_any`, `kind_simple`, `kind_range`, `kind_function`, `kind_below`, `kind_above` (`outer_kind`); `null_done`, `list_refused`, `context_refused`, `kind-refused`, `kind-copied`,
--- `copy-fits`, `first_v`, `first_t` (the branches of `retrieve`).
+-- Index: `kind_any`, `kind_simple`, `kind_range`, `kind_function`, `kind_below`, `kind_above` (`outer_kind`); `null_done`, `list_refused`, `context_refused`, `kind_refused`, `kind_copied`,
+-- `copy_fits`, `first_v`, `first_t` (the branches of `retrieve`).
 -- Assumes nothing.
 use Prim.Native.Nat.{ℕ, ◌+◌, ◌-◌, ◌<◌, ◌≤◌}
 use mathlib.Core.Path.{◌≡◌, refl, sym, ap, ◌∙◌}
@@ -274,20 +274,20 @@ module _ (l : ℕ) (t v : List ℕ) (p : Ok (type_at l t)) (q : Ok (value_at l v
         ∙ ap (λ (d : ℕ). copied (outer_kind (get_or v 0 0) d) Y.0) c
         ∙ ap (λ d. copied d Y.0) (sym eb)
 
-    pub kind-refused : b ≡ false → (old : List ℕ) → Retrieves (type_at l t) (value_at l v) old old No
-    kind-refused e old = refused old (copies ∙ ap (λ d. copied d Y.0) e)
+    pub kind_refused : b ≡ false → (old : List ℕ) → Retrieves (type_at l t) (value_at l v) old old No
+    kind_refused e old = refused old (copies ∙ ap (λ d. copied d Y.0) e)
 
     module _ (bs : Bytes v) (n : ℕ) (en : n ≡ size_at_v (value_at l v)) where
-      is-size : n ≡ size_val Y.0
-      is-size = en ∙ values.size_got (value_at l v) Y.0 Y.1
+      is_size : n ≡ size_val Y.0
+      is_size = en ∙ values.size_got (value_at l v) Y.0 Y.1
 
-      pub copy-fits : n ≤ length v
-      copy-fits = omega (arith, is-size, v_inside l v Y.0 Y.1)
+      pub copy_fits : n ≤ length v
+      copy_fits = omega (arith, is_size, v_inside l v Y.0 Y.1)
 
-      pub kind-copied : b ≡ true → (k : ℕ) → k ≡ size_at (type_at l t) → (old new : List ℕ) → new ≡ fill (take n v) old → Retrieves (type_at l t) (value_at l v) old new (Yes k n n)
-      kind-copied e k ek old new f =
-          let text : take n v ≡ enc_v Y.0 = ap (λ (d : ℕ). take d v) is-size ∙ front_text l v Y.0 bs Y.1 in
+      pub kind_copied : b ≡ true → (k : ℕ) → k ≡ size_at (type_at l t) → (old new : List ℕ) → new ≡ fill (take n v) old → Retrieves (type_at l t) (value_at l v) old new (Yes k n n)
+      kind_copied e k ek old new f =
+          let text : take n v ≡ enc_v Y.0 = ap (λ (d : ℕ). take d v) is_size ∙ front_text l v Y.0 bs Y.1 in
           retrieves (type_at l t) (value_at l v) X.0 Y.0 old new (Yes k n n) X.1 Y.1
-          (gave_some X.0 Y.0 old new (enc_v Y.0) k n n (ap (map enc_v) (copies ∙ ap (λ d. copied d Y.0) e)) (ek ∙ size_got (type_at l t) X.0 X.1) is-size
-          (is-size ∙ sym (length_enc_v Y.0))
+          (gave_some X.0 Y.0 old new (enc_v Y.0) k n n (ap (map enc_v) (copies ∙ ap (λ d. copied d Y.0) e)) (ek ∙ size_got (type_at l t) X.0 X.1) is_size
+          (is_size ∙ sym (length_enc_v Y.0))
           (f ∙ ap (λ (d : List ℕ). fill d old) text))

@@ -1,6 +1,6 @@
 -- The calls: refusals in their order, and the answer.
 -- Idea: a retrieved value is no longer than the value, so it stands whole in the spare place, and 17 is never met.
--- Index: `accepted`, `type_ok`, `value_ok` (arguments); `retrieved_within`, `retrieved_small`, `checked_is`, `checked_err`, `found`, `call-err`, `call_room`, `call_done` (`get_value_checked`);
+-- Index: `accepted`, `type_ok`, `value_ok` (arguments); `retrieved_within`, `retrieved_small`, `checked_is`, `checked_err`, `found`, `call_err`, `call_room`, `call_done` (`get_value_checked`);
 -- `conformant_is`, `null_target`, `not_conformant`, `is_conformant_lem` (`get_conformant_value`); `checked_refused_t`, `checked_refused_v`, `conformant_refused_t`, `conformant_refused_v`.
 -- Assumes nothing.
 use Prim.Native.Nat.{ℕ, ◌<◌, ◌≤◌}
@@ -100,9 +100,9 @@ module _ (t v : List ℕ) (A : Accepted t v) where
     unfolding Retrieves
     gave = rw (type_there, value_there) at g
 
-    pub err-is : r ≡ No → retrieve A.value A.type ≡ none
+    pub err_is : r ≡ No → retrieve A.value A.type ≡ none
     unfolding answered
-    err-is p = go (retrieve A.value A.type) (sym gave.says ∙ p)
+    err_is p = go (retrieve A.value A.type) (sym gave.says ∙ p)
       where
         go : (o : Option Val) → answered (size A.type) (size_val A.value) (map enc_v o) ≡ No → o ≡ none
         go none e = refl
@@ -133,8 +133,8 @@ module _ (t v : List ℕ) (A : Accepted t v) where
 
   -- ---- in a spare place as long as the value
   module _ (old was spare : List ℕ) (r : Retrieved) (g : Retrieves (type_at type_levels t) (value_at type_levels v) was spare r) where
-    pub call-err : r ≡ No → Built (get_value_checked_call t v (length old)) old old (written_is.Refused 15)
-    call-err p = built_refused (get_value_checked_call t v (length old)) 15 old (checked_err (length old) (err-is was spare r g p))
+    pub call_err : r ≡ No → Built (get_value_checked_call t v (length old)) old old (written_is.Refused 15)
+    call_err p = built_refused (get_value_checked_call t v (length old)) 15 old (checked_err (length old) (err_is was spare r g p))
 
     module _ (a b n : ℕ) (p : r ≡ Yes a b n) (h : length v ≤ length was) where
       F : Found was spare r g n

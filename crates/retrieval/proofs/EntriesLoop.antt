@@ -1,7 +1,7 @@
 -- The loop that retrieves the entries of a context, its names taken in step with the type's: what is left of both, and what was written of the answer.
 -- Idea: what was written, with what is retrieved of what is left, is the whole answer, or there is none (`ContextInv`).
--- Index: `Contexts`, `contexts`, `ContextInv`, `context_begins`, `context_done`, `context_kept` (start and end); `skip-v`, `passed-v`, `skip-t`, `passed-t` (a name of one side);
--- `common-v`, `common-t`, `common-ok-v`, `common-ok-t`, `common-no`, `common-next` (a common name).
+-- Index: `Contexts`, `contexts`, `ContextInv`, `context_begins`, `context_done`, `context_kept` (start and end); `skip_v`, `passed_v`, `skip_t`, `passed_t` (a name of one side);
+-- `common_v`, `common_t`, `common_ok_v`, `common_ok_t`, `common-no`, `common-next` (a common name).
 -- Assumes nothing.
 use Prim.Native.Nat.{ℕ, suc, ◌+◌, ◌-◌, ◌/◌, ◌%◌, ◌<◌, ◌≤◌, min}
 use mathlib.Core.Path.{◌≡◌, refl, sym, ap, ap₂, subst, ◌∙◌}
@@ -158,29 +158,29 @@ module _ {l : ℕ} {t : List ℕ} {m : ℕ} {v : List ℕ} {n : ℕ} {mid out : 
   module _ (x y : ℕ) (ex : x ≡ cond (ltb i n) (num_at name_width at v) name_end) (ey : y ≡ cond (ltb j m) (num_at name_width bt t) name_end) (lx : x ≤ name_end) (ly : y ≤ name_end) where
     -- ---- a name that the type lacks
     module _ (h : x < y) where
-      pub more-v : i < n
-      more-v = (next_is i n (num_at name_width at v) x ex (omega arith)).0
+      pub more_v : i < n
+      more_v = (next_is i n (num_at name_width at v) x ex (omega arith)).0
 
       abbrev A : This (l - 1) (n - (i + 1)) at Q.least_v v Q.es
-      A = entry_v more-v
+      A = entry_v more_v
 
-      x-name : x ≡ A.name
-      x-name = (next_is i n (num_at name_width at v) x ex (omega arith)).1 ∙ sym A.named
+      x_name : x ≡ A.name
+      x_name = (next_is i n (num_at name_width at v) x ex (omega arith)).1 ∙ sym A.named
 
-      pub name-v : at + name_width ≤ length v
-      name-v = A.two
+      pub name_v : at + name_width ≤ length v
+      name_v = A.two
 
       module _ (z : ℕ) (e : z ≡ size_at_v (value_at (l - 1) (behind (at + name_width) v))) where
-        skipped-v : z ≡ size_val A.x
-        skipped-v = e ∙ ap (λ (r : List ℕ). size_at_v (value_at (l - 1) r)) (rest v (at + name_width)) ∙ values.size_got (value_at (l - 1) (drop (at + name_width) v)) A.x A.first
+        skipped_v : z ≡ size_val A.x
+        skipped_v = e ∙ ap (λ (r : List ℕ). size_at_v (value_at (l - 1) r)) (rest v (at + name_width)) ∙ values.size_got (value_at (l - 1) (drop (at + name_width) v)) A.x A.first
 
-        pub skip-v : at + name_width + z ≤ length v
-        skip-v = omega (arith, A.fits, skipped-v)
+        pub skip_v : at + name_width + z ≤ length v
+        skip_v = omega (arith, A.fits, skipped_v)
 
-        pub passed-v : ContextInv l t m v n mid out bt j (at + name_width + z) (i + 1) to k
-        passed-v =
-            let h1 = more-v in
-            let w : AscFields Q.fs (suc A.name) = subst (λ (q : ℕ). AscFields Q.fs (suc q)) x-name (ahead (l - 1) j m bt Q.least_t t Q.fs Q.read_t_lem x y ey h) in
+        pub passed_v : ContextInv l t m v n mid out bt j (at + name_width + z) (i + 1) to k
+        passed_v =
+            let h1 = more_v in
+            let w : AscFields Q.fs (suc A.name) = subst (λ (q : ℕ). AscFields Q.fs (suc q)) x_name (ahead (l - 1) j m bt Q.least_t t Q.fs Q.read_t_lem x y ey h) in
             record {
               both = Q.both;
               fs = Q.fs;
@@ -191,11 +191,11 @@ module _ {l : ℕ} {t : List ℕ} {m : ℕ} {v : List ℕ} {n : ℕ} {mid out : 
               below_t = Q.below_t;
               below_v = omega arith;
               in_t = Q.in_t;
-              in_v = skip-v;
+              in_v = skip_v;
               read_t_lem = Q.read_t_lem;
-              read_v_lem = ap (λ (q : ℕ). entries_at (l - 1) (n - (i + 1)) (suc A.name) (drop (at + name_width + q) v)) skipped-v ∙ A.second;
+              read_v_lem = ap (λ (q : ℕ). entries_at (l - 1) (n - (i + 1)) (suc A.name) (drop (at + name_width + q) v)) skipped_v ∙ A.second;
               size_t = Q.size_t;
-              size_v = omega (arith, Q.size_v, A.sized, skipped-v);
+              size_v = omega (arith, Q.size_v, A.sized, skipped_v);
               goes = sym (ap (map (context_text k Q.done)) (ap (λ q. retrieve_entries q Q.fs) A.is ∙ pass_entry A.name A.x A.more Q.fs w)) ∙ Q.goes;
               long = Q.long;
               low = omega (arith, Q.low);
@@ -206,29 +206,29 @@ module _ {l : ℕ} {t : List ℕ} {m : ℕ} {v : List ℕ} {n : ℕ} {mid out : 
 
     -- ---- a name that the value lacks
     module _ (h : y < x) where
-      pub more-t : j < m
-      more-t = (next_is j m (num_at name_width bt t) y ey (omega arith)).0
+      pub more_t : j < m
+      more_t = (next_is j m (num_at name_width bt t) y ey (omega arith)).0
 
       abbrev B : Here (l - 1) (m - (j + 1)) bt Q.least_t t Q.fs
-      B = entry_t more-t
+      B = entry_t more_t
 
-      y-name : y ≡ B.name
-      y-name = (next_is j m (num_at name_width bt t) y ey (omega arith)).1 ∙ sym B.named
+      y_name : y ≡ B.name
+      y_name = (next_is j m (num_at name_width bt t) y ey (omega arith)).1 ∙ sym B.named
 
-      pub name-t : bt + name_width ≤ length t
-      name-t = B.two
+      pub name_t : bt + name_width ≤ length t
+      name_t = B.two
 
       module _ (z : ℕ) (e : z ≡ size_at (type_at (l - 1) (behind (bt + name_width) t))) where
-        skipped-t : z ≡ size B.x
-        skipped-t = e ∙ ap (λ (r : List ℕ). size_at (type_at (l - 1) r)) (rest t (bt + name_width)) ∙ size_got (type_at (l - 1) (drop (bt + name_width) t)) B.x B.first
+        skipped_t : z ≡ size B.x
+        skipped_t = e ∙ ap (λ (r : List ℕ). size_at (type_at (l - 1) r)) (rest t (bt + name_width)) ∙ size_got (type_at (l - 1) (drop (bt + name_width) t)) B.x B.first
 
-        pub skip-t : bt + name_width + z ≤ length t
-        skip-t = omega (arith, B.fits, skipped-t)
+        pub skip_t : bt + name_width + z ≤ length t
+        skip_t = omega (arith, B.fits, skipped_t)
 
-        pub passed-t : ContextInv l t m v n mid out (bt + name_width + z) (j + 1) at i to k
-        passed-t =
-            let h1 = more-t in
-            let w : From (suc B.name) Q.es = subst (λ (q : ℕ). From (suc q) Q.es) y-name (above (l - 1) i n at Q.least_v v Q.es Q.read_v_lem x y ex h) in
+        pub passed_t : ContextInv l t m v n mid out (bt + name_width + z) (j + 1) at i to k
+        passed_t =
+            let h1 = more_t in
+            let w : From (suc B.name) Q.es = subst (λ (q : ℕ). From (suc q) Q.es) y_name (above (l - 1) i n at Q.least_v v Q.es Q.read_v_lem x y ex h) in
             record {
               both = Q.both;
               fs = B.more;
@@ -238,11 +238,11 @@ module _ {l : ℕ} {t : List ℕ} {m : ℕ} {v : List ℕ} {n : ℕ} {mid out : 
               done = Q.done;
               below_t = omega arith;
               below_v = Q.below_v;
-              in_t = skip-t;
+              in_t = skip_t;
               in_v = Q.in_v;
-              read_t_lem = ap (λ (q : ℕ). fields_at (l - 1) (m - (j + 1)) (suc B.name) (drop (bt + name_width + q) t)) skipped-t ∙ B.second;
+              read_t_lem = ap (λ (q : ℕ). fields_at (l - 1) (m - (j + 1)) (suc B.name) (drop (bt + name_width + q) t)) skipped_t ∙ B.second;
               read_v_lem = Q.read_v_lem;
-              size_t = omega (arith, Q.size_t, B.sized, skipped-t);
+              size_t = omega (arith, Q.size_t, B.sized, skipped_t);
               size_v = Q.size_v;
               goes = sym (ap (map (context_text k Q.done)) (ap (retrieve_entries Q.es) B.is ∙ pass_field B.name B.x Q.es B.more w)) ∙ Q.goes;
               long = Q.long;
@@ -257,17 +257,17 @@ module _ {l : ℕ} {t : List ℕ} {m : ℕ} {v : List ℕ} {n : ℕ} {mid out : 
       below_end : x < name_end
       below_end = omega arith
 
-      pub both-v : i < n
-      both-v = (next_is i n (num_at name_width at v) x ex below_end).0
+      pub both_v : i < n
+      both_v = (next_is i n (num_at name_width at v) x ex below_end).0
 
-      pub both-t : j < m
-      both-t = (next_is j m (num_at name_width bt t) y ey (omega arith)).0
+      pub both_t : j < m
+      both_t = (next_is j m (num_at name_width bt t) y ey (omega arith)).0
 
       abbrev A2 : This (l - 1) (n - (i + 1)) at Q.least_v v Q.es
-      A2 = entry_v both-v
+      A2 = entry_v both_v
 
       abbrev B2 : Here (l - 1) (m - (j + 1)) bt Q.least_t t Q.fs
-      B2 = entry_t both-t
+      B2 = entry_t both_t
 
       same_name : A2.name ≡ B2.name
       same_name =
@@ -275,50 +275,50 @@ module _ {l : ℕ} {t : List ℕ} {m : ℕ} {v : List ℕ} {n : ℕ} {mid out : 
           let q = (next_is j m (num_at name_width bt t) y ey (omega arith)).1 in
           omega (arith, A2.named, B2.named)
 
-      pub common-v : at + name_width ≤ length v
-      common-v = A2.two
+      pub common_v : at + name_width ≤ length v
+      common_v = A2.two
 
-      pub common-t : bt + name_width ≤ length t
-      common-t = B2.two
+      pub common_t : bt + name_width ≤ length t
+      common_t = B2.two
 
-      pub common-to : to + name_width ≤ length v
-      common-to = omega (arith, A2.two, Q.low)
+      pub common_to : to + name_width ≤ length v
+      common_to = omega (arith, A2.two, Q.low)
 
-      pub common-ok-v : Ok (value_at (l - 1) (behind (at + name_width) v))
-      common-ok-v = rw (rest v (at + name_width)) (is_ok (value_at (l - 1) (drop (at + name_width) v)) A2.x A2.first)
+      pub common_ok_v : Ok (value_at (l - 1) (behind (at + name_width) v))
+      common_ok_v = rw (rest v (at + name_width)) (is_ok (value_at (l - 1) (drop (at + name_width) v)) A2.x A2.first)
 
-      pub common-ok-t : Ok (type_at (l - 1) (behind (bt + name_width) t))
-      common-ok-t = entry_ok B2
+      pub common_ok_t : Ok (type_at (l - 1) (behind (bt + name_width) t))
+      common_ok_t = entry_ok B2
 
       -- the name was written at w, `mine` is the output then
       module _ (bs : Bytes v) (w : ℕ) (ew : w ≡ min to (length out)) (ns : List ℕ) (en : ns ≡ fill (take (at + name_width - at) (drop at v)) (behind w out)) where
         abbrev mine : List ℕ
         mine = put_mid w (length out - w) out ns
 
-        the-name : take (at + name_width - at) (drop at v) ≡ bytes name_width A2.name
-        the-name =
+        the_name : take (at + name_width - at) (drop at v) ≡ bytes name_width A2.name
+        the_name =
             let z : at + name_width - at ≡ name_width = omega arith in
             ap (λ (q : ℕ). take q (drop at v)) z ∙ name_bytes name_width at v bs A2.two ∙ ap (bytes name_width) (sym A2.named)
 
-        head-long : length (take 3 v) ≡ 3
-        head-long = length-take-le 3 v Q.both.three_v
+        head_long : length (take 3 v) ≡ 3
+        head_long = length-take-le 3 v Q.both.three_v
 
         front_long : length (take 3 v ++ Q.done) ≡ to
-        front_long = omega (arith, length-append (take 3 v) Q.done, head-long, Q.long)
+        front_long = omega (arith, length-append (take 3 v) Q.done, head_long, Q.long)
 
-        mine-is : mine ≡ fill ((take 3 v ++ Q.done) ++ bytes name_width A2.name) mid
-        mine-is = fill_then (take 3 v ++ Q.done) (bytes name_width A2.name) mid out ns to w Q.state front_long ew (en ∙ ap (λ (q : List ℕ). fill q (behind w out)) the-name)
+        mine_is : mine ≡ fill ((take 3 v ++ Q.done) ++ bytes name_width A2.name) mid
+        mine_is = fill_then (take 3 v ++ Q.done) (bytes name_width A2.name) mid out ns to w Q.state front_long ew (en ∙ ap (λ (q : List ℕ). fill q (behind w out)) the_name)
 
-        pub mine-kept : length mine ≡ length out
-        mine-kept = back_length w out ns (ap length en ∙ length_fill (take (at + name_width - at) (drop at v)) (behind w out))
+        pub mine_kept : length mine ≡ length out
+        mine_kept = back_length w out ns (ap length en ∙ length_fill (take (at + name_width - at) (drop at v)) (behind w out))
 
         module _ (u : ℕ) (ys : List ℕ) (r : Retrieved) (T : Retrieves (type_at (l - 1) (behind (bt + name_width) t)) (value_at (l - 1) (behind (at + name_width) v)) (behind u mine) ys r) where
           gave : Gave B2.x A2.x (behind u mine) ys r
           gave = retrieves_is (type_at (l - 1) (behind (bt + name_width) t)) (value_at (l - 1) (behind (at + name_width) v)) B2.x A2.x (behind u mine) ys r
               (entry_behind B2) (entry_behind A2) T
 
-          pub back-kept : length (put_mid u (length mine - u) mine ys) ≡ length mid
-          back-kept = back_length u mine ys (gave_length B2.x A2.x (behind u mine) ys r gave) ∙ mine-kept ∙ context_kept
+          pub back_kept : length (put_mid u (length mine - u) mine ys) ≡ length mid
+          back_kept = back_length u mine ys (gave_length B2.x A2.x (behind u mine) ys r gave) ∙ mine_kept ∙ context_kept
 
           pub common-no : r ≡ No → (old : List ℕ) → mid ≡ fill (take 3 v) old → Retrieves (type_at l t) (value_at l v) old (put_mid u (length mine - u) mine ys) No
           common-no e old em =
@@ -329,7 +329,7 @@ module _ {l : ℕ} {t : List ℕ} {m : ℕ} {v : List ℕ} {n : ℕ} {mid out : 
               let z : map enc_v (retrieve Y X) ≡ none =
               sym Q.goes ∙ ap (map (context_text k Q.done)) (ap₂ retrieve_entries A2.is f ∙ entry_none A2.name A2.x A2.more B2.x B2.more A2.asc G.0) in
               retrieves (type_at l t) (value_at l v) X Y old (put_mid u (length mine - u) mine ys) No Q.both.read_t_lem Q.both.read_v_lem
-              (gave_none X Y old (put_mid u (length mine - u) mine ys) z (back-kept ∙ ap length em ∙ length_fill (take 3 v) old))
+              (gave_none X Y old (put_mid u (length mine - u) mine ys) z (back_kept ∙ ap length em ∙ length_fill (take 3 v) old))
 
           module _ (b a c : ℕ) (e : r ≡ Yes b a c) where
             G : Got B2.x A2.x (behind u mine) ys b a c
@@ -347,8 +347,8 @@ module _ {l : ℕ} {t : List ℕ} {m : ℕ} {v : List ℕ} {n : ℕ} {mid out : 
             pub common-next : u ≡ min (to + name_width) (length mine) → ContextInv l t m v n mid (put_mid u (length mine - u) mine ys) (bt + name_width + b) (j + 1) (at + name_width + a) (i + 1)
                 (to + name_width + c) (k + 1)
             common-next eu =
-                let hv = both-v in
-                let ht = both-t in
+                let hv = both_v in
+                let ht = both_t in
                 let f : Q.fs ≡ field A2.name B2.x B2.more = B2.is ∙ ap (λ (q : ℕ). field q B2.x B2.more) (sym same_name) in
                 let nl : length (bytes name_width A2.name) ≡ name_width = length_bytes name_width A2.name in
                 let D = Q.done ++ bytes name_width A2.name in
@@ -379,7 +379,7 @@ module _ {l : ℕ} {t : List ℕ} {m : ℕ} {v : List ℕ} {n : ℕ} {mid out : 
                   low = omega (arith, Q.low, G.short);
                   few = omega (arith, Q.few);
                   small = Q.small;
-                  state = fill_then ((take 3 v ++ Q.done) ++ bytes name_width A2.name) (enc_v G.w) mid mine ys (to + name_width) u mine-is front eu G.out
+                  state = fill_then ((take 3 v ++ Q.done) ++ bytes name_width A2.name) (enc_v G.w) mid mine ys (to + name_width) u mine_is front eu G.out
                       ∙ ap (λ (q : List ℕ). fill q mid) shape;
                 }
 
@@ -392,11 +392,11 @@ module _ {l : ℕ} {t : List ℕ} {m : ℕ} {v : List ℕ} {n : ℕ} {mid out : 
           let zt : Q.fs ≡ no_fields = gone (l - 1) j m bt Q.least_t t Q.fs (at_end_lem j m y ny (omega arith)) Q.read_t_lem in
           let X = built (context Q.both.fs) in
           let Y = v_context Q.both.es in
-          let head-long : length (take 3 v) ≡ 3 = length-take-le 3 v Q.both.three_v in
+          let head_long : length (take 3 v) ≡ 3 = length-take-le 3 v Q.both.three_v in
           let g : map enc_v (retrieve Y X) ≡ some ((11 ∷ p ∷ q ∷ []) ++ Q.done) =
           sym Q.goes ∙ ap (map (context_text k Q.done)) (ap₂ retrieve_entries zv zt ∙ entries_none no_fields)
           ∙ ap some (ended k p q Q.done count_fits ep eq) in
           retrieves (type_at l t) (value_at l v) X Y old new (Yes bt at to) Q.both.read_t_lem Q.both.read_v_lem
           (gave_some X Y old new ((11 ∷ p ∷ q ∷ []) ++ Q.done) bt at to g (omega (arith, Q.size_t, ap size_fields zt, fields_none)) (omega (arith, Q.size_v, ap size_entries zv, size_none))
           (omega (arith, Q.long))
-          (late_head (take 3 v) (11 ∷ p ∷ q ∷ []) Q.done old mid out new head-long em Q.state en))
+          (late_head (take 3 v) (11 ∷ p ∷ q ∷ []) Q.done old mid out new head_long em Q.state en))

@@ -1,6 +1,6 @@
 -- The loop that retrieves the items of a list: what is left of them, and what was written of the answer.
 -- Idea: what was written, with what is retrieved of what is left, is the whole answer, or there is none (`ListInv`).
--- Index: `Lists`, `lists`, `ListInv`, `list_begins`, `list_none`, `list_done`, `list_type_lem`, `list_kept` (start and end); `item_ok`, `item_no`, `item_read`, `item-wrote`, `item-next` (an item).
+-- Index: `Lists`, `lists`, `ListInv`, `list_begins`, `list_none`, `list_done`, `list_type_lem`, `list_kept` (start and end); `item_ok`, `item_no`, `item_read`, `item_wrote`, `item_next` (an item).
 -- Assumes nothing.
 use Prim.Native.Nat.{ℕ, ◌+◌, ◌-◌, ◌<◌, ◌≤◌, min}
 use mathlib.Core.Path.{◌≡◌, refl, sym, ap, ◌∙◌}
@@ -149,8 +149,8 @@ module _ {l : ℕ} {t v : List ℕ} {n : ℕ} {mid out : List ℕ} {at to bt i :
       gave : Gave Q.both.u N.x (behind p out) ys r
       gave = retrieves_is (type_at (l - 1) (behind 1 t)) (value_at (l - 1) (behind at v)) Q.both.u N.x (behind p out) ys r (ap (type_at (l - 1)) (rest t 1) ∙ Q.both.read_u) (item_behind N) T
 
-      pub back-kept : length (put_mid p (length out - p) out ys) ≡ length out
-      back-kept = back_length p out ys (gave_length Q.both.u N.x (behind p out) ys r gave)
+      pub back_kept : length (put_mid p (length out - p) out ys) ≡ length out
+      back_kept = back_length p out ys (gave_length Q.both.u N.x (behind p out) ys r gave)
 
       pub item_no : r ≡ No → (old : List ℕ) → mid ≡ fill (take 3 v) old → Retrieves (type_at l t) (value_at l v) old (put_mid p (length out - p) out ys) No
       item_no e old m =
@@ -158,7 +158,7 @@ module _ {l : ℕ} {t v : List ℕ} {n : ℕ} {mid out : List ℕ} {at to bt i :
           let z : map enc_v (retrieve (v_list Q.both.vs) (built (list Q.both.u))) ≡ none =
           sym Q.goes ∙ ap (map (λ ws. Q.done ++ enc_vals ws)) (ap (λ k. retrieve_items k Q.both.u) N.is ∙ item_none N.x N.more Q.both.u G.0) in
           retrieves (type_at l t) (value_at l v) (built (list Q.both.u)) (v_list Q.both.vs) old (put_mid p (length out - p) out ys) No Q.both.read_t_lem Q.both.read_v_lem
-          (gave_none (built (list Q.both.u)) (v_list Q.both.vs) old (put_mid p (length out - p) out ys) z (back-kept ∙ list_kept ∙ ap length m ∙ length_fill (take 3 v) old))
+          (gave_none (built (list Q.both.u)) (v_list Q.both.vs) old (put_mid p (length out - p) out ys) z (back_kept ∙ list_kept ∙ ap length m ∙ length_fill (take 3 v) old))
 
       module _ (a b c : ℕ) (e : r ≡ Yes a b c) where
         G : Got Q.both.u N.x (behind p out) ys a b c
@@ -167,11 +167,11 @@ module _ {l : ℕ} {t v : List ℕ} {n : ℕ} {mid out : List ℕ} {at to bt i :
         pub item_read : at + b ≤ length v
         item_read = omega (arith, N.fits, G.size_v)
 
-        pub item-wrote : to + c ≤ length v
-        item-wrote = omega (arith, N.fits, G.size_v, G.short, Q.low)
+        pub item_wrote : to + c ≤ length v
+        item_wrote = omega (arith, N.fits, G.size_v, G.short, Q.low)
 
-        pub item-next : p ≡ min to (length out) → ListInv l t v n mid (put_mid p (length out - p) out ys) (at + b) (to + c) a (i + 1)
-        item-next ep =
+        pub item_next : p ≡ min to (length out) → ListInv l t v n mid (put_mid p (length out - p) out ys) (at + b) (to + c) a (i + 1)
+        item_next ep =
             record {
               both = Q.both;
               left = N.more;

@@ -59,32 +59,32 @@ module _ (t v : List ℕ) (A : Accepted t v) where
 
   -- what was retrieved is read back
   module _ (w : Val) (e : retrieve A.value A.type ≡ some w) where
-    well-too : WfV w
-    well-too = (less_val A.value A.type w e).well (well t v A)
+    well_too : WfV w
+    well_too = (less_val A.value A.type w e).well (well t v A)
 
     read_back : read_value (enc_v w) ≡ done w
     read_back =
         let C = value_accepted v A.bytes_v A.value A.read_v_lem in
         value_accepts (enc_v w) w (record {
           bytes = refl;
-          well = well-too;
+          well = well_too;
           low = omega (arith, (less_val A.value A.type w e).lower, C.low);
           short = omega (arith, retrieved_within t v A w e, value_short t v A);
         })
 
-    conforms-back : value_conforms_to w A.type ≡ true → is_conformant (enc_v w) t ≡ done true
+    conforms_back : value_conforms_to w A.type ≡ true → is_conformant (enc_v w) t ≡ done true
     unfolding is_conformant_by ◌>>=◌
-    conforms-back h = rw (read_back, A.read_t_lem, h)
+    conforms_back h = rw (read_back, A.read_t_lem, h)
 
   retrieved : is_conformant v t ≡ done true → RetrievedBytes t v
   retrieved h =
       let T = found (said true h) in
       record {
         answer = enc_v T.w;
-        are_bytes = bytes_enc_v T.w (well-too T.w T.is);
+        are_bytes = bytes_enc_v T.w (well_too T.w T.is);
         answered = λ room. checked_is t v A room T.w T.is;
         no_longer = retrieved_within t v A T.w T.is;
-        conforms_too = conforms-back T.w T.is T.conforms_too;
+        conforms_too = conforms_back T.w T.is T.conforms_too;
       }
 
   within_limits : (room : ℕ) → get_value_checked_call t v room ≡ refused 17 → ⊥
@@ -110,12 +110,12 @@ module _ (t v : List ℕ) (A : Accepted t v) where
   refuses : (room n : ℕ) → get_conformant_value_call t v room ≡ refused n → n ≡ 18
   refuses room n e = go (is_null_type A.type) (value_conforms_to A.value A.type) refl refl
     where
-      of-nothing : (k : ℕ) → get_conformant_value_call t v room ≡ result room (nothing k) → n ≡ 18
-      of-nothing k g = fits_refused room (0 ∷ k ∷ []) n (sym (nothing_is t v A room k) ∙ sym g ∙ e)
+      of_nothing : (k : ℕ) → get_conformant_value_call t v room ≡ result room (nothing k) → n ≡ 18
+      of_nothing k g = fits_refused room (0 ∷ k ∷ []) n (sym (nothing_is t v A room k) ∙ sym g ∙ e)
 
       go : (p q : Bool) → is_null_type A.type ≡ p → value_conforms_to A.value A.type ≡ q → n ≡ 18
-      go true q f g = of-nothing 0 (by_tests room true q f g)
-      go false false f g = of-nothing 2 (by_tests room false false f g)
+      go true q f g = of_nothing 0 (by_tests room true q f g)
+      go false false f g = of_nothing 2 (by_tests room false false f g)
       go false true f g =
           let T = found g in
           fits_refused room (enc_v T.w) n (sym (checked_is t v A room T.w T.is) ∙ is_conformant_lem t v A g room ∙ e)

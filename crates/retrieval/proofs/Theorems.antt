@@ -19,7 +19,7 @@ use Rattle.order.proofs.Conform.{look_below}
 use Rattle.order.proofs.Simple.{and_both, same_eq}
 use Rattle.order.specs.Size.{size_val, size_vals, size_entries}
 use Rattle.order.specs.Types.{lookup, cmp, cmps, all_fields}
-use Rattle.order.specs.Values.{temporal_type, leaf_type, types_of, to_range, to_function, is_any, conforms, allConform, has_value}
+use Rattle.order.specs.Values.{temporal_type, leaf_type, types_of, to_range, to_function, is_any, conforms, all_conform, has_value}
 use Rattle.order.specs.Inferred.{value_conforms_to}
 use Rattle.retrieval.specs.Retrieve.{copied, retrieve_leaf, by_range, by_function, by_any, by_list, by_context, kept, retrieve, retrieve_items, retrieve_entries, get_value_checked}
 use Rattle.retrieval.specs.Retrieve.{or_nothing, get_conformant_value}
@@ -178,7 +178,7 @@ of_all f (field m t fs) n u h e = let d = and_parts (f m t) (all_fields f fs) h 
 pub record ThereItems (vs : Vals) (t : Ty) : Type 0 where
   pub ws : Vals
   pub is : retrieve_items vs t ≡ some ws
-  pub conform_too : allConform fixed ws t ≡ true
+  pub conform_too : all_conform fixed ws t ≡ true
 
 -- the names from k on
 abbrev Have : Entries → ℕ → Fields → Type 0
@@ -273,13 +273,13 @@ leaf_there (l_string x) (leaf s) h = copied_there (v_leaf (l_string x)) (leaf s)
 leaf_there (l_string x) (built y) h = absurd (false≢true h)
 leaf_there (l_temporal k x) (leaf s) h = copied_there (v_leaf (l_temporal k x)) (leaf s) (same s any || same s (leaf_type (l_temporal k x))) refl
     (own_kind s (leaf_type (l_temporal k x)) (kind_null (l_temporal k x) refl) h) h
-leaf_there (l_temporal k x) (built y) h = absurd (false≢true (sym (flat-null (temporal_type k) (kind_null (l_temporal k x) refl)) ∙ h))
+leaf_there (l_temporal k x) (built y) h = absurd (false≢true (sym (flat_null (temporal_type k) (kind_null (l_temporal k x) refl)) ∙ h))
   where
-    flat-null : (s : Simple) → same s null ≡ false → flat s null ≡ false
-    flat-null s e = ap (λ q. q || q) e
+    flat_null : (s : Simple) → same s null ≡ false → flat s null ≡ false
+    flat_null s e = ap (λ q. q || q) e
 
 -- ---- lists
-list_there : (t : Ty) (vs : Vals) → Asc t → ((u : Ty) → Asc u → allConform fixed vs u ≡ true → ThereItems vs u) → value_conforms_to (v_list vs) t ≡ true → There (v_list vs) t
+list_there : (t : Ty) (vs : Vals) → Asc t → ((u : Ty) → Asc u → all_conform fixed vs u ≡ true → ThereItems vs u) → value_conforms_to (v_list vs) t ≡ true → There (v_list vs) t
 unfolding retrieve conforms Asc
 list_there (leaf s) vs a ih h = copied_there (v_list vs) (leaf s) (same s any) refl (any_code s h) h
 list_there (built (list u)) vs a ih h = let T = ih u a h in record { w = v_list T.ws; is = ap (map v_list) T.is; conforms_too = T.conform_too }
@@ -390,13 +390,13 @@ mutual
   there (v_type x) t w a h = copied_there (v_type x) t (by_any t) refl (by_any_of t h) h
   there v_irrelevant t w a h = copied_there v_irrelevant t (by_any t) refl (by_any_of t h) h
 
-  there_items : (vs : Vals) (t : Ty) → WfVals vs → Asc t → allConform fixed vs t ≡ true → ThereItems vs t
+  there_items : (vs : Vals) (t : Ty) → WfVals vs → Asc t → all_conform fixed vs t ≡ true → ThereItems vs t
   there_items no_items t w a h = record { ws = no_items; is = refl; conform_too = refl }
   there_items (item v vs) t w a h =
-      let d = and_parts (conforms fixed v t) (allConform fixed vs t) h in
+      let d = and_parts (conforms fixed v t) (all_conform fixed vs t) h in
       let F = there v t w.0 a d.0 in
       let T = there_items vs t w.1 a d.1 in
-      record { ws = item F.w T.ws; is = ap₂ (both item) F.is T.is; conform_too = and_both (conforms fixed F.w t) (allConform fixed T.ws t) F.conforms_too T.conform_too }
+      record { ws = item F.w T.ws; is = ap₂ (both item) F.is T.is; conform_too = and_both (conforms fixed F.w t) (all_conform fixed T.ws t) F.conforms_too T.conform_too }
 
   there_entries : (es : Entries) (k : ℕ) (fs : Fields) → WfEntries es k → AscFields fs 0 → Have es k fs → ThereEntries es k fs
   there_entries no_entries k fs w a h = record { ws = no_entries; is = refl; have_too = h }

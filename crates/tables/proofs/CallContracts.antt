@@ -1,6 +1,6 @@
 -- What the returns of `load` and of the tests of two rows owe.
--- Index: `carries_own`, `carries_none`, `mutual-rows`, `carries-through` (two rows); `order_own`, `order-null`, `order-any`, `order-rest` (one row); `place_diagonal`,
--- `place_other` (a place of the reading); `loads_refused_length`, `loads-refused-byte`, `loads-refused-order`, `loads-refused-join`, `loads-done`, `rows_are`, `outcome`,
+-- Index: `carries_own`, `carries_none`, `mutual_rows`, `carries_through` (two rows); `order_own`, `order_null`, `order_any`, `order_rest` (one row); `place_diagonal`,
+-- `place_other` (a place of the reading); `loads_refused_length`, `loads_refused_byte`, `loads_refused_order`, `loads_refused_join`, `loads_done`, `rows_are`, `outcome`,
 -- `is_outcome` (`load`); `checked_refused`, `loads_from`, `loads_is_done`, `checked_done`, `over_refused`, `over_loaded` (what follows the table's reading).
 -- Assumes nothing.
 use Prim.Native.Nat.{ℕ, ◌+◌, ◌*◌, ◌/◌, ◌%◌, ◌^◌}
@@ -21,7 +21,7 @@ use Rattle.order.specs.Table.{imp, is_table, are_flags, is_ordered, in_table, ha
 use Rattle.order.proofs.Packed.{packed_order}
 use Rattle.tables.specs.Rows.{row_of, rows_of, row, all_from, carries_at, ordered_at, ordered_rows, joined_rows}
 use Rattle.tables.specs.Calls.{where_loads, load_table, reading_of}
-use Rattle.tables.proofs.Rows.{ordered_rows_lem, joined-rows}
+use Rattle.tables.proofs.Rows.{ordered_rows_lem, joined_rows_lem}
 
 -- ---- two rows
 imp_true : (a : Bool) → imp a true ≡ true
@@ -46,11 +46,11 @@ module _ (rows : List ℕ) (i j : ℕ) where
     step = ap (λ q. imp q rest) (eq-eqb (row rows i / 2 ^ j % 2) 1 s)
         ∙ ap (λ q. (q || not (bit (row rows j) i)) && eqb (bit_and (row rows i) (row rows j)) (row rows j)) (ne_eqb i j d)
 
-    pub mutual-rows : row rows j / 2 ^ i % 2 ≡ 1 → false ≡ carries_at rows i j
-    mutual-rows e = sym (step ∙ ap (λ q. not q && eqb (bit_and (row rows i) (row rows j)) (row rows j)) (eq-eqb (row rows j / 2 ^ i % 2) 1 e))
+    pub mutual_rows : row rows j / 2 ^ i % 2 ≡ 1 → false ≡ carries_at rows i j
+    mutual_rows e = sym (step ∙ ap (λ q. not q && eqb (bit_and (row rows i) (row rows j)) (row rows j)) (eq-eqb (row rows j / 2 ^ i % 2) 1 e))
 
-    pub carries-through : (row rows j / 2 ^ i % 2 ≡ 1 → ⊥) → eqb (bit_and (row rows i) (row rows j)) (row rows j) ≡ carries_at rows i j
-    carries-through n = sym (step ∙ ap (λ q. not q && eqb (bit_and (row rows i) (row rows j)) (row rows j)) (ne_eqb (row rows j / 2 ^ i % 2) 1 n))
+    pub carries_through : (row rows j / 2 ^ i % 2 ≡ 1 → ⊥) → eqb (bit_and (row rows i) (row rows j)) (row rows j) ≡ carries_at rows i j
+    carries_through n = sym (step ∙ ap (λ q. not q && eqb (bit_and (row rows i) (row rows j)) (row rows j)) (ne_eqb (row rows j / 2 ^ i % 2) 1 n))
 
 -- ---- one row
 module _ (rows : List ℕ) (i : ℕ) where
@@ -61,24 +61,24 @@ module _ (rows : List ℕ) (i : ℕ) where
   order_own n = sym (ap (λ q. q && (bit (row rows 9) i && (bit (row rows i) 0 && others))) (ne_eqb (row rows i / 2 ^ i % 2) 1 n))
 
   module _ (a : row rows i / 2 ^ i % 2 ≡ 1) where
-    past-own : ordered_at rows i ≡ bit (row rows 9) i && (bit (row rows i) 0 && others)
-    past-own = ap (λ q. q && (bit (row rows 9) i && (bit (row rows i) 0 && others))) (eq-eqb (row rows i / 2 ^ i % 2) 1 a)
+    past_own : ordered_at rows i ≡ bit (row rows 9) i && (bit (row rows i) 0 && others)
+    past_own = ap (λ q. q && (bit (row rows 9) i && (bit (row rows i) 0 && others))) (eq-eqb (row rows i / 2 ^ i % 2) 1 a)
 
-    pub order-null : (row rows 9 / 2 ^ i % 2 ≡ 1 → ⊥) → false ≡ ordered_at rows i
-    order-null n = sym (past-own ∙ ap (λ q. q && (bit (row rows i) 0 && others)) (ne_eqb (row rows 9 / 2 ^ i % 2) 1 n))
+    pub order_null : (row rows 9 / 2 ^ i % 2 ≡ 1 → ⊥) → false ≡ ordered_at rows i
+    order_null n = sym (past_own ∙ ap (λ q. q && (bit (row rows i) 0 && others)) (ne_eqb (row rows 9 / 2 ^ i % 2) 1 n))
 
     module _ (b : row rows 9 / 2 ^ i % 2 ≡ 1) where
-      past-null : ordered_at rows i ≡ bit (row rows i) 0 && others
-      past-null = past-own ∙ ap (λ q. q && (bit (row rows i) 0 && others)) (eq-eqb (row rows 9 / 2 ^ i % 2) 1 b)
+      past_null : ordered_at rows i ≡ bit (row rows i) 0 && others
+      past_null = past_own ∙ ap (λ q. q && (bit (row rows i) 0 && others)) (eq-eqb (row rows 9 / 2 ^ i % 2) 1 b)
 
       whole : row rows i / 2 ^ 0 ≡ row rows i
       whole = omega arith
 
-      pub order-any : (row rows i % 2 ≡ 1 → ⊥) → false ≡ ordered_at rows i
-      order-any n = sym (past-null ∙ ap (λ q. q && others) (ap (λ (x : ℕ). eqb (x % 2) 1) whole ∙ ne_eqb (row rows i % 2) 1 n))
+      pub order_any : (row rows i % 2 ≡ 1 → ⊥) → false ≡ ordered_at rows i
+      order_any n = sym (past_null ∙ ap (λ q. q && others) (ap (λ (x : ℕ). eqb (x % 2) 1) whole ∙ ne_eqb (row rows i % 2) 1 n))
 
-      pub order-rest : row rows i % 2 ≡ 1 → others ≡ ordered_at rows i
-      order-rest e = sym (past-null ∙ ap (λ q. q && others) (ap (λ (x : ℕ). eqb (x % 2) 1) whole ∙ eq-eqb (row rows i % 2) 1 e))
+      pub order_rest : row rows i % 2 ≡ 1 → others ≡ ordered_at rows i
+      order_rest e = sym (past_null ∙ ap (λ q. q && others) (ap (λ (x : ℕ). eqb (x % 2) 1) whole ∙ eq-eqb (row rows i % 2) 1 e))
 
 -- ---- the reading
 pub place_diagonal : (table : List ℕ) (k : ℕ) → k % 9 ≡ 0 → 0 ≡ place table k
@@ -117,31 +117,31 @@ module _ {X : Type 0} (table : List ℕ) (x : X) where
       sym (is_outcome ∙ ap (λ q. outcome (q && are_flags table) (is_ordered (in_table table)) (has_joins (in_table table)) x) (ne_eqb (length table) 100 n))
 
   module _ (l : length table ≡ 100) where
-    flags-only : is_table table ≡ are_flags table
-    flags-only = ap (λ q. q && are_flags table) (eq-eqb (length table) 100 l)
+    flags_only : is_table table ≡ are_flags table
+    flags_only = ap (λ q. q && are_flags table) (eq-eqb (length table) 100 l)
 
-    pub loads-refused-byte : are_flags table ≡ false → refused 26 ≡ where_loads table x
-    loads-refused-byte e = sym (is_outcome ∙ ap (λ q. outcome q (is_ordered (in_table table)) (has_joins (in_table table)) x) (flags-only ∙ e))
+    pub loads_refused_byte : are_flags table ≡ false → refused 26 ≡ where_loads table x
+    loads_refused_byte e = sym (is_outcome ∙ ap (λ q. outcome q (is_ordered (in_table table)) (has_joins (in_table table)) x) (flags_only ∙ e))
 
     module _ (f : are_flags table ≡ true) where
       as_table : where_loads table x ≡ outcome true (is_ordered (in_table table)) (has_joins (in_table table)) x
-      as_table = is_outcome ∙ ap (λ q. outcome q (is_ordered (in_table table)) (has_joins (in_table table)) x) (flags-only ∙ f)
+      as_table = is_outcome ∙ ap (λ q. outcome q (is_ordered (in_table table)) (has_joins (in_table table)) x) (flags_only ∙ f)
 
-      pub loads-refused-order : ordered_rows (rows_of table) ≡ false → refused 27 ≡ where_loads table x
-      loads-refused-order e = sym (as_table ∙ ap (λ q. outcome true q (has_joins (in_table table)) x) (sym (ordered_rows_lem table f) ∙ e))
+      pub loads_refused_order : ordered_rows (rows_of table) ≡ false → refused 27 ≡ where_loads table x
+      loads_refused_order e = sym (as_table ∙ ap (λ q. outcome true q (has_joins (in_table table)) x) (sym (ordered_rows_lem table f) ∙ e))
 
       module _ (o : ordered_rows (rows_of table) ≡ true) where
-        is-order : is_ordered (in_table table) ≡ true
-        is-order = sym (ordered_rows_lem table f) ∙ o
+        is_order : is_ordered (in_table table) ≡ true
+        is_order = sym (ordered_rows_lem table f) ∙ o
 
-        as-order : where_loads table x ≡ outcome true true (has_joins (in_table table)) x
-        as-order = as_table ∙ ap (λ q. outcome true q (has_joins (in_table table)) x) is-order
+        as_order : where_loads table x ≡ outcome true true (has_joins (in_table table)) x
+        as_order = as_table ∙ ap (λ q. outcome true q (has_joins (in_table table)) x) is_order
 
-        pub loads-refused-join : joined_rows (rows_of table) ≡ false → refused 28 ≡ where_loads table x
-        loads-refused-join e = sym (as-order ∙ ap (λ q. outcome true true q x) (sym (joined-rows table f is-order) ∙ e))
+        pub loads_refused_join : joined_rows (rows_of table) ≡ false → refused 28 ≡ where_loads table x
+        loads_refused_join e = sym (as_order ∙ ap (λ q. outcome true true q x) (sym (joined_rows_lem table f is_order) ∙ e))
 
-        pub loads-done : joined_rows (rows_of table) ≡ true → done x ≡ where_loads table x
-        loads-done e = sym (as-order ∙ ap (λ q. outcome true true q x) (sym (joined-rows table f is-order) ∙ e))
+        pub loads_done : joined_rows (rows_of table) ≡ true → done x ≡ where_loads table x
+        loads_done e = sym (as_order ∙ ap (λ q. outcome true true q x) (sym (joined_rows_lem table f is_order) ∙ e))
 
 -- ---- the reading's outcome tells that of every call over the table
 -- refused with the same number, whatever is asked

@@ -1,7 +1,7 @@
 -- What a reading says of two simple types, by their commands: the laws of the tests and of the loop over 21 to 28.
 -- Idea: a command c is the code c - 32; the tests in the code are those of the definition, in its sequence.
 -- Index: `inner_yes`, `inner_low`, `inner_high`, `inner_range`; `related_document`, `related_row`, `related_column`, `related_bit`, `related_inner` (a bit of a table);
--- `below-related`, `below-null`, `below_any`, `below-same`; `nearest_document`, `nearest_row`, `nearest_column`, `nearest_found` (common bounds); `Narrowing`,
+-- `below_related`, `below_null`, `below_any`, `below_same`; `nearest_document`, `nearest_row`, `nearest_column`, `nearest_found` (common bounds); `Narrowing`,
 -- `narrowing_start`, `narrowing_taken`, `narrowing_left`, `narrowing_end` (the loop); `bound_code` (at most 9).
 -- Assumes nothing.
 use Prim.Native.Nat.{ℕ, suc, ◌+◌, ◌-◌, ◌*◌, ◌/◌, ◌%◌, ◌^◌, ◌≤◌, ◌<◌}
@@ -69,14 +69,14 @@ module _ (reading c d : ℕ) where
 
   -- ---- conformance of two simple types
   module _ (q : Bool) (e : q ≡ related reading (c - 32) (d - 32)) (lo : 32 ≤ c) (lo' : 32 ≤ d) where
-    pub below-related : q ≡ true → true ≡ below reading (c - 32) (d - 32)
-    below-related h = sym (ap (λ x. x || (eqb (c - 32) 9 || (eqb (d - 32) 0 || eqb (c - 32) (d - 32)))) (sym e ∙ h))
+    pub below_related : q ≡ true → true ≡ below reading (c - 32) (d - 32)
+    below_related h = sym (ap (λ x. x || (eqb (c - 32) 9 || (eqb (d - 32) 0 || eqb (c - 32) (d - 32)))) (sym e ∙ h))
 
     rest : q ≡ false → below reading (c - 32) (d - 32) ≡ eqb (c - 32) 9 || (eqb (d - 32) 0 || eqb (c - 32) (d - 32))
     rest h = ap (λ x. x || (eqb (c - 32) 9 || (eqb (d - 32) 0 || eqb (c - 32) (d - 32)))) (sym e ∙ h)
 
-    pub below-null : q ≡ false → c ≡ 41 → true ≡ below reading (c - 32) (d - 32)
-    below-null h n = sym (rest h ∙ ap (λ x. x || (eqb (d - 32) 0 || eqb (c - 32) (d - 32))) (eq-eqb (c - 32) 9 (omega arith)))
+    pub below_null : q ≡ false → c ≡ 41 → true ≡ below reading (c - 32) (d - 32)
+    below_null h n = sym (rest h ∙ ap (λ x. x || (eqb (d - 32) 0 || eqb (c - 32) (d - 32))) (eq-eqb (c - 32) 9 (omega arith)))
 
     past : q ≡ false → (c ≡ 41 → ⊥) → below reading (c - 32) (d - 32) ≡ eqb (d - 32) 0 || eqb (c - 32) (d - 32)
     past h n = rest h ∙ ap (λ x. x || (eqb (d - 32) 0 || eqb (c - 32) (d - 32))) (ne_eqb (c - 32) 9 (λ z. n (omega arith)))
@@ -84,8 +84,8 @@ module _ (reading c d : ℕ) where
     pub below_any : q ≡ false → (c ≡ 41 → ⊥) → d ≡ 32 → true ≡ below reading (c - 32) (d - 32)
     below_any h n a = sym (past h n ∙ ap (λ x. x || eqb (c - 32) (d - 32)) (eq-eqb (d - 32) 0 (omega arith)))
 
-    pub below-same : q ≡ false → (c ≡ 41 → ⊥) → (d ≡ 32 → ⊥) → eqb c d ≡ below reading (c - 32) (d - 32)
-    below-same h n a = sym (past h n ∙ ap (λ x. x || eqb (c - 32) (d - 32)) (ne_eqb (d - 32) 0 (λ z. a (omega arith))) ∙ same (eqb c d) refl)
+    pub below_same : q ≡ false → (c ≡ 41 → ⊥) → (d ≡ 32 → ⊥) → eqb c d ≡ below reading (c - 32) (d - 32)
+    below_same h n a = sym (past h n ∙ ap (λ x. x || eqb (c - 32) (d - 32)) (ne_eqb (d - 32) 0 (λ z. a (omega arith))) ∙ same (eqb c d) refl)
       where
         same : (x : Bool) → eqb c d ≡ x → eqb (c - 32) (d - 32) ≡ eqb c d
         same true f = eq-eqb (c - 32) (d - 32) (ap (λ (k : ℕ). k - 32) (eqb-true c d f)) ∙ sym f

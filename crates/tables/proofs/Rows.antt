@@ -1,7 +1,7 @@
--- The tests of a table's rows are what document 02 asks of the table: `ordered_rows_lem` (27), `joined-rows` (28).
+-- The tests of a table's rows are what document 02 asks of the table: `ordered_rows_lem` (27), `joined_rows_lem` (28).
 -- Idea: bit j of row i is the byte in row i and column j. A row is contained in another where what the two have in common is the one; two rows have a least common supertype
 -- where a row is what they have in common: what conforms to it conforms to both, and it is in its own row. Both sides are read at each type.
--- Index: `and_bit`, `same_bits` (numbers by their bits); `row_bit`, `row_lt`, `rows_at` (rows); `ordered_rows_lem`, `joined-rows`.
+-- Index: `and_bit`, `same_bits` (numbers by their bits); `row_bit`, `row_lt`, `rows_at` (rows); `ordered_rows_lem`, `joined_rows_lem`.
 -- Assumes nothing.
 use Prim.Native.Nat.{ℕ, zero, suc, ◌+◌, ◌-◌, ◌*◌, ◌/◌, ◌%◌, ◌^◌, ◌<◌, min}
 use mathlib.Core.Path.{◌≡◌, refl, sym, ap, ap₂, ◌∙◌, subst}
@@ -155,9 +155,9 @@ module _ (table : List ℕ) (f : are_flags table ≡ true) where
         let e = eqb-true _ _ (and_right (same s t || not (bit (R (code t)) (code s))) _ (carries s t p)) in
         and_left (r s u) (r t u) (sym (common s t u) ∙ ap (λ (x : ℕ). bit x (code u)) e ∙ at t u ∙ q)
 
-    is-order : is_ordered r ≡ true
+    is_order : is_ordered r ≡ true
     unfolding is_ordered
-    is-order =
+    is_order =
         and_both (reflexive r) _ (every_from (λ s. r s s) own)
         (and_both (null_least r) _ (every_from (λ s. r null s) least)
         (and_both (any_greatest r) _ (every_from (λ s. r s any) greatest)
@@ -188,8 +188,8 @@ module _ (table : List ℕ) (f : are_flags table ≡ true) where
         apart p true e = refl
         apart p false e = ap not (at t s) ∙ back p (r t s) e refl
 
-    are-ordered : ordered_rows (rows_of table) ≡ true
-    are-ordered =
+    are_ordered : ordered_rows (rows_of table) ≡ true
+    are_ordered =
         all_from_lem (ordered_at (rows_of table)) 0 10 (λ i lo hi. by_code (λ k. ordered_at (rows_of table) k ≡ true) (λ s.
         and_both (bit (R (code s)) (code s)) _ (at s s ∙ refl_of r o s)
         (and_both (bit (R 9) (code s)) _ (at null s ∙ null_least_of r o s)
@@ -197,18 +197,18 @@ module _ (table : List ℕ) (f : are_flags table ≡ true) where
         (all_from_lem (carries_at (rows_of table) (code s)) 0 10 (λ j l h. by_code (λ k. carries_at (rows_of table) (code s) k ≡ true) (carry s) j (omega (arith, h))))))) i (omega (arith, hi)))
 
   pub ordered_rows_lem : ordered_rows (rows_of table) ≡ is_ordered r
-  ordered_rows_lem = bool_iff (ordered_rows (rows_of table)) (is_ordered r) is-order are-ordered
+  ordered_rows_lem = bool_iff (ordered_rows (rows_of table)) (is_ordered r) is_order are_ordered
 
   -- ---- 28
   module _ (o : is_ordered r ≡ true) where
     -- a row that is what two have in common
-    join-of : (s t u : Simple) → ((c : Simple) → r u c ≡ r s c && r t c) → is_join r s t u ≡ true
-    join-of s t u h =
+    join_of : (s t u : Simple) → ((c : Simple) → r u c ≡ r s c && r t c) → is_join r s t u ≡ true
+    join_of s t u h =
         let e = sym (h u) ∙ refl_of r o u in
         passes r s t u (and_left (r s u) (r t u) e) (and_right (r s u) (r t u) e) (λ c p. h c ∙ p)
 
-    row-of : (s t u : Simple) → R (code u) ≡ bit_and (R (code s)) (R (code t)) → (c : Simple) → r u c ≡ r s c && r t c
-    row-of s t u e c = sym (at u c) ∙ ap (λ (x : ℕ). bit x (code c)) e ∙ common s t c
+    row_of_lem : (s t u : Simple) → R (code u) ≡ bit_and (R (code s)) (R (code t)) → (c : Simple) → r u c ≡ r s c && r t c
+    row_of_lem s t u e c = sym (at u c) ∙ ap (λ (x : ℕ). bit x (code c)) e ∙ common s t c
 
     module _ (h : joined_rows (rows_of table) ≡ true) where
       lower : (s t : Simple) → code t < code s → (u : Simple) × (R (code u) ≡ bit_and (R (code s)) (R (code t)))
@@ -226,34 +226,34 @@ module _ (table : List ℕ) (f : are_flags table ≡ true) where
           go : (x y : Bool) → ltb (code t) (code s) ≡ x → ltb (code s) (code t) ≡ y → exists (λ u. is_join r s t u) ≡ true
           go true y p q =
               let g = lower s t (ltb-true (code t) (code s) p) in
-              exists_from (λ u. is_join r s t u) g.0 (join-of s t g.0 (row-of s t g.0 g.1))
+              exists_from (λ u. is_join r s t u) g.0 (join_of s t g.0 (row_of_lem s t g.0 g.1))
           go false true p q =
               let g = lower t s (ltb-true (code s) (code t) q) in
-              exists_from (λ u. is_join r s t u) g.0 (join-of s t g.0 (λ c. row-of t s g.0 g.1 c ∙ and_comm (r t c) (r s c)))
+              exists_from (λ u. is_join r s t u) g.0 (join_of s t g.0 (λ c. row_of_lem t s g.0 g.1 c ∙ and_comm (r t c) (r s c)))
           go false false p q =
               let lo = ltb-false (code t) (code s) p in
               let hi = ltb-false (code s) (code t) q in
               let e = same_eq s t (eq-eqb (code s) (code t) (omega (arith, lo, hi))) in
-              exists_from (λ u. is_join r s t u) s (join-of s t s (λ c. sym (and_same (r s c)) ∙ ap (λ x. r s c && r x c) e))
+              exists_from (λ u. is_join r s t u) s (join_of s t s (λ c. sym (and_same (r s c)) ∙ ap (λ x. r s c && r x c) e))
 
-      have-joins : has_joins r ≡ true
+      have_joins : has_joins r ≡ true
       unfolding has_joins
-      have-joins = every_from (λ s. every (λ t. exists (λ u. is_join r s t u))) (λ s. every_from (λ t. exists (λ u. is_join r s t u)) (joined s))
+      have_joins = every_from (λ s. every (λ t. exists (λ u. is_join r s t u))) (λ s. every_from (λ t. exists (λ u. is_join r s t u)) (joined s))
 
     module _ (j : has_joins r ≡ true) where
-      is-row : (s t : Simple) → is_row (rows_of table) (bit_and (R (code s)) (R (code t))) ≡ true
-      is-row s t =
+      is_row_lem : (s t : Simple) → is_row (rows_of table) (bit_and (R (code s)) (R (code t))) ≡ true
+      is_row_lem s t =
           let u = join r s t in
           let l = code_small u in
           any_from_lem (λ k. eqb (R k) (bit_and (R (code s)) (R (code t)))) 0 10 (code u) (omega arith) (omega arith)
           (eq-eqb _ _ (by_types _ _ (R-lt u) (and_lt s t) (λ c. at u c ∙ join_least_of r o j s t c ∙ sym (common s t c))))
 
-      are-joined : joined_rows (rows_of table) ≡ true
-      are-joined =
+      are_joined : joined_rows (rows_of table) ≡ true
+      are_joined =
           all_from_lem (joined_at (rows_of table)) 0 10 (λ i lo hi. by_code (λ k. joined_at (rows_of table) k ≡ true) (λ s.
           let l = code_small s in
           all_from_lem (λ k. is_row (rows_of table) (bit_and (R (code s)) (R k))) 0 (code s)
-          (λ k a b. by_code (λ m. is_row (rows_of table) (bit_and (R (code s)) (R m)) ≡ true) (is-row s) k (omega (arith, b, l)))) i (omega (arith, hi)))
+          (λ k a b. by_code (λ m. is_row (rows_of table) (bit_and (R (code s)) (R m)) ≡ true) (is_row_lem s) k (omega (arith, b, l)))) i (omega (arith, hi)))
 
-    pub joined-rows : joined_rows (rows_of table) ≡ has_joins r
-    joined-rows = bool_iff (joined_rows (rows_of table)) (has_joins r) have-joins are-joined
+    pub joined_rows_lem : joined_rows (rows_of table) ≡ has_joins r
+    joined_rows_lem = bool_iff (joined_rows (rows_of table)) (has_joins r) have_joins are_joined

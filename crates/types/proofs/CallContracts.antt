@@ -1,5 +1,5 @@
 -- The public calls: refusals first, then the answer of the walk.
--- Index: `was_refused`, `was_accepted`, `Accepts`, `byte_there` (what a reader's answer says); `whole_type` (for the laws of TwoArguments); `simple-yes`, `simple-no`, `null-yes`, `null-no`,
+-- Index: `was_refused`, `was_accepted`, `Accepts`, `byte_there` (what a reader's answer says); `whole_type` (for the laws of TwoArguments); `simple_yes`, `simple_no`, `null_yes`, `null_no`,
 -- `simple_refused`, `null_refused` (the questions on one type).
 -- Assumes nothing.
 use Prim.Native.Nat.{ℕ, ◌<◌, ◌≤◌}
@@ -76,18 +76,18 @@ module _ (s : List ℕ) where
   null_refused n e = rw e
 
   module _ (A : Accepts s) where
-    pub simple-yes : get_or s 0 0 < 0x2A → done true ≡ is_simple_built_in_type s
+    pub simple_yes : get_or s 0 0 < 0x2A → done true ≡ is_simple_built_in_type s
     unfolding is_simple_built_in_type ◌>>=◌
-    simple-yes h = rw (A.whole, (simple_cmd A.t (get_or s 0 0) (cmd_is type_levels s A.t A.stands)).0 h)
+    simple_yes h = rw (A.whole, (simple_cmd A.t (get_or s 0 0) (cmd_is type_levels s A.t A.stands)).0 h)
 
-    pub simple-no : 0x2A ≤ get_or s 0 0 → done false ≡ is_simple_built_in_type s
+    pub simple_no : 0x2A ≤ get_or s 0 0 → done false ≡ is_simple_built_in_type s
     unfolding is_simple_built_in_type ◌>>=◌
-    simple-no h = rw (A.whole, (simple_cmd A.t (get_or s 0 0) (cmd_is type_levels s A.t A.stands)).1 h)
+    simple_no h = rw (A.whole, (simple_cmd A.t (get_or s 0 0) (cmd_is type_levels s A.t A.stands)).1 h)
 
-    pub null-yes : get_or s 0 0 ≡ 0x29 → done true ≡ is_null s
+    pub null_yes : get_or s 0 0 ≡ 0x29 → done true ≡ is_null s
     unfolding is_null ◌>>=◌
-    null-yes h = rw (A.whole, (null_cmd A.t (get_or s 0 0) (cmd_is type_levels s A.t A.stands)).0 h)
+    null_yes h = rw (A.whole, (null_cmd A.t (get_or s 0 0) (cmd_is type_levels s A.t A.stands)).0 h)
 
-    pub null-no : (get_or s 0 0 ≡ 0x29 → ⊥) → done false ≡ is_null s
+    pub null_no : (get_or s 0 0 ≡ 0x29 → ⊥) → done false ≡ is_null s
     unfolding is_null ◌>>=◌
-    null-no h = rw (A.whole, (null_cmd A.t (get_or s 0 0) (cmd_is type_levels s A.t A.stands)).1 h)
+    null_no h = rw (A.whole, (null_cmd A.t (get_or s 0 0) (cmd_is type_levels s A.t A.stands)).1 h)

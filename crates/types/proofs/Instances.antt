@@ -1,5 +1,5 @@
 -- `instance_of`: types that are equal have equal bytes, and contexts are held against each other name by name.
--- Index: `front_bytes`, `same-type`, `other_type` (equal types and equal bytes); `unread`, `passes_test`, `same-or-null`, `neither-same`, `null_first` (`null_or_same`); `list_any`, `list_same`,
+-- Index: `front_bytes`, `same_type`, `other_type` (equal types and equal bytes); `unread`, `passes_test`, `same_or_null`, `neither_same`, `null_first` (`null_or_same`); `list_any`, `list_same`,
 -- `list_differ`, `list_short`, `list_apart`, `list_over` (`instance_list`); `instance_contexts`, `context_cut`, `context_short`, `context_apart`, `other_kinds`, `nothing_first`.
 -- Assumes nothing.
 use Prim.Native.Nat.{ℕ, suc, ◌-◌, ◌<◌, ◌≤◌}
@@ -91,8 +91,8 @@ module _ (l : ℕ) (a b : List ℕ) (x y : ℕ) (m : Met (types_by any_two (type
   passes_test test f = met_as (types_by any_two (type_at l a) (type_at l b)) x y (same_test size size test any_two (type_at l a) (type_at l b) f) m
 
   module _ (ba : Bytes a) (bb : Bytes b) where
-    pub same-type : take x a ≡ take y b → (t u : Ty) → type_at l a ≡ some t → type_at l b ≡ some u → t ≡ u
-    same-type h t u e f =
+    pub same_type : take x a ≡ take y b → (t u : Ty) → type_at l a ≡ some t → type_at l b ≡ some u → t ≡ u
+    same_type h t u e f =
         let A = front_bytes l a t ba e in
         let B = front_bytes l b u bb f in
         let n = sizes t u e f in
@@ -106,11 +106,11 @@ module _ (l : ℕ) (a b : List ℕ) (x y : ℕ) (m : Met (types_by any_two (type
         eq_false t u (λ s. h (ap (λ (k : ℕ). take k a) n.0 ∙ A.1 ∙ ap enc s ∙ sym B.1 ∙ ap (λ (k : ℕ). take k b) (sym n.1)))
 
     -- ---- `null_or_same`
-    pub same-or-null : take x a ≡ take y b → Met (types_by null_or_same (type_at l a) (type_at l b)) x y
-    same-or-null h = passes_test null_or_same (λ t u e f. ap (λ (q : Bool). eq_ty t (leaf null) || q) (ap (eq_ty t) (sym (same-type h t u e f)) ∙ eq_ty_self t) ∙ or_true (eq_ty t (leaf null)))
+    pub same_or_null : take x a ≡ take y b → Met (types_by null_or_same (type_at l a) (type_at l b)) x y
+    same_or_null h = passes_test null_or_same (λ t u e f. ap (λ (q : Bool). eq_ty t (leaf null) || q) (ap (eq_ty t) (sym (same_type h t u e f)) ∙ eq_ty_self t) ∙ or_true (eq_ty t (leaf null)))
 
-    pub neither-same : (get_or a 0 0 ≡ 0x29 → ⊥) → (take x a ≡ take y b → ⊥) → (t : ℕ) → Met (types_by null_or_same (type_at l a) (type_at l b)) 0 t
-    neither-same n d t = fails null_or_same l a b t (λ t u e f. ap₂ ◌||◌ ((null_eq t).1 (λ q. n (sym (cmd_is l a t e) ∙ q))) (other_type d t u e f))
+    pub neither_same : (get_or a 0 0 ≡ 0x29 → ⊥) → (take x a ≡ take y b → ⊥) → (t : ℕ) → Met (types_by null_or_same (type_at l a) (type_at l b)) 0 t
+    neither_same n d t = fails null_or_same l a b t (λ t u e f. ap₂ ◌||◌ ((null_eq t).1 (λ q. n (sym (cmd_is l a t e) ∙ q))) (other_type d t u e f))
 
   pub null_first : get_or a 0 0 ≡ 0x29 → Met (types_by null_or_same (type_at l a) (type_at l b)) x y
   null_first c = passes_test null_or_same (λ t u e f. ap (λ (q : Bool). q || eq_ty t u) ((null_eq t).0 (cmd_is l a t e ∙ c)))
@@ -208,22 +208,22 @@ module _ (a b : List ℕ) (c : get_or a 0 0 ≡ 0x2A) where
   list_apart h = no_answer (λ t u e f. differ t u (λ q. h (sym (cmd_is type_levels b u (there_b u f)) ∙ sym q ∙ cmd_is type_levels a t (there_a t e) ∙ c)))
 
   module _ (d : get_or b 0 0 ≡ 0x2A) where
-    both-lists : (t u : Ty) → read_type a ≡ done t → read_type b ≡ done u → Lists b t u
-    both-lists t u e f = lists type_levels a b c d t u (there_a t e) (there_b u f)
+    both_lists : (t u : Ty) → read_type a ≡ done t → read_type b ≡ done u → Lists b t u
+    both_lists t u e f = lists type_levels a b c d t u (there_a t e) (there_b u f)
 
     -- a list of Any has two bytes
     pub list_over : get_or b 1 0 ≡ 0x20 → (length b ≡ 2 → ⊥) → false ≡ Answer a b
     unfolding size
     list_over h n = no_answer (λ t u e f.
-        let L = both-lists t u e f in
+        let L = both_lists t u e f in
         let z = (le_any (reading_ends 0) L.y L.y (L.inner ∙ h)).0 in
         let g = whole_type.fills b u f in
         absurd (n (omega (arith, g.0, ap size L.is_b))))
 
     module _ (n : ℕ) (ne : n ≡ size_at (type_at type_levels a)) (short : length a ≤ most_bytes) (some-a : 0 < length a) where
       -- the first is no whole type
-      not-whole : eqb n (length a) ≡ false → false ≡ Answer a b
-      not-whole q = no_answer (λ t u e f. absurd (eqb-false n (length a) q (ne ∙ size_got (type_at type_levels a) t (there_a t e) ∙ (whole_type.fills a t e).0)))
+      not_whole : eqb n (length a) ≡ false → false ≡ Answer a b
+      not_whole q = no_answer (λ t u e f. absurd (eqb-false n (length a) q (ne ∙ size_got (type_at type_levels a) t (there_a t e) ∙ (whole_type.fills a t e).0)))
 
       first_read : eqb n (length a) ≡ true → (t : Ty) × (read_type a ≡ done t)
       first_read q =
@@ -236,7 +236,7 @@ module _ (a b : List ℕ) (c : get_or a 0 0 ≡ 0x2A) where
         where
           go : (q : Bool) → eqb n (length a) ≡ q → eqb n (length a) ≡ Answer a b
           go true q = q ∙ (let g = first_read q in f g.0 g.1)
-          go false q = q ∙ not-whole q
+          go false q = q ∙ not_whole q
 
       pub list_any : get_or b 1 0 ≡ 0x20 → length b ≡ 2 → eqb n (length a) ≡ Answer a b
       unfolding size map_o
@@ -247,15 +247,15 @@ module _ (a b : List ℕ) (c : get_or a 0 0 ≡ 0x2A) where
           let r : type_at type_levels b ≡ some (built (list (leaf z))) = node_list type_levels b (omega arith) some-b d
           ∙ ap (map_o (λ w. built (list w))) (read_simple (type_levels - 1) (drop 1 b) (omega arith) (simp length-drop (omega arith)) (omega arith) (omega arith)) in
           let f = whole_type.accepts b (built (list (leaf z))) r (sym k) (omega arith) in
-          sym (ap is_yes (both_read is_instance_of (read_type b) e f) ∙ list_of_any b t (built (list (leaf z))) (both-lists t (built (list (leaf z))) e f) h))
+          sym (ap is_yes (both_read is_instance_of (read_type b) e f) ∙ list_of_any b t (built (list (leaf z))) (both_lists t (built (list (leaf z))) e f) h))
 
       pub list_same : a ≡ b → eqb n (length a) ≡ Answer a b
       list_same s = by_first (λ t e.
           let f = ap read_type (sym s) ∙ e in
-          sym (ap is_yes (both_read is_instance_of (read_type b) e f) ∙ same_lists b t t (both-lists t t e f) refl))
+          sym (ap is_yes (both_read is_instance_of (read_type b) e f) ∙ same_lists b t t (both_lists t t e f) refl))
 
     pub list_differ : Bytes a → Bytes b → (get_or b 1 0 ≡ 0x20 → ⊥) → (a ≡ b → ⊥) → false ≡ Answer a b
-    list_differ ba bb n s = no_answer (λ t u e f. other_lists b t u (both-lists t u e f) n (λ q. s ((type_accepted a ba t e).bytes ∙ ap enc q ∙ sym (type_accepted b bb u f).bytes)))
+    list_differ ba bb n s = no_answer (λ t u e f. other_lists b t u (both_lists t u e f) n (λ q. s ((type_accepted a ba t e).bytes ∙ ap enc q ∙ sym (type_accepted b bb u f).bytes)))
 
 -- ---- the returns of `instance_context` and `is_instance`
 pub other_kinds : (a b : List ℕ) → (get_or a 0 0 ≡ 0x2A → ⊥) → (get_or a 0 0 ≡ 0x2C → ⊥) → false ≡ Answer a b

@@ -2,7 +2,7 @@
 -- The verdict on the whole is that on what is left of both, behind what was passed, whether it is read or not (`NamesGo`). What the first list is made
 -- of, and what a common name is held to, are told by two records (`Run`, `Tests`), so that every such loop cites the same laws.
 -- Index: `Run`, `Tests`, `fields_run`, `named_on`, `readable_type` (what is given); `NamesGo`, `names_start`, `names_done`, `names_left` (start and end); `cut_a`, `cut_b`, `falls_a`
--- (a name at fault); `names-missing`, `names-unread`, `names-skip` (a name of one list only); `names-common`, `names_apart`, `b-more` (a common name).
+-- (a name at fault); `names_missing`, `names_unread`, `names_skip` (a name of one list only); `names_common`, `names_apart`, `b_more` (a common name).
 -- Assumes nothing.
 use Prim.Native.Nat.{ℕ, suc, ◌+◌, ◌-◌, ◌<◌, ◌≤◌}
 use mathlib.Core.Path.{◌≡◌, refl, sym, ap, ap₂, subst, ◌∙◌}
@@ -160,19 +160,19 @@ module _ {X N : Type 0} {sx : X → ℕ} {sn : N → ℕ} {one : List ℕ → Op
   module _ (h : i < n) (w : at + name_width ≤ length a) (name next : ℕ) (ne : name ≡ num_at name_width at a) (above : least ≤ name) (small : name < name_end)
       (ye : next ≡ cond (ltb j m) (num_at name_width bt b) name_end) where
     -- a name of the second that the first lacks
-    pub names-missing : next < name → Met (add_sizes k k whole) 0 t
-    names-missing q = names_no (λ fs gs e f.
+    pub names_missing : next < name → Met (add_sizes k k whole) 0 t
+    names_missing q = names_no (λ fs gs e f.
         let E = next_is j m (num_at name_width bt b) next ye (omega arith) in
         let A = at_a h fs e in
         let B = at_b E.0 gs f in
         ap₂ all A.is B.is ∙ v.tests.missing A.name A.x A.more B.name B.x B.more A.asc (omega (arith, A.named, B.named, E.1, ne)))
 
     -- a name of the first that the second lacks: what stands behind it is passed over
-    pub names-unread : ((x : X) → one (drop (at + name_width) a) ≡ some x → ⊥) → Met (add_sizes k k whole) 0 t
-    names-unread u = names_no (λ fs gs f g. absurd (let A = at_a h fs f in u A.x A.first))
+    pub names_unread : ((x : X) → one (drop (at + name_width) a) ≡ some x → ⊥) → Met (add_sizes k k whole) 0 t
+    names_unread u = names_no (λ fs gs f g. absurd (let A = at_a h fs f in u A.x A.first))
 
-    pub names-skip : name < next → (z : ℕ) → Sized sx one (drop (at + name_width) a) z → NamesGo sx sn one many nil cons Asc test all l whole a n b m (at + name_width + z) (name + 1) (i + 1) bt j
-    names-skip q z S =
+    pub names_skip : name < next → (z : ℕ) → Sized sx one (drop (at + name_width) a) z → NamesGo sx sn one many nil cons Asc test all l whole a n b m (at + name_width + z) (name + 1) (i + 1) bt j
+    names_skip q z S =
         let A = many (n - (i + 1)) (name + 1) (drop (at + name_width + z) a) in
         let B = fields_at l (m - j) v.least_b (drop bt b) in
         let ea : many (n - i) least (drop at a) ≡ map_o (cons name S.x) A = entry_at v.run i n at least a name S.x h w ne above S.read
@@ -198,32 +198,32 @@ module _ {X N : Type 0} {sx : X → ℕ} {sn : N → ℕ} {one : List ℕ → Op
 
     -- a common name
     module _ (lo : next ≤ name) (hi : name ≤ next) where
-      pub b-more : j < m
-      b-more = (next_is j m (num_at name_width bt b) next ye (omega arith)).0
+      pub b_more : j < m
+      b_more = (next_is j m (num_at name_width bt b) next ye (omega arith)).0
 
-      b-named : name ≡ num_at name_width bt b
-      b-named = omega (arith, (next_is j m (num_at name_width bt b) next ye (omega arith)).1)
+      b_named : name ≡ num_at name_width bt b
+      b_named = omega (arith, (next_is j m (num_at name_width bt b) next ye (omega arith)).1)
 
       pub names_apart : (r s : ℕ) → MetAt v.run.readable (readable_type l) test a (at + name_width) b (bt + name_width) r s → r ≡ 0 → Met (add_sizes k k whole) 0 t
       names_apart r s e z = names_no (λ fs gs f g.
           let A = at_a h fs f in
-          let B = at_b b-more gs g in
-          let same : B.name ≡ A.name = omega (arith, A.named, B.named, ne, b-named) in
+          let B = at_b b_more gs g in
+          let same : B.name ≡ A.name = omega (arith, A.named, B.named, ne, b_named) in
           ap₂ all A.is (B.is ∙ ap (λ x. field x B.x B.more) same)
           ∙ v.tests.common A.name A.x B.x A.more B.more (subst (λ (x : ℕ). AscFields B.more (suc x)) same B.asc)
           ∙ ap (λ x. x && all A.more B.more) (pair_no v.run.readable (readable_type l) test a (at + name_width) b (bt + name_width) r s e z A.x B.x
           A.first B.first))
 
-      pub names-common : bt + name_width ≤ length b → (r s : ℕ) → Pair v.run.readable (readable_type l) test a (at + name_width) b (bt + name_width) r s
+      pub names_common : bt + name_width ≤ length b → (r s : ℕ) → Pair v.run.readable (readable_type l) test a (at + name_width) b (bt + name_width) r s
           → NamesGo sx sn one many nil cons Asc test all l whole a n b m (at + name_width + r) (name + 1) (i + 1) (bt + name_width + s) (j + 1)
-      names-common u r s P =
-          let jm = b-more in
+      names_common u r s P =
+          let jm = b_more in
           let I = pair_in v.run.readable (readable_type l) test a (at + name_width) b (bt + name_width) r s w u P in
           let A = many (n - (i + 1)) (name + 1) (drop (at + name_width + r) a) in
           let B = fields_at l (m - (j + 1)) (name + 1) (drop (bt + name_width + s) b) in
           let ea : many (n - i) least (drop at a) ≡ map_o (cons name P.x) A = entry_at v.run i n at least a name P.x h w ne above P.read_a
           ∙ ap (λ x. map_o (cons name P.x) (many (n - (i + 1)) (name + 1) (drop (at + name_width + x) a))) (sym P.size_a) in
-          let eb : fields_at l (m - j) v.least_b (drop bt b) ≡ map_o (field name P.y) B = entry_at (fields_run l) j m bt v.least_b b name P.y jm u b-named (omega (arith, v.under))
+          let eb : fields_at l (m - j) v.least_b (drop bt b) ≡ map_o (field name P.y) B = entry_at (fields_run l) j m bt v.least_b b name P.y jm u b_named (omega (arith, v.under))
           P.read_b ∙ ap (λ x. map_o (field name P.y) (fields_at l (m - (j + 1)) (name + 1) (drop (bt + name_width + x) b))) (sym P.size_b) in
           let sa = P.size_a in
           let sb = P.size_b in

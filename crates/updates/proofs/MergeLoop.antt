@@ -1,7 +1,7 @@
 -- The loop that merges two contexts, their names taken in step: what is left of both, and what was written of the answer.
 -- Idea: what was written and the merge of what is left make the bytes of the whole merge, and their levels its level (`Joining`).
--- Index: `Left`, `Seen`, `name_in`, `end-in`, `entry-bytes`, `entry-long` (what is left); `Joining`, `joining_starts`, `joining_kept`, `joining_few`, `joining_shallow`, `joining-done` (the loop);
--- `Passes`, `passed` (what the pass tells); `own-next`, `new-next`, `new-passed`, `both-next`, `entry_room` (a turn).
+-- Index: `Left`, `Seen`, `name_in`, `end_in`, `entry_bytes`, `entry_long` (what is left); `Joining`, `joining_starts`, `joining_kept`, `joining_few`, `joining_shallow`, `joining_done` (the loop);
+-- `Passes`, `passed` (what the pass tells); `own_next`, `new_next`, `new_passed`, `both_next`, `entry_room` (a turn).
 -- Assumes nothing.
 use Prim.Native.Nat.{ℕ, suc, ◌+◌, ◌-◌, ◌*◌, ◌/◌, ◌%◌, ◌<◌, ◌≤◌, ◌^◌, max}
 use native.Mathlib.Omega.{arith}
@@ -60,8 +60,8 @@ Seen s n at i x = (x ≡ cond (ltb i n) (num_at name_width at s) name_end) × ((
 
 module _ {l : ℕ} {s : List ℕ} {n at i : ℕ} {es : Entries} (L : Left l s n at i es) where
   module _ {x : ℕ} (X : Seen s n at i x) where
-    left-above : (y : ℕ) → y < x → From (suc y) es
-    left-above y h = above (l - 1) i n at L.least s es L.read x y X.0 h
+    left_above : (y : ℕ) → y < x → From (suc y) es
+    left_above y h = above (l - 1) i n at L.least s es L.read x y X.0 h
 
     left_ended : x ≡ name_end → es ≡ no_entries
     left_ended e = none_left (l - 1) i n at L.least s es (at_end_lem i n x X.1.1 e) L.read
@@ -73,36 +73,36 @@ module _ {l : ℕ} {s : List ℕ} {n at i : ℕ} {es : Entries} (L : Left l s n 
     pub name_in : at + name_width ≤ length s
     name_in = A.two
 
-    left-name : {x : ℕ} → Seen s n at i x → x < name_end → x ≡ A.name
-    left-name {x} X b = (next_is i n (num_at name_width at s) x X.0 b).1 ∙ sym A.named
+    left_name : {x : ℕ} → Seen s n at i x → x < name_end → x ≡ A.name
+    left_name {x} X b = (next_is i n (num_at name_width at s) x X.0 b).1 ∙ sym A.named
 
     module _ (z : ℕ) (e : z ≡ size_at_v (value_at (l - 1) (behind (at + name_width) s))) where
       skipped : z ≡ size_val A.x
       skipped = e ∙ ap (λ (r : List ℕ). size_at_v (value_at (l - 1) r)) (rest s (at + name_width)) ∙ size_got (value_at (l - 1) (drop (at + name_width) s)) A.x A.first
 
-      pub end-in : at + name_width + z ≤ length s
-      end-in = omega (arith, A.fits, skipped)
+      pub end_in : at + name_width + z ≤ length s
+      end_in = omega (arith, A.fits, skipped)
 
-      left-next : Left l s n (at + name_width + z) (i + 1) A.more
-      left-next =
+      left_next : Left l s n (at + name_width + z) (i + 1) A.more
+      left_next =
           record {
             least = suc A.name;
             upto = omega arith;
-            inside = end-in;
+            inside = end_in;
             read = ap (λ (q : ℕ). entries_at (l - 1) (n - (i + 1)) (suc A.name) (drop (at + name_width + q) s)) skipped ∙ A.second;
           }
 
       -- its bytes
-      abbrev pub entry-bytes : List ℕ
-      entry-bytes = take (at + name_width + z - at) (drop at s)
+      abbrev pub entry_bytes : List ℕ
+      entry_bytes = take (at + name_width + z - at) (drop at s)
 
-      pub entry-long : length entry-bytes ≡ name_width + z
-      entry-long =
+      pub entry_long : length entry_bytes ≡ name_width + z
+      entry_long =
           let k : at + name_width + z - at ≡ name_width + z = omega arith in
-          let b : name_width + z ≤ length (drop at s) = omega (arith, length-drop at s, end-in) in
+          let b : name_width + z ≤ length (drop at s) = omega (arith, length-drop at s, end_in) in
           ap (λ (q : ℕ). length (take q (drop at s))) k ∙ length-take-le (name_width + z) (drop at s) b
 
-      entry_text_lem : Bytes s → entry-bytes ≡ bytes name_width A.name ++ enc_v A.x
+      entry_text_lem : Bytes s → entry_bytes ≡ bytes name_width A.name ++ enc_v A.x
       entry_text_lem bs =
           let N = bytes name_width A.name in
           let k : at + name_width + z - at ≡ length N + z = omega (arith, length_bytes name_width A.name) in
@@ -235,19 +235,19 @@ module _ {all : Bool} {l : ℕ} {c o : List ℕ} {n m : ℕ} {mid out : List ℕ
     abbrev e : z ≡ size_at_v (value_at (l - 1) (behind (p + name_width) s))
     e = passed l s p T
 
-    pub entry_room : length s ≤ most_bytes → to + length (entry-bytes L h z e) < 2 ^ 64
-    entry_room b = omega (arith, entry-long L h z e, end-in L h z e, short)
+    pub entry_room : length s ≤ most_bytes → to + length (entry_bytes L h z e) < 2 ^ 64
+    entry_room b = omega (arith, entry_long L h z e, end_in L h z e, short)
 
-    entry-joined : {at' i'' bt' j'' : ℕ} {es gs : Entries} → Left l c n at' i'' es → Left l o m bt' j'' gs → at + bt + (name_width + z) ≤ at' + bt'
+    entry_joined : {at' i'' bt' j'' : ℕ} {es gs : Entries} → Left l c n at' i'' es → Left l o m bt' j'' gs → at + bt + (name_width + z) ≤ at' + bt'
         → merged all Q.es Q.gs ≡ entry (A L h).name (A L h).x (merged all es gs)
-        → Bytes s → (new : List ℕ) (t d : ℕ) → t ≡ to + length (entry-bytes L h z e) → new ≡ puts to (entry-bytes L h z e) out → d ≡ max deep v
+        → Bytes s → (new : List ℕ) (t d : ℕ) → t ≡ to + length (entry_bytes L h z e) → new ≡ puts to (entry_bytes L h z e) out → d ≡ max deep v
         → Joining all l c o n m mid new at' i'' bt' j'' t (k + 1) d
     unfolding level_entries
-    entry-joined {es = es} {gs = gs} C O more step bs new t d et en ed =
-        let b = entry-bytes L h z e in
+    entry_joined {es = es} {gs = gs} C O more step bs new t d et en ed =
+        let b = entry_bytes L h z e in
         let lv = level_told (l - 1) (behind (p + name_width) s) (length (behind (p + name_width) s)) z v (A L h).x T
         (ap (value_at (l - 1)) (rest s (p + name_width)) ∙ (A L h).first) in
-        let y = entry-long L h z e in
+        let y = entry_long L h z e in
         record {
           both = Q.both;
           es = es;
@@ -265,52 +265,52 @@ module _ {all : Bool} {l : ℕ} {c o : List ℕ} {n m : ℕ} {mid out : List ℕ
   module _ {x y : ℕ} (X : Seen c n at i x) (Y : Seen o m bt j y) where
     -- ---- a name that the other lacks
     module _ (h : x < y) where
-      pub own-more : i < n
-      own-more = (next_is i n (num_at name_width at c) x X.0 (omega (arith, Y.1.0))).0
+      pub own_more : i < n
+      own_more = (next_is i n (num_at name_width at c) x X.0 (omega (arith, Y.1.0))).0
 
-      pub own-next : (z v : ℕ) (T : Passes l c at z v) → Bytes c → (new : List ℕ) (t d : ℕ)
-          → t ≡ to + length (entry-bytes Q.left_c own-more z (passed l c at T)) → new ≡ puts to (entry-bytes Q.left_c own-more z (passed l c at T)) out → d ≡ max deep v
+      pub own_next : (z v : ℕ) (T : Passes l c at z v) → Bytes c → (new : List ℕ) (t d : ℕ)
+          → t ≡ to + length (entry_bytes Q.left_c own_more z (passed l c at T)) → new ≡ puts to (entry_bytes Q.left_c own_more z (passed l c at T)) out → d ≡ max deep v
           → Joining all l c o n m mid new (at + name_width + z) (i + 1) bt j t (k + 1) d
-      own-next z v T =
+      own_next z v T =
           let L = Q.left_c in
-          let E = A L own-more in
-          let named : x ≡ E.name = left-name L own-more X (omega (arith, Y.1.0)) in
-          let f : From (suc E.name) Q.gs = subst (λ (q : ℕ). From (suc q) Q.gs) named (left-above Q.left_o Y x h) in
-          entry-joined L own-more z v T (left-next L own-more z (passed l c at T)) Q.left_o (omega arith)
+          let E = A L own_more in
+          let named : x ≡ E.name = left_name L own_more X (omega (arith, Y.1.0)) in
+          let f : From (suc E.name) Q.gs = subst (λ (q : ℕ). From (suc q) Q.gs) named (left_above Q.left_o Y x h) in
+          entry_joined L own_more z v T (left_next L own_more z (passed l c at T)) Q.left_o (omega arith)
           (ap (λ q. merged all q Q.gs) E.is ∙ merged_own all E.name E.x E.more Q.gs f)
 
     -- ---- a name that only the other has
     module _ (h : y < x) where
-      pub new-more : j < m
-      new-more = (next_is j m (num_at name_width bt o) y Y.0 (omega (arith, X.1.0))).0
+      pub new_more : j < m
+      new_more = (next_is j m (num_at name_width bt o) y Y.0 (omega (arith, X.1.0))).0
 
       abbrev O : This (l - 1) (m - (j + 1)) bt Q.left_o.least o Q.gs
-      O = A Q.left_o new-more
+      O = A Q.left_o new_more
 
-      own-above : From (suc O.name) Q.es
-      own-above =
-          let named : y ≡ O.name = left-name Q.left_o new-more Y (omega (arith, X.1.0)) in
-          subst (λ (q : ℕ). From (suc q) Q.es) named (left-above Q.left_c X y h)
+      own_above : From (suc O.name) Q.es
+      own_above =
+          let named : y ≡ O.name = left_name Q.left_o new_more Y (omega (arith, X.1.0)) in
+          subst (λ (q : ℕ). From (suc q) Q.es) named (left_above Q.left_c X y h)
 
       module _ (z v : ℕ) (T : Passes l o bt z v) where
         -- it is inserted
-        pub new-next : all ≡ true → Bytes o → (new : List ℕ) (t d : ℕ)
-            → t ≡ to + length (entry-bytes Q.left_o new-more z (passed l o bt T)) → new ≡ puts to (entry-bytes Q.left_o new-more z (passed l o bt T)) out → d ≡ max deep v
+        pub new_next : all ≡ true → Bytes o → (new : List ℕ) (t d : ℕ)
+            → t ≡ to + length (entry_bytes Q.left_o new_more z (passed l o bt T)) → new ≡ puts to (entry_bytes Q.left_o new_more z (passed l o bt T)) out → d ≡ max deep v
             → Joining all l c o n m mid new at i (bt + name_width + z) (j + 1) t (k + 1) d
-        new-next a =
-            entry-joined Q.left_o new-more z v T Q.left_c (left-next Q.left_o new-more z (passed l o bt T)) (omega arith)
-            (ap (merged all Q.es) O.is ∙ merged_new all O.name O.x Q.es O.more a own-above O.asc)
+        new_next a =
+            entry_joined Q.left_o new_more z v T Q.left_c (left_next Q.left_o new_more z (passed l o bt T)) (omega arith)
+            (ap (merged all Q.es) O.is ∙ merged_new all O.name O.x Q.es O.more a own_above O.asc)
 
         -- or passed over
-        pub new-passed : all ≡ false → Joining all l c o n m mid out at i (bt + name_width + z) (j + 1) to k deep
-        new-passed a =
-            let step = ap (merged all Q.es) O.is ∙ merged_passed all O.name O.x Q.es O.more a own-above in
+        pub new_passed : all ≡ false → Joining all l c o n m mid out at i (bt + name_width + z) (j + 1) to k deep
+        new_passed a =
+            let step = ap (merged all Q.es) O.is ∙ merged_passed all O.name O.x Q.es O.more a own_above in
             record {
               both = Q.both;
               es = Q.es;
               gs = O.more;
               left_c = Q.left_c;
-              left_o = left-next Q.left_o new-more z (passed l o bt T);
+              left_o = left_next Q.left_o new_more z (passed l o bt T);
               done = Q.done;
               wrote = Q.wrote;
               low = omega (arith, Q.low);
@@ -325,29 +325,29 @@ module _ {all : Bool} {l : ℕ} {c o : List ℕ} {n m : ℕ} {mid out : List ℕ
         below_end : x < name_end
         below_end = omega (arith, X.1.0)
 
-        pub both-c : i < n
-        both-c = (next_is i n (num_at name_width at c) x X.0 below_end).0
+        pub both_c : i < n
+        both_c = (next_is i n (num_at name_width at c) x X.0 below_end).0
 
-        pub both-o : j < m
-        both-o = (next_is j m (num_at name_width bt o) y Y.0 (omega (arith, below_end))).0
+        pub both_o : j < m
+        both_o = (next_is j m (num_at name_width bt o) y Y.0 (omega (arith, below_end))).0
 
-        pub both-next : (u : ℕ) → u ≡ size_at_v (value_at (l - 1) (behind (at + name_width) c)) → (z v : ℕ) (T : Passes l o bt z v) → Bytes o → (new : List ℕ) (t d : ℕ)
-            → t ≡ to + length (entry-bytes Q.left_o both-o z (passed l o bt T)) → new ≡ puts to (entry-bytes Q.left_o both-o z (passed l o bt T)) out → d ≡ max deep v
+        pub both_next : (u : ℕ) → u ≡ size_at_v (value_at (l - 1) (behind (at + name_width) c)) → (z v : ℕ) (T : Passes l o bt z v) → Bytes o → (new : List ℕ) (t d : ℕ)
+            → t ≡ to + length (entry_bytes Q.left_o both_o z (passed l o bt T)) → new ≡ puts to (entry_bytes Q.left_o both_o z (passed l o bt T)) out → d ≡ max deep v
             → Joining all l c o n m mid new (at + name_width + u) (i + 1) (bt + name_width + z) (j + 1) t (k + 1) d
-        both-next u f z v T =
-            let E = A Q.left_c both-c in
-            let G = A Q.left_o both-o in
-            let p : x ≡ E.name = left-name Q.left_c both-c X below_end in
-            let q : y ≡ G.name = left-name Q.left_o both-o Y (omega (arith, below_end)) in
+        both_next u f z v T =
+            let E = A Q.left_c both_c in
+            let G = A Q.left_o both_o in
+            let p : x ≡ E.name = left_name Q.left_c both_c X below_end in
+            let q : y ≡ G.name = left_name Q.left_o both_o Y (omega (arith, below_end)) in
             let same : E.name ≡ G.name = omega arith in
-            entry-joined Q.left_o both-o z v T (left-next Q.left_c both-c u f) (left-next Q.left_o both-o z (passed l o bt T)) (omega arith)
+            entry_joined Q.left_o both_o z v T (left_next Q.left_c both_c u f) (left_next Q.left_o both_o z (passed l o bt T)) (omega arith)
             (ap₂ (merged all) (E.is ∙ ap (λ (r : ℕ). entry r E.x E.more) same) G.is ∙ merged_both all G.name E.x G.x E.more G.more G.asc)
 
       -- ---- both at their end
-      pub joining-done : x ≡ name_end → (p q : ℕ) → p ≡ k % 256 → q ≡ k / 256 → (old new : List ℕ) (t : ℕ) → mid ≡ fill (take 3 c) old → new ≡ fill (11 ∷ p ∷ q ∷ []) out
+      pub joining_done : x ≡ name_end → (p q : ℕ) → p ≡ k % 256 → q ≡ k / 256 → (old new : List ℕ) (t : ℕ) → mid ≡ fill (take 3 c) old → new ≡ fill (11 ∷ p ∷ q ∷ []) out
           → t ≡ deep + 1 → Merges all (context_at l c) (context_at l o) old new to t
       unfolding level_v level_entries
-      joining-done d p q ep eq old new t em en et =
+      joining_done d p q ep eq old new t em en et =
           let B = Q.both in
           let y-end : y ≡ name_end = omega arith in
           let head : length (take 3 c) ≡ 3 = length-take-le 3 c B.ctx_c.three in

@@ -205,13 +205,13 @@ module _ (n : ℕ) (q : List ℕ) (es : Entries) (w : WfV (v_context es)) where
     abbrev at : ℕ
     at = entry_place n es
 
-    lies-here : count_after text (cut_here at gone old) ≤ count_entries es + 1 → Lies text (n ∷ q) (cut_here at gone old)
-    lies-here h = record { front = omega (arith, A.low); end = A.inside; some_name = omega arith; names = omega arith; few = omega (arith, h, count_size es, read.all) }
+    lies_here : count_after text (cut_here at gone old) ≤ count_entries es + 1 → Lies text (n ∷ q) (cut_here at gone old)
+    lies_here h = record { front = omega (arith, A.low); end = A.inside; some_name = omega arith; names = omega arith; few = omega (arith, h, count_size es, read.all) }
 
-    spliced-here : (x : Val) → count_after text (cut_here at gone old) ≡ count_entries (insert n (made q x) es)
+    spliced_here : (x : Val) → count_after text (cut_here at gone old) ≡ count_entries (insert n (made q x) es)
         → spliced text (cut_here at gone old) (n ∷ q) (enc_v x) ≡ enc_v (v_context (insert n (made q x) es))
     unfolding spliced opened begun
-    spliced-here x e =
+    spliced_here x e =
         let count = count_after text (cut_here at gone old) in
         let z : at - 0 ≡ at = omega arith in
         let last = bytes name_width n ++ (enc_v (made q x) ++ enc_entries (above n es)) in
@@ -272,12 +272,12 @@ cut_lies (n ∷ q) es w d = by (λ fs h f. cut_lies q fs h f) (step n q es)
     there : (v : Val) → value_of n es ≡ some v → cut_of (n ∷ q) (v_context es) ≡ cut_here (entry_place n es) (name_width + size_val v) (level_v v)
         → Lies (enc_v (v_context es)) (n ∷ q) (cut_of (n ∷ q) (v_context es))
     there v e c = subst (λ k. Lies (enc_v (v_context es)) (n ∷ q) k) (sym c)
-        (lies-here n q es w (name_width + size_val v) (level_v v) (around_there n q es w v e) (omega (arith, count_there n q es w v (level_v v))))
+        (lies_here n q es w (name_width + size_val v) (level_v v) (around_there n q es w v e) (omega (arith, count_there n q es w v (level_v v))))
 
     by : ((fs : Entries) → WfV (v_context fs) → (q ≡ [] → ⊥) → Lies (enc_v (v_context fs)) q (cut_of q (v_context fs))) → Step n q es
         → Lies (enc_v (v_context es)) (n ∷ q) (cut_of (n ∷ q) (v_context es))
     by ih (fresh e) = subst (λ k. Lies (enc_v (v_context es)) (n ∷ q) k) (sym (cut_new n q es e))
-        (lies-here n q es w 0 0 (around_new n q es w e) (omega (arith, count_text n q es w)))
+        (lies_here n q es w 0 0 (around_new n q es w e) (omega (arith, count_text n q es w)))
     by ih (ends v e f) = there v e (cut_ends n q es v e f)
     by ih (stuck v e f g) = there v e (cut_stuck n q es v e g)
     by ih (inside fs e f) =
@@ -297,7 +297,7 @@ spliced_is (n ∷ q) x es w d = by (λ fs h f. spliced_is q x fs h f) (step n q 
         → spliced (enc_v (v_context es)) (cut_of (n ∷ q) (v_context es)) (n ∷ q) (enc_v x) ≡ enc_v (v_context (create (n ∷ q) x es))
     there v e c m =
         ap (λ k. spliced (enc_v (v_context es)) k (n ∷ q) (enc_v x)) c
-        ∙ spliced-here n q es w (name_width + size_val v) (level_v v) (around_there n q es w v e) x
+        ∙ spliced_here n q es w (name_width + size_val v) (level_v v) (around_there n q es w v e) x
         (count_there n q es w v (level_v v) ∙ sym (count_same n 0 es (well n q es w) (made q x) v e))
         ∙ sym (ap (λ z. enc_v (v_context z)) m)
 
@@ -305,7 +305,7 @@ spliced_is (n ∷ q) x es w d = by (λ fs h f. spliced_is q x fs h f) (step n q 
         → spliced (enc_v (v_context es)) (cut_of (n ∷ q) (v_context es)) (n ∷ q) (enc_v x) ≡ enc_v (v_context (create (n ∷ q) x es))
     by ih (fresh e) =
         ap (λ k. spliced (enc_v (v_context es)) k (n ∷ q) (enc_v x)) (cut_new n q es e)
-        ∙ spliced-here n q es w 0 0 (around_new n q es w e) x (ap (λ (i : ℕ). i + 1) (count_text n q es w) ∙ sym (count_new n 0 es (well n q es w) (made q x) e))
+        ∙ spliced_here n q es w 0 0 (around_new n q es w e) x (ap (λ (i : ℕ). i + 1) (count_text n q es w) ∙ sym (count_new n 0 es (well n q es w) (made q x) e))
         ∙ sym (ap (λ z. enc_v (v_context z)) (create_made n q x es (ap (λ o. bind o entries_of) e)))
     by ih (ends v e f) = there v e (cut_ends n q es v e f) (create_ends n q x es f)
     by ih (stuck v e f g) = there v e (cut_stuck n q es v e g) (create_made n q x es (ap (λ o. bind o entries_of) e ∙ g))

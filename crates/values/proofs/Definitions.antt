@@ -1,7 +1,7 @@
 -- A function definition against a function type: each own parameter to the target's (strict, the other way round), result to result. The definition was read,
 -- with one level less than the type has; what is left of the type decides, whether it is read or not.
--- Index: `DefinitionGo`, `definition_start`, `name_there`, `param-turn`, `param-apart`, `param-fits`, `result-yes`, `result-apart`, `result_fits` (the loop);
--- `parameter_plain`, `parameter-apart`, `parameter-swapped` (`conform_parameter`); `definition_bytes`, `definition_ok`, `definition-counts`, `met-definition` (in `conform_other`);
+-- Index: `DefinitionGo`, `definition_start`, `name_there`, `param_turn`, `param_apart`, `param_fits`, `result_yes`, `result_apart`, `result_fits` (the loop);
+-- `parameter_plain`, `parameter_apart`, `parameter_swapped` (`conform_parameter`); `definition_bytes`, `definition_ok`, `definition_counts`, `met_definition` (in `conform_other`);
 -- `type_up` (more levels).
 -- Assumes nothing.
 use Prim.Native.Nat.{ℕ, ◌+◌, ◌-◌, ◌<◌, ◌≤◌}
@@ -23,7 +23,7 @@ use Rattle.order.specs.Types.{cmp, cmps, le}
 use Rattle.order.specs.Size.{size, size_params, size_val}
 use Rattle.order.specs.Values.{types_of, conforms}
 use Rattle.order.proofs.Bools.{and_assoc}
-use Rattle.order.proofs.Conform.{cmp-flip}
+use Rattle.order.proofs.Conform.{cmp_flip}
 use Rattle.order.proofs.Size.{size_positive}
 use Rattle.types.specs.At.{type_at, Sig, sig, cons, fun_of, size_sig, sig_at, size_at, Ok}
 use Rattle.types.specs.Conform.{Conform, judge, conform_by, types_by, conform_of, add_sizes, Met}
@@ -54,15 +54,15 @@ module _ (O : Order) (l : ℕ) (v t : List ℕ) (r s : ℕ) where
   -- strict: the target's was held to the own one
   module _ (e : O.strict ≡ true) (w : Met (conform_of O (type_at l t) (type_at l v)) r s) where
     turned : (a b : Ty) → cmp O (parameter_way O) a b ≡ le O b a
-    turned a b = ap (λ q. cmp O (cond q down up) a b) e ∙ cmp-flip O up a b
+    turned a b = ap (λ q. cmp O (cond q down up) a b) e ∙ cmp_flip O up a b
 
-    pub parameter-apart : r ≡ 0 → (u : ℕ) → Met (types_by (cmp O (parameter_way O)) (type_at l v) (type_at l t)) 0 u
-    parameter-apart z u =
+    pub parameter_apart : r ≡ 0 → (u : ℕ) → Met (types_by (cmp O (parameter_way O)) (type_at l v) (type_at l t)) 0 u
+    parameter_apart z u =
         met_no 0 u (no_when size size (cmp O (parameter_way O)) (type_at l v) (type_at l t) (λ a b f g.
         turned a b ∙ told_no size size (le O) size_positive r s w b a g f z)) refl
 
-    pub parameter-swapped : (r ≡ 0 → ⊥) → Met (types_by (cmp O (parameter_way O)) (type_at l v) (type_at l t)) s r
-    parameter-swapped z =
+    pub parameter_swapped : (r ≡ 0 → ⊥) → Met (types_by (cmp O (parameter_way O)) (type_at l v) (type_at l t)) s r
+    parameter_swapped z =
         let B = taken size size (le O) (type_at l t) (type_at l v) r s (yes_of (conform_of O (type_at l t) (type_at l v)) r s w z) in
         met_yes (both size size (cmp O (parameter_way O)) (type_at l v) (type_at l t) B.y B.x B.read_b B.read_a
         ∙ ap (λ q. judge q (size B.y) (size B.x)) (turned B.y B.x ∙ B.holds)) B.size_b B.size_a
@@ -124,8 +124,8 @@ module _ {O : Order} {l m : ℕ} {whole : Conform} {v t : List ℕ} {count at bt
   name_there h = (own h).two
 
   module _ (h : i < count) (x y : ℕ) where
-    pub param-apart : MetAt (readable_type m) (readable_type m) (cmp O (parameter_way O)) v (at + name_width) t bt x y → x ≡ 0 → (u : ℕ) → Met (add_sizes 4 2 whole) 0 u
-    param-apart w z u = met_no 0 u (ap (add_sizes 4 2) (I.goes ∙ ap (add_sizes at bt) (no_when size_params size_sig (left_conforms O I.r) (some I.ps) (sig_at m (count - i) (drop bt t)) (λ qs f e g.
+    pub param_apart : MetAt (readable_type m) (readable_type m) (cmp O (parameter_way O)) v (at + name_width) t bt x y → x ≡ 0 → (u : ℕ) → Met (add_sizes 4 2 whole) 0 u
+    param_apart w z u = met_no 0 u (ap (add_sizes 4 2) (I.goes ∙ ap (add_sizes at bt) (no_when size_params size_sig (left_conforms O I.r) (some I.ps) (sig_at m (count - i) (drop bt t)) (λ qs f e g.
         let A = own h in
         let B = param_at m i count bt t f h I.in_t g in
         ap₂ (left_conforms O I.r) (sym (some_same e) ∙ A.is) B.is ∙ left_cons O I.r A.name A.x A.more B.x B.more
@@ -133,12 +133,12 @@ module _ {O : Order} {l m : ℕ} {whole : Conform} {v t : List ℕ} {count at bt
         B.first))))) refl
 
     module _ (P : Pair (readable_type m) (readable_type m) (cmp O (parameter_way O)) v (at + name_width) t bt x y) where
-      pub param-fits : (at + name_width + x ≤ length v) × (bt + y ≤ length t)
-      param-fits = pair_in (readable_type m) (readable_type m) (cmp O (parameter_way O)) v (at + name_width) t bt x y (own h).two I.in_t P
+      pub param_fits : (at + name_width + x ≤ length v) × (bt + y ≤ length t)
+      param_fits = pair_in (readable_type m) (readable_type m) (cmp O (parameter_way O)) v (at + name_width) t bt x y (own h).two I.in_t P
 
-      pub param-turn : DefinitionGo O l m whole v t count (at + name_width + x) (bt + y) (i + 1)
+      pub param_turn : DefinitionGo O l m whole v t count (at + name_width + x) (bt + y) (i + 1)
       unfolding size_params map_o params_at
-      param-turn =
+      param_turn =
           let A = own h in
           let S = sig_at m (count - (i + 1)) (drop (bt + y) t) in
           let a : P.x ≡ A.x = some_same (sym P.read_a ∙ own_first h) in
@@ -151,8 +151,8 @@ module _ {O : Order} {l m : ℕ} {whole : Conform} {v t : List ℕ} {count at bt
             ps = A.more;
             more = I.more;
             below = omega arith;
-            in_v = param-fits.0;
-            in_t = param-fits.1;
+            in_v = param_fits.0;
+            in_t = param_fits.1;
             read_r = I.read_r;
             read_v_lem = ap (λ k. params_at l (count - (i + 1)) (drop (at + name_width + k) v)) xa ∙ A.second;
             goes = I.goes ∙ ap (add_sizes at bt) (ap₂ (conform_by size_params size_sig (left_conforms O I.r)) (ap some A.is) e
@@ -171,9 +171,9 @@ module _ {O : Order} {l m : ℕ} {whole : Conform} {v t : List ℕ} {count at bt
     last : I.ps ≡ no_parameters
     last = no_parameter l (drop at v) I.ps (ap (λ n. params_at l n (drop at v)) (sym no_more) ∙ I.read_v_lem)
 
-    pub result-apart : x ≡ 0 → (u : ℕ) → Met (add_sizes 4 2 whole) 0 u
+    pub result_apart : x ≡ 0 → (u : ℕ) → Met (add_sizes 4 2 whole) 0 u
     unfolding cmp types_of
-    result-apart z u = met_no 0 u (ap (add_sizes 4 2) (I.goes ∙ ap (add_sizes at bt) (no_when size_params size_sig (left_conforms O I.r) (some I.ps) (sig_at m (count - i) (drop bt t)) (λ qs f e g.
+    result_apart z u = met_no 0 u (ap (add_sizes 4 2) (I.goes ∙ ap (add_sizes at bt) (no_when size_params size_sig (left_conforms O I.r) (some I.ps) (sig_at m (count - i) (drop bt t)) (λ qs f e g.
         let S = result m (drop bt t) f (ap (λ n. sig_at m n (drop bt t)) (sym no_more) ∙ g) in
         ap₂ (left_conforms O I.r) (sym (some_same e) ∙ last) S.2 ∙ pair_no (readable_type m) (readable_type m) (le O) v 0 t bt x y w z I.r S.0 I.read_r S.1)))) refl
 
@@ -184,9 +184,9 @@ module _ {O : Order} {l m : ℕ} {whole : Conform} {v t : List ℕ} {count at bt
       pub result_fits : bt + y ≤ length t
       result_fits = (pair_in (readable_type m) (readable_type m) (le O) v 0 t bt x y (omega arith) I.in_t P).1
 
-      pub result-yes : (p q : ℕ) → p ≡ at + 4 → q ≡ bt + y + 2 → Met (add_sizes 4 2 whole) p q
+      pub result_yes : (p q : ℕ) → p ≡ at + 4 → q ≡ bt + y + 2 → Met (add_sizes 4 2 whole) p q
       unfolding cmp types_of size size_params map_o
-      result-yes p q e f =
+      result_yes p q e f =
           let s : sig_at m (count - i) (drop bt t) ≡ some (sig no_params P.y) = ap (λ n. sig_at m n (drop bt t)) no_more ∙ result_read m (drop bt t) ∙ ap (map_o (sig no_params)) P.read_b in
           let k : left_conforms O I.r no_parameters (sig no_params P.y) ≡ true = ap (λ r. le O r P.y) (some_same (sym I.read_r ∙ P.read_a)) ∙ P.holds in
           met_yes (ap (add_sizes 4 2) (I.goes ∙ ap (add_sizes at bt)
@@ -205,18 +205,18 @@ module _ (l m : ℕ) (v t : List ℕ) (mp : 0 < m) (c : get_or v 0 0 ≡ 12) (d 
   function_of b (definition r ps) = v_function ps b r
 
   module _ (O : Order) where
-    pub definition-counts : (get_or v 1 0 ≡ get_or t 1 0 → ⊥) → (u : ℕ) → Met (held O (value_at l v) (type_at m t)) 0 u
-    definition-counts n u = fails (conforms O) l m v t u (λ y z f g.
+    pub definition_counts : (get_or v 1 0 ≡ get_or t 1 0 → ⊥) → (u : ℕ) → Met (held O (value_at l v) (type_at m t)) 0 u
+    definition_counts n u = fails (conforms O) l m v t u (λ y z f g.
         let D = definition_is l v y f c in
         let F = is_fun m t z g d in
         ap₂ (conforms O) D.is F.is ∙ held_function O D.ps D.b D.r F.f
         ∙ counts_differ O (l - 1) (get_or v 1 0) (drop 4 v) D.r D.ps F.f D.read (λ z. n (z ∙ sig_count (m - 1) (get_or t 1 0) (drop 2 t) F.f F.read)))
 
-    pub met-definition : (n : ℕ) → n ≡ get_or v 1 0 → get_or v 1 0 ≡ get_or t 1 0 → (r u : ℕ)
+    pub met_definition : (n : ℕ) → n ≡ get_or v 1 0 → get_or v 1 0 ≡ get_or t 1 0 → (r u : ℕ)
         → Met (add_sizes 4 2 (held_definition O (definition_at (l - 1) n (take (length v - 4) (drop 4 v))) (sig_at (m - 1) n (take (length t - 2) (drop 2 t))))) r u
         → Met (held O (value_at l v) (type_at m t)) r u
     unfolding size_val map_o function_of
-    met-definition n k q r u w =
+    met_definition n k q r u w =
         let D = definition_is l v x e c in
         let ev : value_at l v ≡ map_o (function_of D.b) (definition_at (l - 1) n (drop 4 v)) = e ∙ ap some D.is
         ∙ sym (ap (λ j. map_o (function_of D.b) (definition_at (l - 1) j (drop 4 v))) k ∙ ap (map_o (function_of D.b)) D.read) in

@@ -1,6 +1,6 @@
 -- The loop over the items of a list, or the two ends of a range, each held to the one type. The verdict on the whole is that on what is left, behind what was
 -- passed, whether it is read or not; each item that conforms tells the size of the type.
--- Index: `ItemsGo`, `items_start`, `items-turn`, `items-fit`, `items-apart`, `items_done` (the loop); `items_none`, `items_unread` (no items).
+-- Index: `ItemsGo`, `items_start`, `items_turn`, `items_fit`, `items_apart`, `items_done` (the loop); `items_none`, `items_unread` (no items).
 -- Assumes nothing.
 use Prim.Native.Nat.{ℕ, ◌+◌, ◌-◌, ◌<◌, ◌≤◌}
 use mathlib.Core.Path.{◌≡◌, refl, sym, ap, ap₂, ◌∙◌}
@@ -12,7 +12,7 @@ use lib.ListN.{length, take, drop}
 use Rattle.form.specs.Trees.{no_items, item}
 use Rattle.order.specs.Order.{Order}
 use Rattle.order.specs.Size.{size, size_val, size_vals}
-use Rattle.order.specs.Values.{conforms, allConform}
+use Rattle.order.specs.Values.{conforms, all_conform}
 use Rattle.types.specs.At.{type_at, size_at}
 use Rattle.types.specs.Conform.{Conform, conform_by, add_sizes, Met}
 use Rattle.types.proofs.SortedNames.{readable_type}
@@ -45,31 +45,31 @@ items_start O l m v n t =
 module _ {O : Order} {l m : ℕ} {whole : Conform} {v : List ℕ} {n : ℕ} {t : List ℕ} {at bt i : ℕ} (I : ItemsGo O l m whole v n t at bt i) where
   module _ (h : i < n) (r s : ℕ) where
     -- an item that does not conform, or is none
-    pub items-apart : MetAt (readable_value l) (readable_type m) (conforms O) v at t 0 r s → r ≡ 0 → (u : ℕ) → Met (add_sizes 3 1 whole) 0 u
+    pub items_apart : MetAt (readable_value l) (readable_type m) (conforms O) v at t 0 r s → r ≡ 0 → (u : ℕ) → Met (add_sizes 3 1 whole) 0 u
     unfolding conforms
-    items-apart w z u = met_no 0 u (ap (add_sizes 3 1) (I.goes ∙ ap (add_sizes at 0) (no_when size_vals size (allConform O) (items_at l (n - i) (drop at v)) (type_at m t) (λ vs y e f.
+    items_apart w z u = met_no 0 u (ap (add_sizes 3 1) (I.goes ∙ ap (add_sizes at 0) (no_when size_vals size (all_conform O) (items_at l (n - i) (drop at v)) (type_at m t) (λ vs y e f.
         let A = nth l i n at v vs h I.in_v e in
-        ap (λ x. allConform O x y) A.is
-        ∙ ap (λ q. q && allConform O A.more y) (pair_no (readable_value l) (readable_type m) (conforms O) v at t 0 r s w z A.x y A.first f))))) refl
+        ap (λ x. all_conform O x y) A.is
+        ∙ ap (λ q. q && all_conform O A.more y) (pair_no (readable_value l) (readable_type m) (conforms O) v at t 0 r s w z A.x y A.first f))))) refl
 
     module _ (P : Pair (readable_value l) (readable_type m) (conforms O) v at t 0 r s) where
-      pub items-fit : at + r ≤ length v
-      items-fit = (pair_in (readable_value l) (readable_type m) (conforms O) v at t 0 r s I.in_v (omega arith) P).0
+      pub items_fit : at + r ≤ length v
+      items_fit = (pair_in (readable_value l) (readable_type m) (conforms O) v at t 0 r s I.in_v (omega arith) P).0
 
-      pub items-turn : ItemsGo O l m whole v n t (at + r) s (i + 1)
+      pub items_turn : ItemsGo O l m whole v n t (at + r) s (i + 1)
       unfolding conforms size_val
-      items-turn =
+      items_turn =
           let A = items_at l (n - (i + 1)) (drop (at + r) v) in
           let e : items_at l (n - i) (drop at v) ≡ map_o (item P.x) A = item_on l i n at v P.x h P.read_a
           ∙ ap (λ k. map_o (item P.x) (items_at l (n - (i + 1)) (drop (at + k) v))) (sym P.size_a) in
           let z = P.size_a in
           record {
             below = omega arith;
-            in_v = items-fit;
+            in_v = items_fit;
             known = λ o. record { x = P.y; read = P.read_b; is = P.size_b };
-            goes = I.goes ∙ ap (add_sizes at 0) (ap₂ (conform_by size_vals size (allConform O)) e (sym (map_o_same (type_at m t)))
-                ∙ mapped size_vals size (allConform O) size_vals size (allConform O) (item P.x) (λ y. y) r 0 A (type_at m t)
-                (λ vs y p q. ap (λ b. b && allConform O vs y) (ap (conforms O P.x) (some_same (sym q ∙ P.read_b)) ∙ P.holds)) (λ vs p. omega arith) (λ y. omega arith))
+            goes = I.goes ∙ ap (add_sizes at 0) (ap₂ (conform_by size_vals size (all_conform O)) e (sym (map_o_same (type_at m t)))
+                ∙ mapped size_vals size (all_conform O) size_vals size (all_conform O) (item P.x) (λ y. y) r 0 A (type_at m t)
+                (λ vs y p q. ap (λ b. b && all_conform O vs y) (ap (conforms O P.x) (some_same (sym q ∙ P.read_b)) ∙ P.holds)) (λ vs p. omega arith) (λ y. omega arith))
                 ∙ grown_on at 0 r 0 (held_items O A (type_at m t));
           }
 
@@ -79,7 +79,7 @@ module _ {O : Order} {l m : ℕ} {whole : Conform} {v : List ℕ} {n : ℕ} {t :
   items_done h p r u e f =
       let T = I.known p in
       met_yes (ap (add_sizes 3 1) (I.goes ∙ ap (add_sizes at 0)
-      (both size_vals size (allConform O) (items_at l (n - i) (drop at v)) (type_at m t) no_items T.x (items_gone l i n at v h) T.read)))
+      (both size_vals size (all_conform O) (items_at l (n - i) (drop at v)) (type_at m t) no_items T.x (items_gone l i n at v h) T.read)))
       (omega (arith, e)) (omega (arith, f, T.is))
 
 -- ---- no items
@@ -88,10 +88,10 @@ module _ (O : Order) (l m : ℕ) (v : List ℕ) (n : ℕ) (t : List ℕ) (z : 0 
   none_there = ap (λ j. items_at l j v) (omega (arith, z)) ∙ items_gone l 0 n 0 v (omega (arith, z))
 
   pub items_unread : k ≡ 0 → (u : ℕ) → Met (add_sizes 3 1 (held_items O (items_at l n v) (type_at m t))) 0 u
-  items_unread o u = met_no 0 u (ap (add_sizes 3 1) (no_when size_vals size (allConform O) (items_at l n v) (type_at m t) (λ vs y p q. absurd (unsized_part m t 0 k e o y q)))) refl
+  items_unread o u = met_no 0 u (ap (add_sizes 3 1) (no_when size_vals size (all_conform O) (items_at l n v) (type_at m t) (λ vs y p q. absurd (unsized_part m t 0 k e o y q)))) refl
 
   pub items_none : (k ≡ 0 → ⊥) → (r u : ℕ) → r ≡ 3 → u ≡ k + 1 → Met (add_sizes 3 1 (held_items O (items_at l n v) (type_at m t))) r u
   unfolding conforms size_val
   items_none o r u p q =
       let T = sized_part m t 0 k e o in
-      met_yes (ap (add_sizes 3 1) (both size_vals size (allConform O) (items_at l n v) (type_at m t) no_items T.x none_there T.read)) p (omega (arith, q, T.is))
+      met_yes (ap (add_sizes 3 1) (both size_vals size (all_conform O) (items_at l n v) (type_at m t) no_items T.x none_there T.read)) p (omega (arith, q, T.is))

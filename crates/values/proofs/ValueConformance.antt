@@ -1,6 +1,6 @@
 -- A value and a type read and held to each other at once: what each return of the walks owes. What is left of both decides, whether it is read or not.
--- Index: `readable_value`, `sized_value`, `unsized_value` (a value at a place); `fails`, `never`, `no_level`, `no_value`, `no_type` (no, by any test); `leaf_none`, `leaf-is-null`, `leaf-to-any`,
--- `leaf-to-own`, `leaf-to-none`, `leaf_pair` (`leaf`); `met_any`, `met_null`, `met_plain`, `met_table`, `range-apart`, `list_apart`, `context_apart`, `function-apart`, `plain-apart`, `rest-apart`
+-- Index: `readable_value`, `sized_value`, `unsized_value` (a value at a place); `fails`, `never`, `no_level`, `no_value`, `no_type` (no, by any test); `leaf_none`, `leaf-is-null`, `leaf_to_any`,
+-- `leaf_to_own`, `leaf_to_none`, `leaf_pair` (`leaf`); `met_any`, `met_null`, `met_plain`, `met_table`, `range_apart`, `list_apart`, `context_apart`, `function_apart`, `plain_apart`, `rest_apart`
 -- (`conform_other`); `met_range`, `met_list`, `met_context`, `told_other`, `no_interval` (`conforms`).
 -- Assumes nothing.
 use Prim.Native.Nat.{ℕ, ◌+◌, ◌-◌, ◌<◌, ◌≤◌}
@@ -22,7 +22,7 @@ use Rattle.form.proofs.CommandKinds.{leaf_low, leaf_type_in, plain_type_in, no_l
 use Rattle.form.proofs.Runs.{rest, first_at}
 use Rattle.order.specs.Order.{Order, fixed, is_inner, related, order_of}
 use Rattle.order.specs.Size.{size, size_fields, size_val, size_vals, size_entries}
-use Rattle.order.specs.Values.{conforms, allConform}
+use Rattle.order.specs.Values.{conforms, all_conform}
 use Rattle.order.proofs.Ends.{Ends, reading_ends, end_related}
 use Rattle.order.proofs.Size.{size_val_positive}
 use Rattle.order.proofs.Bools.{and_true, and_false}
@@ -122,9 +122,9 @@ module _ (l m : ℕ) (v : List ℕ) (at : ℕ) (t : List ℕ) (bt : ℕ) where
       leafy = leaf_low (get_or v at 0) (let f = first_at v at in omega (arith, small_is l (drop at v) P.x P.read P.leafy))
 
       -- neither null nor of this type
-      pub leaf-to-none : (get_or v at 0 ≡ 0 → ⊥) → (get_or t bt 0 ≡ 32 → ⊥) → (get_or t bt 0 ≡ leaf_type_command (get_or v at 0) → ⊥) → (u : ℕ)
+      pub leaf_to_none : (get_or v at 0 ≡ 0 → ⊥) → (get_or t bt 0 ≡ 32 → ⊥) → (get_or t bt 0 ≡ leaf_type_command (get_or v at 0) → ⊥) → (u : ℕ)
           → Met (held_by leaf_conforms (value_at l (drop at v)) (type_at m (drop bt t))) 0 u
-      leaf-to-none c a d u = fails leaf_conforms l m (drop at v) (drop bt t) u (λ x y e f.
+      leaf_to_none c a d u = fails leaf_conforms l m (drop at v) (drop bt t) u (λ x y e f.
           let k : kind x ≡ leaf_type_command (get_or v at 0) = kind_is l (drop at v) x e ∙ ap kind_at (first_at v at) ∙ kind_leaf (get_or v at 0) leafy in
           let g = cmd_there y f in
           ap (λ q. is_short_leaf x && (simple y && q)) (kinds_differ 0 x y (λ w. omega (arith, plain_type_in (get_or v at 0) leafy c)) (λ w. a (sym g ∙ w)) (λ w. d (sym g ∙ sym w ∙ k)))
@@ -149,15 +149,15 @@ module _ (l m : ℕ) (v : List ℕ) (at : ℕ) (t : List ℕ) (bt : ℕ) where
           unfolding kind_at leaf_type_command
           leaf-is-null c = tests (leaf_null (reading_ends 0) P.x T.x (short_data P.x P.leafy) (leaf_kind ∙ ap kind_at c))
 
-        pub leaf-to-any : get_or t bt 0 ≡ 32 → Met (held_by leaf_conforms (value_at l (drop at v)) (type_at m (drop bt t))) n 1
-        leaf-to-any d =
+        pub leaf_to_any : get_or t bt 0 ≡ 32 → Met (held_by leaf_conforms (value_at l (drop at v)) (type_at m (drop bt t))) n 1
+        leaf_to_any d =
             let lo : 32 ≤ get_or t bt 0 = omega arith in
             let hi : get_or t bt 0 ≤ 41 = omega arith in
             let S = T lo hi in
             tests lo hi (to_any (reading_ends 0) P.x S.x (cmd_there S.x S.read ∙ d))
 
-        pub leaf-to-own : get_or t bt 0 ≡ leaf_type_command (get_or v at 0) → Met (held_by leaf_conforms (value_at l (drop at v)) (type_at m (drop bt t))) n 1
-        leaf-to-own d =
+        pub leaf_to_own : get_or t bt 0 ≡ leaf_type_command (get_or v at 0) → Met (held_by leaf_conforms (value_at l (drop at v)) (type_at m (drop bt t))) n 1
+        leaf_to_own d =
             let b = leaf_type_in (get_or v at 0) leafy in
             let lo : 32 ≤ get_or t bt 0 = omega arith in
             let hi : get_or t bt 0 ≤ 41 = omega arith in
@@ -257,9 +257,9 @@ module _ (reading l m : ℕ) (v t : List ℕ) where
         → Met (held (order_of reading) (value_at l v) (type_at m t)) 0 u
     other_kind k e i n a d = fails (conforms (order_of reading)) l m v t u (λ x y f g. by_table k e n a d x y f g ∙ end_related reading (k - 32) (get_or t 0 0 - 32) i)
 
-    pub range-apart : get_or v 0 0 ≡ 9 → (get_or t 0 0 ≡ 32 → ⊥) → (get_or t 0 0 ≡ 43 → ⊥) → Met (held (order_of reading) (value_at l v) (type_at m t)) 0 u
+    pub range_apart : get_or v 0 0 ≡ 9 → (get_or t 0 0 ≡ 32 → ⊥) → (get_or t 0 0 ≡ 43 → ⊥) → Met (held (order_of reading) (value_at l v) (type_at m t)) 0 u
     unfolding kind_at
-    range-apart c a d = other_kind 43 (ap kind_at c) refl (λ z. omega arith) a d
+    range_apart c a d = other_kind 43 (ap kind_at c) refl (λ z. omega arith) a d
 
     pub list_apart : get_or v 0 0 ≡ 10 → (get_or t 0 0 ≡ 32 → ⊥) → (get_or t 0 0 ≡ 42 → ⊥) → Met (held (order_of reading) (value_at l v) (type_at m t)) 0 u
     unfolding kind_at
@@ -269,19 +269,19 @@ module _ (reading l m : ℕ) (v t : List ℕ) where
     unfolding kind_at
     context_apart c a d = other_kind 44 (ap kind_at c) refl (λ z. omega arith) a d
 
-    pub function-apart : get_or v 0 0 ≡ 12 → (get_or t 0 0 ≡ 32 → ⊥) → (get_or t 0 0 ≡ 45 → ⊥) → Met (held (order_of reading) (value_at l v) (type_at m t)) 0 u
+    pub function_apart : get_or v 0 0 ≡ 12 → (get_or t 0 0 ≡ 32 → ⊥) → (get_or t 0 0 ≡ 45 → ⊥) → Met (held (order_of reading) (value_at l v) (type_at m t)) 0 u
     unfolding kind_at
-    function-apart c a d = other_kind 45 (ap kind_at c) refl (λ z. omega arith) a d
+    function_apart c a d = other_kind 45 (ap kind_at c) refl (λ z. omega arith) a d
 
-    pub plain-apart : is_leaf_command (get_or v 0 0) ≡ true → (get_or v 0 0 ≡ 0 → ⊥) → (get_or t 0 0 ≡ 32 → ⊥) → (k : ℕ) → k ≡ leaf_type_command (get_or v 0 0) → (get_or t 0 0 ≡ k → ⊥)
+    pub plain_apart : is_leaf_command (get_or v 0 0) ≡ true → (get_or v 0 0 ≡ 0 → ⊥) → (get_or t 0 0 ≡ 32 → ⊥) → (k : ℕ) → k ≡ leaf_type_command (get_or v 0 0) → (get_or t 0 0 ≡ k → ⊥)
         → (q : Bool) → q ≡ related reading (k - 32) (get_or t 0 0 - 32) → q ≡ false → Met (held (order_of reading) (value_at l v) (type_at m t)) 0 u
-    plain-apart i z a k e d q r w = fails (conforms (order_of reading)) l m v t u (λ x y f g.
+    plain_apart i z a k e d q r w = fails (conforms (order_of reading)) l m v t u (λ x y f g.
         by_table k (kind_leaf (get_or v 0 0) i ∙ sym e) (λ j. omega (arith, plain_type_in (get_or v 0 0) i z)) a d x y f g ∙ sym r ∙ w)
 
     -- no range, list or context that is there whole, no leaf, no definition
-    pub rest-apart : (3 ≤ length v → 9 ≤ get_or v 0 0 → 11 < get_or v 0 0) → (get_or t 0 0 ≡ 32 → ⊥) → is_leaf_command (get_or v 0 0) ≡ false → (get_or v 0 0 ≡ 12 → ⊥)
+    pub rest_apart : (3 ≤ length v → 9 ≤ get_or v 0 0 → 11 < get_or v 0 0) → (get_or t 0 0 ≡ 32 → ⊥) → is_leaf_command (get_or v 0 0) ≡ false → (get_or v 0 0 ≡ 12 → ⊥)
         → Met (held (order_of reading) (value_at l v) (type_at m t)) 0 u
-    rest-apart w a h n = fails (conforms (order_of reading)) l m v t u (λ x y f g. go x y f g (leb (get_or v 0 0) 11) refl)
+    rest_apart w a h n = fails (conforms (order_of reading)) l m v t u (λ x y f g. go x y f g (leb (get_or v 0 0) 11) refl)
       where
         go : (x : Val) (y : Ty) → value_at l v ≡ some x → type_at m t ≡ some y → (q : Bool) → leb (get_or v 0 0) 11 ≡ q → conforms (order_of reading) x y ≡ false
         go x y f g true e = absurd (let k = leb-true (get_or v 0 0) 11 e in let j = no_leaf_high (get_or v 0 0) h in omega (arith, w (long_is l v x f j k) j))
@@ -329,15 +329,15 @@ module _ (O : Order) (l m : ℕ) (v t : List ℕ) (lp : 0 < l) (mp : 0 < m) (thr
   unfolding conforms range_of size_val size
   met_range c d i j w = met_as (add_sizes 3 1 (held_items O (items_at (l - 1) 2 (drop 3 v)) (type_at (m - 1) (drop 1 t)))) r u
       (ap₂ (held O) (node_range l v lp three c i j) (forward.node_range m t mp some-t d)
-      ∙ mapped size_vals size (allConform O) size_val size (conforms O) (range_of (get_or v 1 0) (get_or v 2 0)) (λ y. built (range y)) 3 1 (items_at (l - 1) 2 (drop 3 v))
+      ∙ mapped size_vals size (all_conform O) size_val size (conforms O) (range_of (get_or v 1 0) (get_or v 2 0)) (λ y. built (range y)) 3 1 (items_at (l - 1) 2 (drop 3 v))
       (type_at (m - 1) (drop 1 t)) tested sizes wrapped) (rw (rest v 3, rest t 1) at w)
     where
       tested : (vs : Vals) (y : Ty) → items_at (l - 1) 2 (drop 3 v) ≡ some vs → type_at (m - 1) (drop 1 t) ≡ some y
-          → conforms O (range_of (get_or v 1 0) (get_or v 2 0) vs) (built (range y)) ≡ allConform O vs y
+          → conforms O (range_of (get_or v 1 0) (get_or v 2 0) vs) (built (range y)) ≡ all_conform O vs y
       tested vs y e f =
           let g = two_of_lem (l - 1) (drop 3 v) vs e in
           ap (λ z. conforms O (range_of (get_or v 1 0) (get_or v 2 0) z) (built (range y))) g.2
-          ∙ ap (λ q. conforms O g.0 y && q) (sym (and_true (conforms O g.1 y))) ∙ sym (ap (λ z. allConform O z y) g.2)
+          ∙ ap (λ q. conforms O g.0 y && q) (sym (and_true (conforms O g.1 y))) ∙ sym (ap (λ z. all_conform O z y) g.2)
 
       sizes : (vs : Vals) → items_at (l - 1) 2 (drop 3 v) ≡ some vs → size_val (range_of (get_or v 1 0) (get_or v 2 0) vs) ≡ size_vals vs + 3
       sizes vs e =
@@ -353,7 +353,7 @@ module _ (O : Order) (l m : ℕ) (v t : List ℕ) (lp : 0 < l) (mp : 0 < m) (thr
   unfolding conforms size_val size
   met_list c d n ne w = met_as (add_sizes 3 1 (held_items O (items_at (l - 1) n (drop 3 v)) (type_at (m - 1) (drop 1 t)))) r u
       (ap₂ (held O) (node_list l v lp three c ∙ ap (λ k. map_o v_list (items_at (l - 1) k (drop 3 v))) (sym ne)) (forward.node_list m t mp some-t d)
-      ∙ mapped size_vals size (allConform O) size_val size (conforms O) v_list (λ y. built (list y)) 3 1 (items_at (l - 1) n (drop 3 v)) (type_at (m - 1) (drop 1 t)) (λ x y e f. refl)
+      ∙ mapped size_vals size (all_conform O) size_val size (conforms O) v_list (λ y. built (list y)) 3 1 (items_at (l - 1) n (drop 3 v)) (type_at (m - 1) (drop 1 t)) (λ x y e f. refl)
       (λ x e. omega arith) (λ y. omega arith)) (rw (rest v 3, rest t 1) at w)
 
   pub met_context : get_or v 0 0 ≡ 11 → get_or t 0 0 ≡ 44 → 3 ≤ length t → (n k : ℕ) → n ≡ num_at 2 1 v → k ≡ num_at 2 1 t

@@ -6,7 +6,7 @@ use Rattle.form.specs.Trees.{Ty, Fields, simple, Val, Vals, Entries, is_short_le
 use Rattle.order.specs.Order.{Dir, up, down, Order}
 use Rattle.order.specs.Types.{all_fields, cmp, cmps}
 use Rattle.order.specs.Size.{size, size_fields, size_val, size_vals, size_entries}
-use Rattle.order.specs.Values.{types_of, conforms, allConform, has_value}
+use Rattle.order.specs.Values.{types_of, conforms, all_conform, has_value}
 use Rattle.order.specs.Inferred.{value_conforms_to}
 use Rattle.types.specs.At.{Sig, sig, size_sig}
 use Rattle.types.specs.Conform.{Conform, conform_by}
@@ -26,7 +26,7 @@ leaf_conforms x y = is_short_leaf x && (simple y && value_conforms_to x y)
 
 -- every item against one type
 abbrev pub held_items : Order → Option Vals → Option Ty → Conform
-held_items O x y = conform_by size_vals size (allConform O) x y
+held_items O x y = conform_by size_vals size (all_conform O) x y
 
 -- every name of the type is present, and its value conforms
 abbrev pub entries_conform : Order → Entries → Fields → Bool

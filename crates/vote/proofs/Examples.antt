@@ -13,7 +13,7 @@ use Rattle.form.specs.Read.{front, and_then, or_else, operand, read_run, named, 
 use Rattle.form.specs.Read.{step_type, step_t, read_t, step_value, step_v, read_v, number_of, all, read_whole, check_value, check_type}
 use Rattle.order.specs.Types.{cmp, reduce, bound, lookup, insert_with, same_count, all_fields}
 use Rattle.order.specs.Document.{eq_ty}
-use Rattle.order.specs.Values.{least, isDataBy, conforms}
+use Rattle.order.specs.Values.{least, is_data_by, conforms}
 use Rattle.order.specs.Inferred.{type_of}
 use Rattle.types.specs.Calls as types
 use Rattle.values.specs.Calls as values
@@ -42,7 +42,7 @@ apply_every v = example12.apply v.bytes (record { are_bytes = v.are_bytes; value
 pub examples : All table
 unfolding Holds All one null yes pair full part inferred least_of nested times longest lists longest_type table bytes num count_fields count_tys enc level level_v kind_of
     front and_then or_else operand read_run named read_named read_flag read_key counted read_function read_range signature read_definition step_type step_t read_t step_value step_v read_v
-    number_of all read_whole check_value check_type cmp reduce bound lookup insert_with same_count all_fields eq_ty least isDataBy conforms type_of types.is_conformant_by least_type_by type_of_call
+    number_of all read_whole check_value check_type cmp reduce bound lookup insert_with same_count all_fields eq_ty least is_data_by conforms type_of types.is_conformant_by least_type_by type_of_call
     values.is_conformant_by get_value_checked_call coerced_call retrieve enc_v enc_leaf count_vals count_entries ◌>>=◌ ◌>>◌
 examples = (
   refl,

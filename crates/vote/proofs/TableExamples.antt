@@ -8,7 +8,7 @@ use Rattle.form.specs.Read.{front, and_then, or_else, operand, read_run, named, 
 use Rattle.form.specs.Read.{step_type, step_t, read_t, step_value, step_v, read_v, number_of, all, read_whole}
 use Rattle.order.specs.Table.{is_ordered, has_joins, are_flags, table_order}
 use Rattle.order.specs.Types.{cmp, reduce, bound, lookup, insert_with, same_count, all_fields}
-use Rattle.order.specs.Values.{types_of, least, isDataBy, conforms}
+use Rattle.order.specs.Values.{types_of, least, is_data_by, conforms}
 use Rattle.tables.specs.Calls.{where_loads}
 use Rattle.types.specs.Calls as types
 use Rattle.values.specs.Calls as values
@@ -17,7 +17,7 @@ use Rattle.vote.specs.TableExamples.{TableExamples}
 
 pub table_examples : TableExamples
 unfolding bytes num count_fields count_tys enc kind_of front and_then or_else operand read_run named read_named read_flag read_key counted read_function read_range
-    signature read_definition step_type step_t read_t step_value step_v read_v number_of all read_whole cmp reduce bound lookup insert_with same_count all_fields least isDataBy
+    signature read_definition step_type step_t read_t step_value step_v read_v number_of all read_whole cmp reduce bound lookup insert_with same_count all_fields least is_data_by
     conforms types.is_conformant_by least_type_by values.is_conformant_by ◌>>=◌ ◌>>◌ types_of is_ordered has_joins are_flags table_order where_loads
 table_examples =
     record {

@@ -14,8 +14,8 @@ use Rattle.form.proofs.Accepted.{refused_done}
 use Rattle.form.proofs.Refused.{refused_same}
 use Rattle.order.specs.Order.{Order, Laws, same, fixed}
 use Rattle.order.specs.Table.{is_table, is_ordered, has_joins, in_table, table_order, fixed_table, Loads}
-use Rattle.order.specs.Types.{cmp, empty, reduce, reduceBuilt, reduceFields, reduceTys, bound, sup, sub}
-use Rattle.order.specs.Values.{isDataBy, areData, holdData}
+use Rattle.order.specs.Types.{cmp, empty, reduce, reduce_built, reduce_fields, reduce_tys, bound, sup, sub}
+use Rattle.order.specs.Values.{is_data_by, are_data, hold_data}
 use Rattle.order.specs.Document.{reduced_form}
 use Rattle.order.proofs.Ends.{laws_ends}
 use Rattle.order.proofs.Table.{table_laws, fixed_loads, join, meet, join_found, meet_found}
@@ -113,44 +113,44 @@ module _ (O P : Order) (e : O.strict ≡ P.strict) where
   mutual
     unfolding reduce
 
-    same-reduce : (a : Ty) → reduce O a ≡ reduce P a
-    same-reduce (leaf s) = refl
-    same-reduce (built x) = ap built (same-built x)
+    same_reduce : (a : Ty) → reduce O a ≡ reduce P a
+    same_reduce (leaf s) = refl
+    same_reduce (built x) = ap built (same_built x)
 
-    same-built : (x : Built) → reduceBuilt O x ≡ reduceBuilt P x
-    same-built (list a) = ap list (same-reduce a)
-    same-built (range a) = ap range (same-reduce a)
-    same-built (context fs) = ap context (same-fields fs)
-    same-built (function ps r) = λ i. function (same_tys ps i) (cond (not (e i) && empty ps) (leaf any) (same-reduce r i))
+    same_built : (x : Built) → reduce_built O x ≡ reduce_built P x
+    same_built (list a) = ap list (same_reduce a)
+    same_built (range a) = ap range (same_reduce a)
+    same_built (context fs) = ap context (same_fields fs)
+    same_built (function ps r) = λ i. function (same_tys ps i) (cond (not (e i) && empty ps) (leaf any) (same_reduce r i))
 
-    same-fields : (fs : Fields) → reduceFields O fs ≡ reduceFields P fs
-    same-fields no_fields = refl
-    same-fields (field n a fs) = λ i. field n (same-reduce a i) (same-fields fs i)
+    same_fields : (fs : Fields) → reduce_fields O fs ≡ reduce_fields P fs
+    same_fields no_fields = refl
+    same_fields (field n a fs) = λ i. field n (same_reduce a i) (same_fields fs i)
 
-    same_tys : (ps : Tys) → reduceTys O ps ≡ reduceTys P ps
+    same_tys : (ps : Tys) → reduce_tys O ps ≡ reduce_tys P ps
     same_tys no_params = refl
-    same_tys (param a ps) = λ i. param (same-reduce a i) (same_tys ps i)
+    same_tys (param a ps) = λ i. param (same_reduce a i) (same_tys ps i)
 
   mutual
-    unfolding isDataBy
+    unfolding is_data_by
 
-    same-data : (v : Val) → isDataBy O v ≡ isDataBy P v
-    same-data (v_leaf l) = refl
-    same-data (v_range i j v w) = λ k. same-data v k && same-data w k
-    same-data (v_list vs) = same-items vs
-    same-data (v_context es) = same_entries es
-    same-data (v_function ps b r) = e
-    same-data (v_built_in b) = refl
-    same-data (v_type a) = refl
-    same-data v_irrelevant = refl
+    same_data : (v : Val) → is_data_by O v ≡ is_data_by P v
+    same_data (v_leaf l) = refl
+    same_data (v_range i j v w) = λ k. same_data v k && same_data w k
+    same_data (v_list vs) = same_items vs
+    same_data (v_context es) = same_entries es
+    same_data (v_function ps b r) = e
+    same_data (v_built_in b) = refl
+    same_data (v_type a) = refl
+    same_data v_irrelevant = refl
 
-    same-items : (vs : Vals) → areData O vs ≡ areData P vs
-    same-items no_items = refl
-    same-items (item v vs) = λ k. same-data v k && same-items vs k
+    same_items : (vs : Vals) → are_data O vs ≡ are_data P vs
+    same_items no_items = refl
+    same_items (item v vs) = λ k. same_data v k && same_items vs k
 
-    same_entries : (es : Entries) → holdData O es ≡ holdData P es
+    same_entries : (es : Entries) → hold_data O es ≡ hold_data P es
     same_entries no_entries = refl
-    same_entries (entry n v es) = λ k. same-data v k && same_entries es k
+    same_entries (entry n v es) = λ k. same_data v k && same_entries es k
 
 simple_types : (t : LoadedTable) → SimpleTypes t
 unfolding table_order cmp bound reduce
@@ -158,22 +158,22 @@ simple_types t =
     let l = loads_of t in
     let r = in_table t.bytes in
     let E = laws_ends (order_in t) (laws_of t) in
-    let plain = same-reduce (order_in t) fixed refl in
+    let plain = same_reduce (order_in t) fixed refl in
     record {
       conforms_by = λ s u. refl;
       least_common = λ s u. (join r s u, refl, join_found r l.is_ordered_lem l.has_joins_lem s u);
       greatest_common = λ s u. (meet r s u, refl, meet_found r l.is_ordered_lem l.has_joins_lem s u);
       built_below = λ x s. E.from_any s;
       built_above = λ s x. E.to_null s;
-      with_built = λ s x. ap (λ q. reduce (order_in t) (cond q (built x) (leaf any))) (E.to_null s) ∙ reduced-cond (order_in t) (same s null) (built x) any (plain (built x));
-      built_with = λ s x. ap (λ q. reduce (order_in t) (cond q (built x) (leaf null))) (E.from_any s) ∙ reduced-cond (order_in t) (same s any) (built x) null (plain (built x));
+      with_built = λ s x. ap (λ q. reduce (order_in t) (cond q (built x) (leaf any))) (E.to_null s) ∙ reduced_cond (order_in t) (same s null) (built x) any (plain (built x));
+      built_with = λ s x. ap (λ q. reduce (order_in t) (cond q (built x) (leaf null))) (E.from_any s) ∙ reduced_cond (order_in t) (same s any) (built x) null (plain (built x));
       reduced_forms = plain;
-      data_values = same-data (order_in t) fixed refl;
+      data_values = same_data (order_in t) fixed refl;
     }
   where
-    reduced-cond : (O : Order) (q : Bool) (a : Ty) (s : Simple) → reduce O a ≡ reduced_form a → reduce O (cond q a (leaf s)) ≡ cond q (reduced_form a) (leaf s)
-    reduced-cond O true a s e = e
-    reduced-cond O false a s e = refl
+    reduced_cond : (O : Order) (q : Bool) (a : Ty) (s : Simple) → reduce O a ≡ reduced_form a → reduce O (cond q a (leaf s)) ≡ cond q (reduced_form a) (leaf s)
+    reduced_cond O true a s e = e
+    reduced_cond O false a s e = refl
 
 abbrev fixed_table_lem : LoadedTable
 fixed_table_lem = record { bytes = fixed_table; loads = loads_is_done fixed_table true fixed_loads }

@@ -27,12 +27,12 @@ use Rattle.form.proofs.Values.{value_exact}
 use Rattle.order.specs.Order.{Order, Laws, fixed}
 use Rattle.order.specs.Types.{le, reduce, sup, sub}
 use Rattle.order.specs.Document.{reduced_form, eq_ty}
-use Rattle.order.specs.Values.{conforms, isDataBy, least}
+use Rattle.order.specs.Values.{conforms, is_data_by, least}
 use Rattle.order.specs.Theorems.{Theorems}
 use Rattle.order.specs.ValueTheorems.{ValueTheorems}
 use Rattle.order.proofs.Simple.{fixed_laws}
 use Rattle.order.proofs.Equal.{eq_bytes}
-use Rattle.order.proofs.Size.{length_enc, size-reduce}
+use Rattle.order.proofs.Size.{length_enc, size_reduce}
 use Rattle.order.proofs.Theorems.{theorems}
 use Rattle.order.proofs.ValueTheorems.{value_theorems}
 use Rattle.types.specs.Calls as types
@@ -237,7 +237,7 @@ module _ (O : Order) (L : Laws O) where
   least_due v scratch room a = (
     λ e.
         bind_done (read_value v) _ a e (λ w p f.
-        check_done 13 (isDataBy O w) _ a f (λ d g.
+        check_done 13 (is_data_by O w) _ a f (λ d g.
         check_done 14 (leb (wanted v) scratch) _ a g (λ c h.
         fits_done room (enc (least O w)) a h (λ r i.
         record { value = w; read = p; data_only = d; scratch_suffices = leb-true (wanted v) scratch c; room_suffices = r; is = i })))),
@@ -316,5 +316,5 @@ vote =
             λ z. let h = e.1 (sym p ∙ z ∙ q) in (ab ∙ ap done h.0, ba ∙ ap done h.1),
           );
       reduced_form_lem = reduced_due;
-      reduced_room = λ t. omega (arith, size-reduce fixed t.type, length_enc t.type, length_enc (reduced_form t.type), (long_type t).0);
+      reduced_room = λ t. omega (arith, size_reduce fixed t.type, length_enc t.type, length_enc (reduced_form t.type), (long_type t).0);
     }

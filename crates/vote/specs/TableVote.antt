@@ -8,7 +8,7 @@ use Rattle.order.specs.Order.{Order, same, fixed}
 use Rattle.order.specs.Table.{is_table, is_ordered, is_join, is_meet, has_joins, in_table, table_order, fixed_table}
 use Rattle.order.specs.Types.{le, reduce, sup, sub}
 use Rattle.order.specs.Document.{reduced_form}
-use Rattle.order.specs.Values.{isDataBy}
+use Rattle.order.specs.Values.{is_data_by}
 use Rattle.tables.specs.Calls.{check_table}
 use Rattle.types.specs.Calls as types
 use Rattle.bounds.specs.Calls.{combined, common_supertype, common_subtype, table_common_supertype, table_common_subtype}
@@ -54,7 +54,7 @@ pub record SimpleTypes (t : LoadedTable) : Type 0 where
   pub built_with : (s : Simple) (x : Built) → sub (order_in t) (leaf s) (built x) ≡ cond (same s any) (reduced_form (built x)) (leaf null)
   -- reduced forms, and what is data, are document 01's
   pub reduced_forms : (a : Ty) → reduce (order_in t) a ≡ reduced_form a
-  pub data_values : (v : Val) → isDataBy (order_in t) v ≡ isDataBy fixed v
+  pub data_values : (v : Val) → is_data_by (order_in t) v ≡ is_data_by fixed v
 
 pub record TableVote : Type 0 where
   -- Which tables load, and what each refusal means: the first condition that fails.

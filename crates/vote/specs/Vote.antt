@@ -16,7 +16,7 @@ use Rattle.form.specs.Read.{read_type, read_value, read_any_type}
 use Rattle.order.specs.Order.{Order, fixed}
 use Rattle.order.specs.Types.{le, reduce, sup, sub}
 use Rattle.order.specs.Document.{reduced_form, eq_ty}
-use Rattle.order.specs.Values.{conforms, isDataBy, least}
+use Rattle.order.specs.Values.{conforms, is_data_by, least}
 use Rattle.types.specs.Calls as types
 use Rattle.bounds.specs.Calls.{combined, reduced_call}
 use Rattle.values.specs.Calls as values
@@ -35,7 +35,7 @@ pub record DataValueBy (O : Order) : Type 0 where
   pub are_bytes : Bytes bytes
   pub value : Val
   pub accepted : read_value bytes ≡ done value
-  pub data_only : isDataBy O value ≡ true
+  pub data_only : is_data_by O value ≡ true
 
 abbrev pub DataValue : Type 0
 DataValue = DataValueBy fixed
@@ -92,7 +92,7 @@ pub record ValueCompared (O : Order) (v t : List ℕ) (verdict : Bool) : Type 0 
 pub record LeastDue (O : Order) (v : List ℕ) (scratch room : ℕ) (answer : List ℕ) : Type 0 where
   pub value : Val
   pub read : read_value v ≡ done value
-  pub data_only : isDataBy O value ≡ true
+  pub data_only : is_data_by O value ≡ true
   pub scratch_suffices : 4 * length v ≤ scratch
   pub room_suffices : length (enc (least O value)) ≤ room
   pub is : answer ≡ enc (least O value)

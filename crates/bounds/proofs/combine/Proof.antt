@@ -9,7 +9,7 @@ use lib.ListN.{length, length-take}
 use lib.Seq.{length-take-le}
 use Rattle.form.specs.Answers.{checked}
 use Rattle.order.specs.Order.{toward, order_of}
-use Rattle.bounds.proofs.CallContracts.{fine, first_refused, second_refused, scratch_short, call-ready, call-size, call_short, call_done}
+use Rattle.bounds.proofs.CallContracts.{fine, first_refused, second_refused, scratch_short, call_ready, call_size, call_short, call_done}
 
 -- at `match form::check_type(a) {`
 check-type-requires : tie.Need-check-type-requires
@@ -58,7 +58,7 @@ write-bound-requires c κs =
     let c4 = c.before.before.before.before in
     let c7 = c4.before.before.before in
     let args = c7.before.before.before.before.before.args in
-    call-ready (order_of args.reading) (toward args.up) args.a.now args.b.now (length args.scratch.now) args.out.now
+    call_ready (order_of args.reading) (toward args.up) args.a.now args.b.now (length args.scratch.now) args.out.now
     (fine args.a.now c4.before.enum_told.given.0.0 c7.check-type.ensures.1
     (sym c7.check-type.ensures.0 ∙ ap checked c4.before.enum_told.given.1))
     (fine args.b.now c.before.before.enum-told2.given.0.0 c4.check-type2.ensures.1
@@ -94,7 +94,7 @@ slice-reshare-prefix-copy c =
           let c8 = c5.before.before.before in
           let c11 = c8.before.before.before in
           let args = c11.before.before.before.before.before.args in
-          call-size (order_of args.reading) (toward args.up) args.a.now args.b.now (length args.scratch.now) args.out.now
+          call_size (order_of args.reading) (toward args.up) args.a.now args.b.now (length args.scratch.now) args.out.now
           (fine args.a.now c8.before.enum_told.given.0.0 c11.check-type.ensures.1
           (sym c11.check-type.ensures.0 ∙ ap checked c8.before.enum_told.given.1))
           (fine args.b.now c5.before.enum-told2.given.0.0 c8.check-type2.ensures.1
@@ -115,7 +115,7 @@ slice-aggregate-copy c =
           let c9 = c7.before.before in
           let c12 = c9.before.before.before in
           let args = c12.before.before.before.before.before.args in
-          call-size (order_of args.reading) (toward args.up) args.a.now args.b.now (length args.scratch.now) args.out.now
+          call_size (order_of args.reading) (toward args.up) args.a.now args.b.now (length args.scratch.now) args.out.now
           (fine args.a.now c9.before.enum_told.given.0.0 c12.check-type.ensures.1
           (sym c12.check-type.ensures.0 ∙ ap checked c9.before.enum_told.given.1))
           (fine args.b.now c7.enum-told2.given.0.0 c9.check-type2.ensures.1

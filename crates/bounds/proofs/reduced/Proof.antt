@@ -3,7 +3,7 @@
 use borrow.Author.Rules.{rules}
 use Rattle.bounds.proofs.reduced.Statement.{statement}
 use Rattle.bounds.proofs.reduced.Tie as tie
-use Rattle.bounds.proofs.CallContracts.{fine, reduced_refused, reduced-there, reduced-short, reduced-ready, reduced-done}
+use Rattle.bounds.proofs.CallContracts.{fine, reduced_refused, reduced_there, reduced_short, reduced_ready, reduced_done}
 use Rattle.form.specs.Answers.{checked}
 use borrow.Author.Tests.{not-true, not-false}
 use mathlib.Core.Path.{refl, sym, ap, ◌∙◌}
@@ -24,7 +24,7 @@ enum_told c = search rules
 has-room-requires : tie.Need-has-room-requires
 has-room-requires c κs =
     let args = c.before.before.before.before.before.args in
-    reduced-there args.t.now args.out.now
+    reduced_there args.t.now args.out.now
     (fine args.t.now c.enum_told.given.0.0 c.before.before.check-type.ensures.1
     (sym c.before.before.check-type.ensures.0 ∙ ap checked c.enum_told.given.1))
 
@@ -33,7 +33,7 @@ returns : tie.Need-returns
 returns c =
     let c4 = c.before.before.before.before in
     let args = c4.before.before.before.args in
-    reduced-short args.t.now args.out.now
+    reduced_short args.t.now args.out.now
     (fine args.t.now c.before.before.enum_told.given.0.0 c4.check-type.ensures.1
     (sym c4.check-type.ensures.0 ∙ ap checked c.before.before.enum_told.given.1))
     _ c.before.has_room.ensures (not-true _ c.if1.true)
@@ -44,7 +44,7 @@ same-super-requires c κs =
     let c3 = c.before.before.before in
     let c5 = c3.before.before in
     let args = c5.before.before.before.args in (
-      reduced-ready args.t.now args.out.now
+      reduced_ready args.t.now args.out.now
           (fine args.t.now c3.enum_told.given.0.0 c5.check-type.ensures.1
           (sym c5.check-type.ensures.0 ∙ ap checked c3.enum_told.given.1))
           _ c.before.before.has_room.ensures (not-false _ c.before.if1.false),
@@ -68,7 +68,7 @@ returns-3 c =
     let c6 = c4.before.before in
     let c8 = c6.before.before in
     let args = c8.before.before.before.args in
-    reduced-done args.t.now args.out.now
+    reduced_done args.t.now args.out.now
     (fine args.t.now c6.enum_told.given.0.0 c8.check-type.ensures.1
     (sym c8.check-type.ensures.0 ∙ ap checked c6.enum_told.given.1))
     _ c4.before.has_room.ensures (not-false _ c4.if1.false) _ _ _ _ c.before.before.same-super.ensures

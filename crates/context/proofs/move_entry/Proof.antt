@@ -9,7 +9,7 @@ use mathlib.Core.Path.{refl}
 use Rattle.form.proofs.Whole.{bytes_of}
 use Rattle.paths.proofs.CallContracts.{is_refused, opened}
 use Rattle.paths.proofs.PathSearch.{hit_inside, hit_start}
-use Rattle.context.proofs.CallContracts.{call_refused, some_entry, taken_none, taken_some, move_copy, move_small, move-done, rest_ok, part-ok, part-level, short}
+use Rattle.context.proofs.CallContracts.{call_refused, some_entry, taken_none, taken_some, move_copy, move_small, move_done, rest_ok, part_ok, part_level, short}
 
 -- at `let cut = builder::find(c, name, &mut status);`
 find-requires : tie.Need-find-requires
@@ -91,12 +91,12 @@ move-in-requires c κs =
         rest_ok c-now args.out.now args.name opened1 bytes-of1 _ _ hit (c4.word_at.result - 1)
             (omega (arith, c4.word_at.ensures.0, some_entry hit bytes-of1)),
         (
-          part-ok c-now args.out.now args.name opened1 bytes-of1 _ _ hit (c4.word_at.result - 1)
+          part_ok c-now args.out.now args.name opened1 bytes-of1 _ _ hit (c4.word_at.result - 1)
               (omega (arith, c4.word_at.ensures.0, some_entry hit bytes-of1)),
           (
             move_small c-now args.out.now args.name opened1 bytes-of1 _ refl,
             (
-              part-level c-now args.out.now args.name opened1 bytes-of1 _ _ hit (c4.word_at.result - 1)
+              part_level c-now args.out.now args.name opened1 bytes-of1 _ _ hit (c4.word_at.result - 1)
                   (omega (arith, c4.word_at.ensures.0, some_entry hit bytes-of1)) _ taken-some1.old,
               c.before.before.before.if3.true,
             ),
@@ -119,7 +119,7 @@ returns-3 c =
     let opened1 = opened args.c.now 0 _ c11.before.find.ensures.0 c11.if1.false in
     let hit =
     (taken_some args.c.now args.name c11.before.find.result opened1 (c11.before.find.ensures.1 c11.if1.false) c8.before.if2.false).hit in
-    move-done args.c.now args.out.now args.name opened1 bytes-of1 _ _ hit (c8.word_at.result - 1)
+    move_done args.c.now args.out.now args.name opened1 bytes-of1 _ _ hit (c8.word_at.result - 1)
     (omega (arith, c8.word_at.ensures.0, some_entry hit bytes-of1)) args.parent _ _ c.before.before.before.Move-in.ensures
 
 -- at `builder::move_in(c, cut, count, &path, &mut spare, out)`
@@ -148,12 +148,12 @@ move-in-requires-2 c κs =
         rest_ok c-now args.out.now name opened1 bytes-of1 _ _ hit (c4.word_at.result - 1)
             (omega (arith, c4.word_at.ensures.0, some_entry hit bytes-of1)),
         (
-          part-ok c-now args.out.now name opened1 bytes-of1 _ _ hit (c4.word_at.result - 1)
+          part_ok c-now args.out.now name opened1 bytes-of1 _ _ hit (c4.word_at.result - 1)
               (omega (arith, c4.word_at.ensures.0, some_entry hit bytes-of1)),
           (
             move_small c-now args.out.now name opened1 bytes-of1 _ refl,
             (
-              part-level c-now args.out.now name opened1 bytes-of1 _ _ hit (c4.word_at.result - 1)
+              part_level c-now args.out.now name opened1 bytes-of1 _ _ hit (c4.word_at.result - 1)
                   (omega (arith, c4.word_at.ensures.0, some_entry hit bytes-of1)) _ taken-some1.old,
               short c-now args.out.now name opened1 bytes-of1,
             ),
@@ -176,7 +176,7 @@ returns-4 c =
     let opened1 = opened args.c.now 0 _ c11.before.find.ensures.0 c11.if1.false in
     let hit =
     (taken_some args.c.now args.name c11.before.find.result opened1 (c11.before.find.ensures.1 c11.if1.false) c8.before.if2.false).hit in
-    move-done args.c.now args.out.now args.name opened1 bytes-of1 _ _ hit (c8.word_at.result - 1)
+    move_done args.c.now args.out.now args.name opened1 bytes-of1 _ _ hit (c8.word_at.result - 1)
     (omega (arith, c8.word_at.ensures.0, some_entry hit bytes-of1)) args.parent _ _ c.before.before.before.move-in2.ensures
 
 pub move-entry-spec : {M : Type 1} → statement M

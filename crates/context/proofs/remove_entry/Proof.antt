@@ -7,7 +7,7 @@ use native.Mathlib.Omega.{arith}
 use Rattle.form.proofs.Whole.{bytes_of}
 use Rattle.paths.proofs.CallContracts.{is_refused, opened}
 use Rattle.paths.proofs.PathSearch.{hit_inside, hit_start}
-use Rattle.context.proofs.CallContracts.{call_refused, some_entry, taken_none, taken_some, remove_copy, remove-done, short}
+use Rattle.context.proofs.CallContracts.{call_refused, some_entry, taken_none, taken_some, remove_copy, remove_done, short}
 
 -- at `let cut = builder::find(c, name, &mut status);`
 find-requires : tie.Need-find-requires
@@ -108,7 +108,7 @@ returns-3 c =
     let opened1 = opened args.c.now 0 _ c8.before.find.ensures.0 c8.if1.false in
     let hit =
     (taken_some args.c.now args.name c8.before.find.result opened1 (c8.before.find.ensures.1 c8.if1.false) c5.before.if2.false).hit in
-    remove-done args.c.now args.out.now args.name opened1 bytes-of1 _ _ hit _
+    remove_done args.c.now args.out.now args.name opened1 bytes-of1 _ _ hit _
     (omega (arith, c5.word_at.ensures.0, some_entry hit bytes-of1)) _ _ c.before.before.give-without.ensures
 
 pub remove-entry-spec : {M : Type 1} → statement M

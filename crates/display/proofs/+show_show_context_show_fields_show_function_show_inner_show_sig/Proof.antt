@@ -35,12 +35,12 @@ use Rattle.output.proofs.min.Reads as min-reads
 use Rattle.display.proofs.+show_show_context_show_fields_show_function_show_inner_show_sig.{statement}
 use Rattle.display.proofs.+show_show_context_show_fields_show_function_show_inner_show_sig.Tie.{close}
 use mathlib.Core.Path.{refl}
-use Rattle.display.proofs.ShowContract.{behind_short, wrap_ok, wrap-no, wrap-ends, wrap-done, wrap-open}
+use Rattle.display.proofs.ShowContract.{behind_short, wrap_ok, wrap_no, wrap_ends, wrap_done, wrap_open}
 use Rattle.display.proofs.ShowNodes.{first_byte, a_level, first_low, simple_done, list_ok, range_ok, list_done, range_done}
 use Rattle.display.proofs.ShowNodes.{last_is, in_inner, context_three, in_context, function_two, in_function}
-use Rattle.display.proofs.ShowFields.{FieldsInv, fields_start, fields_kept, name_there, type_there, name-missing, name-inside, name-room}
+use Rattle.display.proofs.ShowFields.{FieldsInv, fields_start, fields_kept, name_there, type_there, name_missing, name_inside, name_room}
 use Rattle.display.proofs.ShowFields.{type-kept, type-missing, field-ends, field_next, fields_done}
-use Rattle.display.proofs.ShowSigs.{SigInv, sig_start, param-there, param-kept, param-missing, param-ends, param_next, result-there, result-kept, result-missing, result-ends, sig_done}
+use Rattle.display.proofs.ShowSigs.{SigInv, sig_start, param_there, param_kept, param_missing, param_ends, param_next, result_there, result_kept, result_missing, result_ends, sig_done}
 use borrow.Author.Rules.{rules}
 use native.Mathlib.Omega.{arith}
 use Rattle.form.specs.Limits.{name_width}
@@ -332,7 +332,7 @@ pub +show-show-context-show-fields-show-function-show-inner-show-sig-spec :
       arith,
       c14.put.ensures.0,
       let c21 = c14.before.before.before.before.before.before.before in
-          wrap-ends
+          wrap_ends
           (in_context c21.args.left c21.args.t.now c21.args.table.now c21.requires.1.0 c21.requires.1.1.0 c21.requires.1.1.1.1.0
           c21.requires.1.1.1.0 _ c7.before.before.word_at.ensures.0)
           c21.args.out.now _ _ _ _ _ c14.put.ensures.0 c14.put.ensures.1 c7.show-fields.ensures _ _
@@ -345,7 +345,7 @@ pub +show-show-context-show-fields-show-function-show-inner-show-sig-spec :
       arith,
       c14.put.ensures.0,
       let c21 = c14.before.before.before.before.before.before.before in
-          wrap-ends
+          wrap_ends
           (in_context c21.args.left c21.args.t.now c21.args.table.now c21.requires.1.0 c21.requires.1.1.0 c21.requires.1.1.1.1.0
           c21.requires.1.1.1.0 _ c7.before.before.word_at.ensures.0)
           c21.args.out.now _ _ _ _ _ c14.put.ensures.0 c14.put.ensures.1 c7.show-fields.ensures _ _
@@ -358,7 +358,7 @@ pub +show-show-context-show-fields-show-function-show-inner-show-sig-spec :
           let c10 = c6.before.before.before.before in
           let c17 = c10.before.before.before.before.before.before.before in
           let c24 = c17.before.before.before.before.before.before.before in
-          wrap-ends
+          wrap_ends
           (in_context c24.args.left c24.args.t.now c24.args.table.now c24.requires.1.0 c24.requires.1.1.0 c24.requires.1.1.1.1.0
           c24.requires.1.1.1.0 _ c10.before.before.word_at.ensures.0)
           c24.args.out.now _ _ _ _ _ c17.put.ensures.0 c17.put.ensures.1 c10.show-fields.ensures _ _ c6.read.given.1,
@@ -370,7 +370,7 @@ pub +show-show-context-show-fields-show-function-show-inner-show-sig-spec :
     let c10 = c6.before.before.before.before in
     let c17 = c10.before.before.before.before.before.before.before in
     let c24 = c17.before.before.before.before.before.before.before in
-    wrap-done
+    wrap_done
     (in_context c24.args.left c24.args.t.now c24.args.table.now c24.requires.1.0 c24.requires.1.1.0 c24.requires.1.1.1.1.0
     c24.requires.1.1.1.0 _ c10.before.before.word_at.ensures.0)
     c24.args.out.now _ _ _ _ _ c17.put.ensures.0 c17.put.ensures.1 c10.show-fields.ensures _ _ c6.read.given.1
@@ -380,7 +380,7 @@ pub +show-show-context-show-fields-show-function-show-inner-show-sig-spec :
     let c4 = c.before.before.before.before in
     let c11 = c4.before.before.before.before.before.before.before in
     let c18 = c11.before.before.before.before.before.before.before in
-    wrap-no
+    wrap_no
     (in_context c18.args.left c18.args.t.now c18.args.table.now c18.requires.1.0 c18.requires.1.1.0 c18.requires.1.1.1.1.0
     c18.requires.1.1.1.0 _ c4.before.before.word_at.ensures.0)
     c18.args.out.now _ _ _ _ _ c11.put.ensures.0 c11.put.ensures.1 c4.show-fields.ensures c.enum_told.given.1))
@@ -406,31 +406,31 @@ pub +show-show-context-show-fields-show-function-show-inner-show-sig-spec :
     (λ c. search rules)
     (λ c.
     let c3 = c.before.before.before in
-    (name-inside c3.before.before.before.loop.invariant c3.before.before.loop-test.true _ c3.before.name-at.ensures.0 _
+    (name_inside c3.before.before.before.loop.invariant c3.before.before.loop-test.true _ c3.before.name-at.ensures.0 _
     c3.text_at.ensures _ _ c.before.b.given.1).0)
     (λ c.
     omega (
       arith,
       let c3 = c.before.before.before in
-          name-inside c3.before.before.before.loop.invariant c3.before.before.loop-test.true _ c3.before.name-at.ensures.0 _
+          name_inside c3.before.before.before.loop.invariant c3.before.before.loop-test.true _ c3.before.name-at.ensures.0 _
           c3.text_at.ensures _ _ c.before.b.given.1,
     ))
     (λ c.
     omega (
       arith,
       let c3 = c.before.before.before in
-          name-inside c3.before.before.before.loop.invariant c3.before.before.loop-test.true _ c3.before.name-at.ensures.0 _
+          name_inside c3.before.before.before.loop.invariant c3.before.before.loop-test.true _ c3.before.name-at.ensures.0 _
           c3.text_at.ensures _ _ c.before.b.given.1,
     ))
     (λ c κs.
     let c5 = c.before.before.before.before.before in
-    name-room c5.before.before.before.loop.invariant c5.before.before.loop-test.true _ c5.before.name-at.ensures.0 _ c5.text_at.ensures
+    name_room c5.before.before.before.loop.invariant c5.before.before.loop-test.true _ c5.before.name-at.ensures.0 _ c5.text_at.ensures
     _ _ c.before.before.before.b.given.1)
     (λ c. search rules)
     (λ c. fields_kept c.before.before.before.before.before.loop.invariant)
     (λ c.
     let c3 = c.before.before.before in
-    name-missing c3.before.before.loop.invariant c3.before.loop-test.true _ c3.name-at.ensures.0 _ c.before.before.text_at.ensures
+    name_missing c3.before.before.loop.invariant c3.before.loop-test.true _ c3.name-at.ensures.0 _ c.before.before.text_at.ensures
     c.enum_told.given.1)
     (λ c. search rules)
     (λ c κs. search rules)
@@ -565,7 +565,7 @@ pub +show-show-context-show-fields-show-function-show-inner-show-sig-spec :
       let c5 = c.before.before.before.before.before in
           let c13 = c5.before.before.before.before.before.before.before.before in
           let c20 = c13.before.before.before.before.before.before.before in
-          wrap-ends
+          wrap_ends
           (in_function c20.args.left c20.args.t.now c20.args.table.now c20.requires.1.0 c20.requires.1.1.0 c20.requires.1.1.1.1.0
           c20.requires.1.1.1.0 _ c5.before.before.wide.ensures.0)
           c20.args.out.now _ _ _ _ _ c13.put.ensures.0 c13.put.ensures.1 c5.show-sig.ensures _ _ c.before.read.given.1,
@@ -577,7 +577,7 @@ pub +show-show-context-show-fields-show-function-show-inner-show-sig-spec :
       arith,
       c13.put.ensures.0,
       let c20 = c13.before.before.before.before.before.before.before in
-          wrap-ends
+          wrap_ends
           (in_function c20.args.left c20.args.t.now c20.args.table.now c20.requires.1.0 c20.requires.1.1.0 c20.requires.1.1.1.1.0
           c20.requires.1.1.1.0 _ c5.before.before.wide.ensures.0)
           c20.args.out.now _ _ _ _ _ c13.put.ensures.0 c13.put.ensures.1 c5.show-sig.ensures _ _ c.before.read.given.1,
@@ -589,7 +589,7 @@ pub +show-show-context-show-fields-show-function-show-inner-show-sig-spec :
     let c10 = c5.before.before.before.before.before in
     let c13 = c10.before.before.before in
     let c20 = c13.before.before.before.before.before.before.before in
-    wrap-open
+    wrap_open
     (in_function c20.args.left c20.args.t.now c20.args.table.now c20.requires.1.0 c20.requires.1.1.0 c20.requires.1.1.1.1.0
     c20.requires.1.1.1.0 _ c5.before.before.wide.ensures.0)
     c20.args.out.now _ _ _ _ _ c13.put.ensures.0 c13.put.ensures.1 c5.show-sig.ensures _ _ c.before.read.given.1
@@ -599,7 +599,7 @@ pub +show-show-context-show-fields-show-function-show-inner-show-sig-spec :
     let c4 = c.before.before.before.before in
     let c12 = c4.before.before.before.before.before.before.before.before in
     let c19 = c12.before.before.before.before.before.before.before in
-    wrap-no
+    wrap_no
     (in_function c19.args.left c19.args.t.now c19.args.table.now c19.requires.1.0 c19.requires.1.1.0 c19.requires.1.1.1.1.0
     c19.requires.1.1.1.0 _ c4.before.before.wide.ensures.0)
     c19.args.out.now _ _ _ _ _ c12.put.ensures.0 c12.put.ensures.1 c4.show-sig.ensures c.enum_told.given.1))
@@ -621,7 +621,7 @@ pub +show-show-context-show-fields-show-function-show-inner-show-sig-spec :
       arith,
       c19.requires.1.0,
       c12.put.ensures.0,
-      wrap-ends
+      wrap_ends
           (in_inner c19.args.left c19.args.t.now c19.args.table.now c19.requires.1.1.0 c19.requires.1.1.1.0 c19.requires.1.1.1.1.0
           c19.args.front.now)
           c19.args.out.now _ _ _ _ _ c12.put.ensures.0 c12.put.ensures.1 c7.show.ensures _ _ c.before.before.before.read.given.1,
@@ -634,7 +634,7 @@ pub +show-show-context-show-fields-show-function-show-inner-show-sig-spec :
       arith,
       c19.requires.1.0,
       c12.put.ensures.0,
-      wrap-ends
+      wrap_ends
           (in_inner c19.args.left c19.args.t.now c19.args.table.now c19.requires.1.1.0 c19.requires.1.1.1.0 c19.requires.1.1.1.1.0
           c19.args.front.now)
           c19.args.out.now _ _ _ _ _ c12.put.ensures.0 c12.put.ensures.1 c7.show.ensures _ _ c.before.before.before.read.given.1,
@@ -645,7 +645,7 @@ pub +show-show-context-show-fields-show-function-show-inner-show-sig-spec :
       let c6 = c.before.before.before.before.before.before in
           let c15 = c6.before.before.before.before.before.before.before.before.before in
           let c22 = c15.before.before.before.before.before.before.before in
-          wrap-ends
+          wrap_ends
           (in_inner c22.args.left c22.args.t.now c22.args.table.now c22.requires.1.1.0 c22.requires.1.1.1.0 c22.requires.1.1.1.1.0
           c22.args.front.now)
           c22.args.out.now _ _ _ _ _ c15.put.ensures.0 c15.put.ensures.1 c6.before.before.before.before.show.ensures _ _
@@ -658,7 +658,7 @@ pub +show-show-context-show-fields-show-function-show-inner-show-sig-spec :
     let c10 = c6.before.before.before.before in
     let c15 = c10.before.before.before.before.before in
     let c22 = c15.before.before.before.before.before.before.before in
-    wrap-done
+    wrap_done
     (in_inner c22.args.left c22.args.t.now c22.args.table.now c22.requires.1.1.0 c22.requires.1.1.1.0 c22.requires.1.1.1.1.0
     c22.args.front.now)
     c22.args.out.now _ _ _ _ _ c15.put.ensures.0 c15.put.ensures.1 c10.show.ensures _ _ c6.read.given.1
@@ -668,7 +668,7 @@ pub +show-show-context-show-fields-show-function-show-inner-show-sig-spec :
     let c4 = c.before.before.before.before in
     let c9 = c4.before.before.before.before.before in
     let c16 = c9.before.before.before.before.before.before.before in
-    wrap-no
+    wrap_no
     (in_inner c16.args.left c16.args.t.now c16.args.table.now c16.requires.1.1.0 c16.requires.1.1.1.0 c16.requires.1.1.1.1.0
     c16.args.front.now)
     c16.args.out.now _ _ _ _ _ c9.put.ensures.0 c9.put.ensures.1 c4.show.ensures c.enum_told.given.1))
@@ -693,7 +693,7 @@ pub +show-show-context-show-fields-show-function-show-inner-show-sig-spec :
       omega (arith, c13.requires.0),
       (
         behind_short c7.before.loop.at _ c13.args.s.now c13.requires.1.0,
-        (param-there c7.before.loop.invariant c7.loop-test.true, c13.requires.1.1.1),
+        (param_there c7.before.loop.invariant c7.loop-test.true, c13.requires.1.1.1),
       ),
     ))
     (λ c. search rules)
@@ -702,7 +702,7 @@ pub +show-show-context-show-fields-show-function-show-inner-show-sig-spec :
     let c11 = c5.before.before.before.before.before.before in
     omega (
       arith,
-      param-ends c11.before.before.before.loop.invariant c11.before.before.loop-test.true _ _ c11.put-gap.ensures.0 c11.put-gap.ensures.1
+      param_ends c11.before.before.before.loop.invariant c11.before.before.loop-test.true _ _ c11.put-gap.ensures.0 c11.put-gap.ensures.1
           _ _ _ c5.show.ensures _ _ c.before.read.given.1,
       c11.before.before.before.before.before.before.before.before.requires.1.0,
     ))
@@ -711,7 +711,7 @@ pub +show-show-context-show-fields-show-function-show-inner-show-sig-spec :
     let c11 = c5.before.before.before.before.before.before in
     omega (
       arith,
-      param-ends c11.before.before.before.loop.invariant c11.before.before.loop-test.true _ _ c11.put-gap.ensures.0 c11.put-gap.ensures.1
+      param_ends c11.before.before.before.loop.invariant c11.before.before.loop-test.true _ _ c11.put-gap.ensures.0 c11.put-gap.ensures.1
           _ _ _ c5.show.ensures _ _ c.before.read.given.1,
       c11.before.before.before.before.before.before.before.before.requires.1.0,
     ))
@@ -719,12 +719,12 @@ pub +show-show-context-show-fields-show-function-show-inner-show-sig-spec :
     (λ c.
     let c4 = c.before.before.before.before in
     let c10 = c4.before.before.before.before.before.before in
-    param-kept c10.before.before.before.loop.invariant c10.before.before.loop-test.true _ _ c10.put-gap.ensures.0 c10.put-gap.ensures.1
+    param_kept c10.before.before.before.loop.invariant c10.before.before.loop-test.true _ _ c10.put-gap.ensures.0 c10.put-gap.ensures.1
     _ _ _ c4.show.ensures)
     (λ c.
     let c4 = c.before.before.before.before in
     let c10 = c4.before.before.before.before.before.before in
-    param-missing c10.before.before.before.loop.invariant c10.before.before.loop-test.true _ _ c10.put-gap.ensures.0
+    param_missing c10.before.before.before.loop.invariant c10.before.before.loop-test.true _ _ c10.put-gap.ensures.0
     c10.put-gap.ensures.1 _ _ _ c4.show.ensures c.enum_told.given.1)
     (λ c. search rules)
     (λ c. search rules)
@@ -747,7 +747,7 @@ pub +show-show-context-show-fields-show-function-show-inner-show-sig-spec :
       omega (arith, c13.requires.0),
       (
         behind_short c7.before.loop.at _ c13.args.s.now c13.requires.1.0,
-        (result-there c7.before.loop.invariant c7.loop-test.false, c13.requires.1.1.1),
+        (result_there c7.before.loop.invariant c7.loop-test.false, c13.requires.1.1.1),
       ),
     ))
     (λ c. search rules)
@@ -756,7 +756,7 @@ pub +show-show-context-show-fields-show-function-show-inner-show-sig-spec :
     let c11 = c5.before.before.before.before.before.before in
     omega (
       arith,
-      result-ends c11.before.before.before.loop.invariant c11.before.before.loop-test.false _ _ c11.put-arrow.ensures.0
+      result_ends c11.before.before.before.loop.invariant c11.before.before.loop-test.false _ _ c11.put-arrow.ensures.0
           c11.put-arrow.ensures.1 _ _ _ c5.show2.ensures _ _ c.before.read2.given.1,
       c11.before.before.before.before.before.before.before.before.requires.1.0,
     ))
@@ -765,7 +765,7 @@ pub +show-show-context-show-fields-show-function-show-inner-show-sig-spec :
     let c11 = c5.before.before.before.before.before.before in
     omega (
       arith,
-      result-ends c11.before.before.before.loop.invariant c11.before.before.loop-test.false _ _ c11.put-arrow.ensures.0
+      result_ends c11.before.before.before.loop.invariant c11.before.before.loop-test.false _ _ c11.put-arrow.ensures.0
           c11.put-arrow.ensures.1 _ _ _ c5.show2.ensures _ _ c.before.read2.given.1,
       c11.before.before.before.before.before.before.before.before.requires.1.0,
     ))
@@ -773,7 +773,7 @@ pub +show-show-context-show-fields-show-function-show-inner-show-sig-spec :
     (λ c.
     let c5 = c.before.before.before.before.before in
     let c11 = c5.before.before.before.before.before.before in
-    result-kept c11.before.before.before.loop.invariant c11.before.before.loop-test.false _ _ c11.put-arrow.ensures.0
+    result_kept c11.before.before.before.loop.invariant c11.before.before.loop-test.false _ _ c11.put-arrow.ensures.0
     c11.put-arrow.ensures.1 _ _ _ c5.show2.ensures)
     (λ c.
     let c5 = c.before.before.before.before.before in
@@ -783,10 +783,10 @@ pub +show-show-context-show-fields-show-function-show-inner-show-sig-spec :
     (λ c.
     let c4 = c.before.before.before.before in
     let c10 = c4.before.before.before.before.before.before in
-    result-kept c10.before.before.before.loop.invariant c10.before.before.loop-test.false _ _ c10.put-arrow.ensures.0
+    result_kept c10.before.before.before.loop.invariant c10.before.before.loop-test.false _ _ c10.put-arrow.ensures.0
     c10.put-arrow.ensures.1 _ _ _ c4.show2.ensures)
     (λ c.
     let c4 = c.before.before.before.before in
     let c10 = c4.before.before.before.before.before.before in
-    result-missing c10.before.before.before.loop.invariant c10.before.before.loop-test.false _ _ c10.put-arrow.ensures.0
+    result_missing c10.before.before.before.loop.invariant c10.before.before.loop-test.false _ _ c10.put-arrow.ensures.0
     c10.put-arrow.ensures.1 _ _ _ c4.show2.ensures c.enum-told2.given.1)

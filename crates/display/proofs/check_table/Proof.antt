@@ -5,7 +5,7 @@ use Rattle.display.proofs.check_table.Tie as tie
 use mathlib.Core.Logic.{⊎_elim}
 use Prim.Native.Nat.{◌-◌}
 use Rattle.names.proofs.Reader.{left_ended, left_short, left_cut}
-use Rattle.display.proofs.Tables.{Tabled, table_long, table_empty, table_start, table_untidy, table_first, table-descends, table-ascends}
+use Rattle.display.proofs.Tables.{Tabled, table_long, table_empty, table_start, table_untidy, table_first, table_descends, table_ascends}
 use borrow.Author.Rules.{rules}
 use native.Mathlib.Omega.{arith}
 
@@ -54,7 +54,7 @@ check-table-spec =
     let c4 = c.before.before.before.before in
     let c8 = c4.before.before.before.before in
     let c11 = c8.before.before.before in
-    table-descends c11.before.before.loop.invariant c11.before.loop-test.true c11.if3.false _ c8.before.wide.ensures.0 c8.if4.false _
+    table_descends c11.before.before.loop.invariant c11.before.loop-test.true c11.if3.false _ c8.before.wide.ensures.0 c8.if4.false _
     c4.before.before.is-tidy.ensures c4.before.if5.false c4.if6.true _ c.before.is-less.ensures c.if7.true)
     (λ c. search rules)
     (λ c. omega (arith, c.before.before.before.before.before.before.before.before.loop-test.true))
@@ -63,7 +63,7 @@ check-table-spec =
     let c7 = c4.before.before.before in
     ⊎_elim
     (λ x.
-    table-ascends c7.before.before.loop.invariant c7.before.loop-test.true c7.if3.false _ c4.before.wide.ensures.0 c4.if4.false _
+    table_ascends c7.before.before.loop.invariant c7.before.loop-test.true c7.if3.false _ c4.before.wide.ensures.0 c4.if4.false _
     c.before.before.is-tidy.ensures c.before.if5.false x.0.taken _ x.3.ensures x.4.left)
     (λ y.
     table_first c7.before.before.loop.invariant c7.before.loop-test.true c7.if3.false _ c4.before.wide.ensures.0 c4.if4.false _

@@ -4,7 +4,7 @@ use borrow.Author.Rules.{rules}
 use Rattle.display.proofs.display.Statement.{statement}
 use Rattle.display.proofs.display.Tie as tie
 use Rattle.types.proofs.CallContracts.{was_refused, was_accepted}
-use Rattle.display.proofs.DisplayCall.{display_first, display-second, display-accepted}
+use Rattle.display.proofs.DisplayCall.{display_first, display_second, display_accepted}
 
 check-type-requires : tie.Need-check-type-requires
 check-type-requires c κs = search rules
@@ -23,7 +23,7 @@ returns c =
     let c4 = c.before.before.before.before in
     let args = c4.before.before.before.before.args in
     let was-accepted1 = was_accepted args.t.now c4.check-type.result _ c.before.before.enum_told.given.1 c4.check-type.ensures.0 in
-    display-second args.t.now args.table.now args.out.now c4.check-type.ensures.1 was-accepted1.t was-accepted1.whole
+    display_second args.t.now args.table.now args.out.now c4.check-type.ensures.1 was-accepted1.t was-accepted1.whole
     c.before.check-table.result c.before.check-table.ensures c.if1.true
 
 write-text-requires : tie.Need-write-text-requires
@@ -32,7 +32,7 @@ write-text-requires c κs =
     let c5 = c2.before.before.before in
     let args = c5.before.before.before.before.args in
     let was-accepted1 = was_accepted args.t.now c5.check-type.result _ c2.before.enum_told.given.1 c5.check-type.ensures.0 in
-    display-accepted args.t.now args.table.now args.out.now c5.check-type.ensures.1 was-accepted1.t was-accepted1.whole
+    display_accepted args.t.now args.table.now args.out.now c5.check-type.ensures.1 was-accepted1.t was-accepted1.whole
     c2.check-table.result c2.check-table.ensures c.before.if1.false
 
 returns-2 : tie.Need-returns-2

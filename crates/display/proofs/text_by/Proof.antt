@@ -5,7 +5,7 @@ use Rattle.display.proofs.text_by.Statement.{statement}
 use Rattle.display.proofs.text_by.Tie as tie
 use mathlib.Core.Path.{sym}
 use lib.Seq.{length-take-le}
-use Rattle.display.proofs.DisplayCall.{type_short, type_ok, table_ok, call-err, call-handed, call_short, call-again, call_done}
+use Rattle.display.proofs.DisplayCall.{type_short, type_ok, table_ok, call_err, call_handed, call_short, call_again, call_done}
 
 pub text-by-spec : {M : Type 1} → statement M
 text-by-spec =
@@ -27,7 +27,7 @@ text-by-spec =
     let c5 = c.before.before.before.before.before in
     let c11 = c5.before.before.before.before.before.before in
     let c18 = c11.before.before.before.before.before.before.before in
-    call-handed c18.args.t.now c18.args.table.now c18.requires.0 c18.args.out.now _ _ _ c11.show.ensures _ _
+    call_handed c18.args.t.now c18.args.table.now c18.requires.0 c18.args.out.now _ _ _ c11.show.ensures _ _
     c5.before.before.n.given.1 c5.if1.true _ _ c.before.before.give.ensures)
     (λ c. search rules)
     (λ c.
@@ -46,14 +46,14 @@ text-by-spec =
     (λ c.
     let c4 = c.before.before.before.before in
     let c11 = c4.before.before.before.before.before.before.before in
-    call-err c11.args.t.now c11.args.table.now c11.requires.0 c11.args.out.now _ _ _ c4.show.ensures c.enum_told.given.1)
+    call_err c11.args.t.now c11.args.table.now c11.requires.0 c11.args.out.now _ _ _ c4.show.ensures c.enum_told.given.1)
     (λ c. search rules)
     (λ c. search rules)
     (λ c.
     let c4 = c.before.before.before.before in
     let c9 = c4.before.before.before.before.before in
     let c20 = c9.before.before.before.before.before.before.before.before.before.before.before in
-    call-again c20.args.t.now c20.args.table.now c20.requires.0 c20.args.out.now _ _ _ c9.before.before.before.before.show.ensures _
+    call_again c20.args.t.now c20.args.table.now c20.requires.0 c20.args.out.now _ _ _ c9.before.before.before.before.show.ensures _
     _ c9.n.given.1 c4.before.before.if2.false _ _ c4.show2.ensures c.enum-told2.given.1)
     (λ c. search rules)
     (λ c. search rules)

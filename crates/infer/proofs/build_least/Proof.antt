@@ -8,7 +8,7 @@ use mathlib.Core.Bool.{true}
 use Rattle.order.specs.Order.{order_of}
 use Rattle.form.specs.Answers.{checked}
 use Rattle.values.proofs.CallContracts.{value_refused}
-use Rattle.infer.proofs.CallContracts.{fine, fine_ok, ask, is-data, least_refused, least_other, least_done}
+use Rattle.infer.proofs.CallContracts.{fine, fine_ok, ask, is_data_lem, least_refused, least_other, least_done}
 
 -- at `match form::check_value(v) {`
 check-value-requires : tie.Need-check-value-requires
@@ -46,7 +46,7 @@ build-requires c κs =
     let v-now = args.v.now in
     let x1 = sym c7.check-value.ensures.0 ∙ ap checked c4.before.enum_told.given.1 in
     ask (order_of args.reading) true v-now (fine v-now _ c7.check-value.ensures.1 x1) c7.check-value.ensures.1
-    (λ _. is-data (order_of args.reading) v-now (fine v-now _ c7.check-value.ensures.1 x1) _ c4.is-data.ensures _ c.before.before.enum-told3.given.1)
+    (λ _. is_data_lem (order_of args.reading) v-now (fine v-now _ c7.check-value.ensures.1 x1) _ c4.is-data.ensures _ c.before.before.enum-told3.given.1)
 
 -- at the end
 returns : tie.Need-returns
@@ -81,7 +81,7 @@ returns-3 c =
     let args = c12.before.before.before.before.args in
     let fine1 =
     fine args.v.now _ c12.check-value.ensures.1 (sym c12.check-value.ensures.0 ∙ ap checked c9.before.enum_told.given.1) in
-    least_done (order_of args.reading) args.v.now fine1 (is-data (order_of args.reading) args.v.now fine1 _ c9.is-data.ensures _ c4.before.before.before.enum-told3.given.1) _
+    least_done (order_of args.reading) args.v.now fine1 (is_data_lem (order_of args.reading) args.v.now fine1 _ c9.is-data.ensures _ c4.before.before.before.enum-told3.given.1) _
     args.out.now _ _ c4.build.ensures
 
 pub build-least-spec : {M : Type 1} → statement M

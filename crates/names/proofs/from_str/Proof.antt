@@ -3,7 +3,7 @@
 use borrow.Author.Rules.{rules}
 use Rattle.names.proofs.from_str.Statement.{statement}
 use Rattle.names.proofs.from_str.Tie as tie
-use Rattle.names.proofs.BuiltInNames.{no_candidate, candidate-hit, candidate-missed}
+use Rattle.names.proofs.BuiltInNames.{no_candidate, candidate_hit, candidate_missed}
 
 -- at `let k = candidate(s);`
 candidate-requires : tie.Need-candidate-requires
@@ -24,12 +24,12 @@ command-requires c κs = search rules
 -- at `return Known::Type(command(k));`
 returns-2 : tie.Need-returns-2
 returns-2 c =
-    candidate-hit _ _ c.before.before.before.before.candidate.ensures c.before.before.before.if1.false _
+    candidate_hit _ _ c.before.before.before.before.candidate.ensures c.before.before.before.if1.false _
     c.before.before.has-name.ensures c.before.if2.true _ c.command.ensures
 
 -- at the end
 returns-3 : tie.Need-returns-3
-returns-3 c = candidate-missed _ _ c.before.before.before.candidate.ensures c.before.before.if1.false _ c.before.has-name.ensures c.if2.false
+returns-3 c = candidate_missed _ _ c.before.before.before.candidate.ensures c.before.before.if1.false _ c.before.has-name.ensures c.if2.false
 
 pub from-str-spec : {M : Type 1} → statement M
 from-str-spec =

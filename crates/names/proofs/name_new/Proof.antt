@@ -3,7 +3,7 @@
 use borrow.Author.Rules.{rules}
 use Rattle.names.proofs.name_new.Statement.{statement}
 use Rattle.names.proofs.name_new.Tie as tie
-use Rattle.names.proofs.NameNew.{parts_refused, parts-ok, parts-most}
+use Rattle.names.proofs.NameNew.{parts_refused, parts_ok, parts_most}
 use native.Mathlib.Omega.{arith}
 
 -- at `if !check_parts(parts) {`
@@ -22,7 +22,7 @@ slice-aggregate-name-by c = search rules
 name-by-requires : tie.Need-name-by-requires
 name-by-requires c κs =
     let c3 = c.before.before.before in
-    (parts-ok c3.before.before.before.before.args.parts.now _ c3.before.check-parts.ensures c3.if1.false, c.before.before.if2.true)
+    (parts_ok c3.before.before.before.before.args.parts.now _ c3.before.check-parts.ensures c3.if1.false, c.before.before.if2.true)
 
 -- at `return name_by(parts, &mut few, out);`
 same_length : tie.Need-same-length
@@ -41,8 +41,8 @@ name-by-requires-2 : tie.Need-name-by-requires-2
 name-by-requires-2 c κs =
     let c3 = c.before.before.before in
     let parts = c3.before.before.before.before.args.parts in (
-      parts-ok parts.now _ c3.before.check-parts.ensures c3.if1.false,
-      parts-most parts.now _ c3.before.check-parts.ensures c3.if1.false _ (omega arith),
+      parts_ok parts.now _ c3.before.check-parts.ensures c3.if1.false,
+      parts_most parts.now _ c3.before.check-parts.ensures c3.if1.false _ (omega arith),
     )
 
 -- at the end

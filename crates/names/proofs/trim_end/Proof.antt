@@ -2,7 +2,7 @@
 -- Assumes nothing.
 use Rattle.names.proofs.trim_end.Statement.{statement}
 use Rattle.names.proofs.trim_end.Tie as tie
-use Rattle.names.proofs.TrimLoops.{Ending, ending, ending_ended, ending-read, ending-next, ending-done}
+use Rattle.names.proofs.TrimLoops.{Ending, ending, ending_ended, ending_read, ending_next, ending_done}
 use borrow.Author.Rules.{rules}
 use native.Mathlib.Omega.{arith}
 
@@ -20,10 +20,10 @@ trim-end-spec =
     decreases-loop
     (λ c. ending _)
     (λ c. search rules)
-    (λ c. ending-read c.before.before.loop.invariant c.before.loop-test.true)
+    (λ c. ending_read c.before.before.loop.invariant c.before.loop-test.true)
     (λ c κs. search rules)
-    (λ c. ending-done c.before.before.before.before.loop.invariant c.before.before.before.loop-test.true _ c.before.is-blank.ensures c.if1.true)
+    (λ c. ending_done c.before.before.before.before.loop.invariant c.before.before.before.loop-test.true _ c.before.is-blank.ensures c.if1.true)
     (λ c. search rules)
     (λ c. omega (arith, c.before.before.before.loop-test.true))
-    (λ c. ending-next c.before.before.before.before.loop.invariant c.before.before.before.loop-test.true _ c.before.is-blank.ensures c.if1.false)
+    (λ c. ending_next c.before.before.before.before.loop.invariant c.before.before.before.loop-test.true _ c.before.is-blank.ensures c.if1.false)
     (λ c. ending_ended c.before.loop.invariant c.loop-test.false))

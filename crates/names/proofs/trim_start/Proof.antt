@@ -4,7 +4,7 @@ use Rattle.names.proofs.trim_start.Statement.{statement}
 use Rattle.names.proofs.trim_start.Tie as tie
 use lib.ListN.{length}
 use Prim.Native.Nat.{◌-◌}
-use Rattle.names.proofs.TrimLoops.{Starting, starting, starting_ended, starting-next, starting-done}
+use Rattle.names.proofs.TrimLoops.{Starting, starting, starting_ended, starting_next, starting_done}
 use borrow.Author.Rules.{rules}
 use native.Mathlib.Omega.{arith}
 
@@ -23,8 +23,8 @@ trim-start-spec =
     (λ c. starting _)
     (λ c. search rules)
     (λ c κs. search rules)
-    (λ c. starting-done c.before.before.before.before.loop.invariant c.before.before.before.loop-test.true _ c.before.is-blank.ensures c.if1.true)
+    (λ c. starting_done c.before.before.before.before.loop.invariant c.before.before.before.loop-test.true _ c.before.is-blank.ensures c.if1.true)
     (λ c. search rules)
     (λ c. omega (arith, c.before.before.before.loop-test.true))
-    (λ c. starting-next c.before.before.before.before.loop.invariant c.before.before.before.loop-test.true _ c.before.is-blank.ensures c.if1.false)
+    (λ c. starting_next c.before.before.before.before.loop.invariant c.before.before.before.loop-test.true _ c.before.is-blank.ensures c.if1.false)
     (λ c. starting_ended c.before.loop.invariant c.loop-test.false))

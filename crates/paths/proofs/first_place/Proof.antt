@@ -4,7 +4,7 @@ use borrow.Author.Rules.{rules}
 use Rattle.paths.proofs.first_place.Statement.{statement}
 use Rattle.paths.proofs.first_place.Tie as tie
 use mathlib.Core.Path.{sym, ◌∙◌}
-use Rattle.paths.proofs.CallContracts.{is_refused, opened, part_refused, first_none, first-inside, first_done}
+use Rattle.paths.proofs.CallContracts.{is_refused, opened, part_refused, first_none, first_inside, first_done}
 use native.Mathlib.Omega.{arith}
 
 -- at `let n = walk::refusal(c);`
@@ -37,7 +37,7 @@ add-p c = search rules
 sub-skip : tie.Need-overflow-sub-skip
 sub-skip c =
     let c3 = c.before.before.before in
-    first-inside c3.before.before.args.c.now
+    first_inside c3.before.before.args.c.now
     (opened c3.before.before.args.c.now 0 c3.refusal.result c3.refusal.ensures c.before.before.if1.false)
     (λ e. c.if2.false (c.before.word_at.ensures.0 ∙ e))
 
@@ -47,7 +47,7 @@ part-skip-start c =
     omega (
       arith,
       let c3 = c.before.before.before in
-          first-inside c3.before.before.args.c.now
+          first_inside c3.before.before.args.c.now
           (opened c3.before.before.args.c.now 0 c3.refusal.result c3.refusal.ensures c.before.before.if1.false)
           (λ e. c.if2.false (c.before.word_at.ensures.0 ∙ e)),
     )

@@ -7,8 +7,8 @@ use native.Mathlib.Omega.{arith}
 use lib.ListN.{length}
 use Rattle.form.proofs.Values.{ValueTold}
 use Rattle.form.proofs.Whole.{bytes_of}
-use Rattle.paths.proofs.CallContracts.{judged_refused, judged_told, refused_value, refused_names, refused-other, held_byte, is_refused, part_refused}
-use Rattle.paths.proofs.CallContracts.{Searched, searched, searched_new, searched-left, searched-part, searched-name, searched_room}
+use Rattle.paths.proofs.CallContracts.{judged_refused, judged_told, refused_value, refused_names, refused_other, held_byte, is_refused, part_refused}
+use Rattle.paths.proofs.CallContracts.{Searched, searched, searched_new, searched_left, searched_part, searched_name, searched_room}
 
 -- the value was accepted
 told : (c : tie.Else1) → ValueTold c.before.before.before.before.before.args.c.now c.before.read.result.level
@@ -55,7 +55,7 @@ returns-3 c =
     let c3 = c.before.before.before in
     let args = c3.before.before.before.before.before.args in
     let n = length args.path.now in
-    part_refused _ _ _ (is_refused args.c.now n 12 (refused-other args.c.now n (told c3).reads c.before.before.if2.false c.if3.true) (λ e. omega arith))
+    part_refused _ _ _ (is_refused args.c.now n 12 (refused_other args.c.now n (told c3).reads c.before.before.if2.false c.if3.true) (λ e. omega arith))
 
 -- at `return Found::None;`
 returns-4 : tie.Need-returns-4
@@ -63,7 +63,7 @@ returns-4 c = searched_new (cut-known c.before.before) c.if4.true
 
 -- at `return Found::None;`
 returns-5 : tie.Need-returns-5
-returns-5 c = searched-left (cut-known c.before.before.before.before) c.before.before.if4.false c.if5.true
+returns-5 c = searched_left (cut-known c.before.before.before.before) c.before.before.if4.false c.if5.true
 
 -- at `place: way.cut.at + NAME_WIDTH,`
 add-t9 : tie.Need-overflow-add-t9
@@ -71,13 +71,13 @@ add-t9 c = search (rules, searched_room (cut-known c.before.before.before.before
 
 -- at `size: way.cut.gone - NAME_WIDTH,`
 sub-t11 : tie.Need-overflow-sub-t11
-sub-t11 c = searched-name (cut-known c.before.before.before.before.before.before) c.before.before.before.before.if4.false
+sub-t11 c = searched_name (cut-known c.before.before.before.before.before.before) c.before.before.before.before.if4.false
 
 -- at the end
 returns-6 : tie.Need-returns-6
 returns-6 c =
     let c4 = c.before.before.before.before in
-    searched-part (cut-known c4.before.before) c4.if4.false c.before.before.if5.false
+    searched_part (cut-known c4.before.before) c4.if4.false c.before.before.if5.false
 
 pub search-place-spec : {M : Type 1} → statement M
 search-place-spec =

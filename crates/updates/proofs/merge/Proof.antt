@@ -12,8 +12,8 @@ use lib.Seq.{length-take-le}
 use Rattle.form.specs.Limits.{value_levels}
 use Rattle.form.proofs.Whole.{bytes_of}
 use Rattle.output.proofs.FillLaws.{length_fill}
-use Rattle.updates.proofs.MergeLoop.{Joining, context_three, joining_starts, joining_kept, joining_few, joining_shallow, name_in, end-in, entry_room, own-more, own-next, new-more}
-use Rattle.updates.proofs.MergeLoop.{new-next, new-passed, both-c, both-o, both-next, joining-done, passed}
+use Rattle.updates.proofs.MergeLoop.{Joining, context_three, joining_starts, joining_kept, joining_few, joining_shallow, name_in, end_in, entry_room, own_more, own_next, new_more}
+use Rattle.updates.proofs.MergeLoop.{new_next, new_passed, both_c, both_o, both_next, joining_done, passed}
 
 abbrev invariant-loop : tie.invariant-loop
 invariant-loop all c o out₀ told n m at₀ i₀ bt₀ j₀ to₀ k₀ deep₀ level₀ out at i bt j to k deep level = Joining all value_levels c o n m out₀ out at i bt j to k deep
@@ -66,7 +66,7 @@ add-p c =
     let loop-inv = c.before.before.before.loop.invariant in
     omega (
       arith,
-      name_in loop-inv.left-c (own-more loop-inv c.before.before.next-name.ensures c.before.next-name2.ensures c.if1.true),
+      name_in loop-inv.left-c (own_more loop-inv c.before.before.next-name.ensures c.before.next-name2.ensures c.if1.true),
       loop-inv.both.small-c,
     )
 
@@ -76,7 +76,7 @@ sub-pass c =
     omega (
       arith,
       name_in c.before.before.before.loop.invariant.left-c
-          (own-more c.before.before.before.loop.invariant c.before.before.next-name.ensures c.before.next-name2.ensures c.if1.true),
+          (own_more c.before.before.before.loop.invariant c.before.before.next-name.ensures c.before.next-name2.ensures c.if1.true),
     )
 
 -- at `let e = p + values::walk::pass(&c[p..], VALUE_LEVELS - 1, &mut level);`
@@ -85,7 +85,7 @@ part-pass-start c =
     omega (
       arith,
       name_in c.before.before.before.loop.invariant.left-c
-          (own-more c.before.before.before.loop.invariant c.before.before.next-name.ensures c.before.next-name2.ensures c.if1.true),
+          (own_more c.before.before.before.loop.invariant c.before.before.next-name.ensures c.before.next-name2.ensures c.if1.true),
     )
 
 -- at `let e = p + values::walk::pass(&c[p..], VALUE_LEVELS - 1, &mut level);`
@@ -108,7 +108,7 @@ add-e c =
     let loop = c5.before.loop in
     omega (
       arith,
-      end-in loop.invariant.left-c (own-more loop.invariant c5.next-name.ensures c3.before.next-name2.ensures c3.if1.true) _
+      end_in loop.invariant.left-c (own_more loop.invariant c5.next-name.ensures c3.before.next-name2.ensures c3.if1.true) _
           (passed value_levels c5.before.before.before.before.before.before.before.before.before.before.before.before.args.c.now loop.at
           c.pass.ensures),
       loop.invariant.both.small-c,
@@ -129,8 +129,8 @@ part-put-end c =
       arith,
       let c3 = c.before.before.before in
           let c5 = c3.before.before in
-          end-in c5.before.loop.invariant.left-c
-          (own-more c5.before.loop.invariant c5.next-name.ensures c3.before.next-name2.ensures c3.if1.true) _
+          end_in c5.before.loop.invariant.left-c
+          (own_more c5.before.loop.invariant c5.next-name.ensures c3.before.next-name2.ensures c3.if1.true) _
           (passed value_levels c5.before.before.before.before.before.before.before.before.before.before.before.before.args.c.now
           c5.before.loop.at c.pass.ensures),
     )
@@ -141,7 +141,7 @@ put-requires c κs =
     let c5 = c.before.before.before.before.before in
     let c6 = c5.before in
     let loop-inv = c6.before.before.loop.invariant in
-    entry_room loop-inv loop-inv.left-c (own-more loop-inv c6.before.next-name.ensures c6.next-name2.ensures c5.if1.true) _ _
+    entry_room loop-inv loop-inv.left-c (own_more loop-inv c6.before.next-name.ensures c6.next-name2.ensures c5.if1.true) _ _
     c.before.before.pass.ensures loop-inv.both.small-c
 
 -- at `deep = form::bytes::max(deep, level);`
@@ -154,7 +154,7 @@ add-i c =
     let c9 = c.before.before.before.before.before.before.before.before.before in
     omega (
       arith,
-      (own-more c9.before.before.before.loop.invariant c9.before.before.next-name.ensures c9.before.next-name2.ensures c9.if1.true),
+      (own_more c9.before.before.before.loop.invariant c9.before.before.next-name.ensures c9.before.next-name2.ensures c9.if1.true),
       c9.before.before.before.before.before.before.before.before.before.before.word_at.ensures.1,
     )
 
@@ -168,7 +168,7 @@ loop-less c =
     let c9 = c.before.before.before.before.before.before.before.before.before in
     omega (
       arith,
-      (own-more c9.before.before.before.loop.invariant c9.before.before.next-name.ensures c9.before.next-name2.ensures c9.if1.true),
+      (own_more c9.before.before.before.loop.invariant c9.before.before.next-name.ensures c9.before.next-name2.ensures c9.if1.true),
     )
 
 -- at `loop {`
@@ -177,7 +177,7 @@ loop-again c =
     let c3 = c.before.before.before in
     let c9 = c3.before.before.before.before.before.before in
     let c22 = c9.before.before.before.before.before.before.before.before.before.before.before.before.before in
-    own-next c9.before.before.before.loop.invariant c9.before.before.next-name.ensures c9.before.next-name2.ensures c9.if1.true _ _
+    own_next c9.before.before.before.loop.invariant c9.before.before.next-name.ensures c9.before.next-name2.ensures c9.if1.true _ _
     c3.before.before.before.pass.ensures (bytes_of c22.before.args.c.now c22.shared-slice-known.given) _ _ _ c3.put.ensures.0
     c3.put.ensures.1 c.max.ensures
 
@@ -188,7 +188,7 @@ add-q c =
     omega (
       arith,
       name_in c3.before.loop.invariant.left-o
-          (new-more c3.before.loop.invariant c3.next-name.ensures c.before.before.next-name2.ensures c.if2.true),
+          (new_more c3.before.loop.invariant c3.next-name.ensures c.before.before.next-name2.ensures c.if2.true),
       c3.before.loop.invariant.both.small-o,
     )
 
@@ -199,7 +199,7 @@ sub-pass-3 c =
       arith,
       let c3 = c.before.before.before in
           name_in c3.before.loop.invariant.left-o
-          (new-more c3.before.loop.invariant c3.next-name.ensures c.before.before.next-name2.ensures c.if2.true),
+          (new_more c3.before.loop.invariant c3.next-name.ensures c.before.before.next-name2.ensures c.if2.true),
     )
 
 -- at `let e = q + values::walk::pass(&o[q..], VALUE_LEVELS - 1, &mut level);`
@@ -209,7 +209,7 @@ part-pass-start-2 c =
       arith,
       let c3 = c.before.before.before in
           name_in c3.before.loop.invariant.left-o
-          (new-more c3.before.loop.invariant c3.next-name.ensures c.before.before.next-name2.ensures c.if2.true),
+          (new_more c3.before.loop.invariant c3.next-name.ensures c.before.before.next-name2.ensures c.if2.true),
     )
 
 -- at `let e = q + values::walk::pass(&o[q..], VALUE_LEVELS - 1, &mut level);`
@@ -232,7 +232,7 @@ add-e-2 c =
     let loop = c6.before.loop in
     omega (
       arith,
-      end-in loop.invariant.left-o (new-more loop.invariant c6.next-name.ensures c3.before.before.next-name2.ensures c3.if2.true) _
+      end_in loop.invariant.left-o (new_more loop.invariant c6.next-name.ensures c3.before.before.next-name2.ensures c3.if2.true) _
           (passed value_levels c6.before.before.before.before.before.before.before.before.before.before.before.before.args.o.now loop.bt
           c.pass2.ensures),
       loop.invariant.both.small-o,
@@ -254,7 +254,7 @@ part-put-end-2 c =
       let c4 = c.before.before.before.before in
           let c6 = c4.before.before in
           let c8 = c6.before.before in
-          end-in c8.loop.invariant.left-o (new-more c8.loop.invariant c6.before.next-name.ensures c6.next-name2.ensures c4.if2.true) _
+          end_in c8.loop.invariant.left-o (new_more c8.loop.invariant c6.before.next-name.ensures c6.next-name2.ensures c4.if2.true) _
           (passed value_levels c8.before.before.before.before.before.before.before.before.before.before.before.args.o.now c8.loop.bt
           c.before.pass2.ensures),
     )
@@ -265,7 +265,7 @@ put-requires-2 c κs =
     let c6 = c.before.before.before.before.before.before in
     let c8 = c6.before.before in
     let loop-inv = c8.before.before.loop.invariant in
-    entry_room loop-inv loop-inv.left-o (new-more loop-inv c8.before.next-name.ensures c8.next-name2.ensures c6.if2.true) _ _
+    entry_room loop-inv loop-inv.left-o (new_more loop-inv c8.before.next-name.ensures c8.next-name2.ensures c6.if2.true) _ _
     c.before.before.before.pass2.ensures loop-inv.both.small-o
 
 -- at `deep = form::bytes::max(deep, level);`
@@ -279,7 +279,7 @@ add-j c =
     let c13 = c10.before.before.before in
     omega (
       arith,
-      (new-more c13.before.loop.invariant c13.next-name.ensures c10.before.before.next-name2.ensures c10.if2.true),
+      (new_more c13.before.loop.invariant c13.next-name.ensures c10.before.before.next-name2.ensures c10.if2.true),
       c13.before.before.before.before.before.before.before.word-at2.ensures.1,
     )
 
@@ -293,7 +293,7 @@ loop-less-2 c =
     let c10 = c.before.before.before.before.before.before.before.before.before.before in
     omega (
       arith,
-      (new-more c10.before.before.before.before.loop.invariant c10.before.before.before.next-name.ensures c10.before.before.next-name2.ensures
+      (new_more c10.before.before.before.before.loop.invariant c10.before.before.before.next-name.ensures c10.before.before.next-name2.ensures
           c10.if2.true),
     )
 
@@ -305,7 +305,7 @@ loop-again-2 c =
     let c10 = c6.before.before.before.before in
     let c13 = c10.before.before.before in
     let c23 = c13.before.before.before.before.before.before.before.before.before.before in
-    new-next c13.before.loop.invariant c13.next-name.ensures c10.before.before.next-name2.ensures c10.if2.true _ _
+    new_next c13.before.loop.invariant c13.next-name.ensures c10.before.before.next-name2.ensures c10.if2.true _ _
     c6.before.pass2.ensures c6.if3.true (bytes_of c23.before.before.args.o.now c23.shared-slice-known2.given) _ _ _
     c3.put2.ensures.0 c3.put2.ensures.1 c.max2.ensures
 
@@ -316,7 +316,7 @@ add-j-2 c =
     let c6 = c4.before.before in
     omega (
       arith,
-      (new-more c6.before.before.loop.invariant c6.before.next-name.ensures c6.next-name2.ensures c4.if2.true),
+      (new_more c6.before.before.loop.invariant c6.before.next-name.ensures c6.next-name2.ensures c4.if2.true),
       c6.before.before.before.before.before.before.before.before.word-at2.ensures.1,
     )
 
@@ -325,14 +325,14 @@ loop-less-3 : tie.Need-loop-smaller-3 invariant-loop decreases-loop
 loop-less-3 c =
     let c4 = c.before.before.before.before in
     let c6 = c4.before.before in
-    omega (arith, (new-more c6.before.before.loop.invariant c6.before.next-name.ensures c6.next-name2.ensures c4.if2.true))
+    omega (arith, (new_more c6.before.before.loop.invariant c6.before.next-name.ensures c6.next-name2.ensures c4.if2.true))
 
 -- at `loop {`
 loop-again-3 : tie.Need-loop-preserved-3 invariant-loop decreases-loop
 loop-again-3 c =
     let c4 = c.before.before.before.before in
     let c6 = c4.before.before in
-    new-passed c6.before.before.loop.invariant c6.before.next-name.ensures c6.next-name2.ensures c4.if2.true _ _ c.before.pass2.ensures
+    new_passed c6.before.before.loop.invariant c6.before.next-name.ensures c6.next-name2.ensures c4.if2.true _ _ c.before.pass2.ensures
     c.if3.false
 
 -- at `let p = at + NAME_WIDTH;`
@@ -342,7 +342,7 @@ add-p-2 c =
     omega (
       arith,
       name_in c4.before.loop.invariant.left-c
-          (both-c c4.before.loop.invariant c4.next-name.ensures c.before.before.before.next-name2.ensures c.before.before.if1.false
+          (both_c c4.before.loop.invariant c4.next-name.ensures c.before.before.before.next-name2.ensures c.before.before.if1.false
           c.before.if2.false c.if4.false),
       c4.before.loop.invariant.both.small-c,
     )
@@ -354,7 +354,7 @@ sub-skip c =
       arith,
       let c3 = c.before.before.before in
           name_in c3.before.before.loop.invariant.left-c
-          (both-c c3.before.before.loop.invariant c3.before.next-name.ensures c3.next-name2.ensures c.before.before.if1.false
+          (both_c c3.before.before.loop.invariant c3.before.next-name.ensures c3.next-name2.ensures c.before.before.if1.false
           c.before.if2.false c.if4.false),
     )
 
@@ -365,7 +365,7 @@ part-skip-start c =
       arith,
       let c3 = c.before.before.before in
           name_in c3.before.before.loop.invariant.left-c
-          (both-c c3.before.before.loop.invariant c3.before.next-name.ensures c3.next-name2.ensures c.before.before.if1.false
+          (both_c c3.before.before.loop.invariant c3.before.next-name.ensures c3.next-name2.ensures c.before.before.if1.false
           c.before.if2.false c.if4.false),
     )
 
@@ -389,8 +389,8 @@ add_at c =
     let loop-inv = c5.before.before.loop.invariant in
     omega (
       arith,
-      end-in loop-inv.left-c
-          (both-c loop-inv c5.before.next-name.ensures c5.next-name2.ensures c3.before.if1.false c3.if2.false c.before.before.if4.false) _
+      end_in loop-inv.left-c
+          (both_c loop-inv c5.before.next-name.ensures c5.next-name2.ensures c3.before.if1.false c3.if2.false c.before.before.if4.false) _
           c.skip.ensures,
       loop-inv.both.small-c,
     )
@@ -402,7 +402,7 @@ add-i-2 c =
     let c6 = c4.before.before in
     omega (
       arith,
-      (both-c c6.before.loop.invariant c6.next-name.ensures c4.before.next-name2.ensures c4.if1.false c.before.before.before.if2.false
+      (both_c c6.before.loop.invariant c6.next-name.ensures c4.before.next-name2.ensures c4.if1.false c.before.before.before.if2.false
           c.before.before.if4.false),
       c6.before.before.before.before.before.before.before.before.word_at.ensures.1,
     )
@@ -416,7 +416,7 @@ add-q-2 c =
     omega (
       arith,
       name_in loop-inv.left-o
-          (both-o loop-inv c5.before.next-name.ensures c5.next-name2.ensures c3.before.if1.false c3.if2.false c.before.before.if4.false),
+          (both_o loop-inv c5.before.next-name.ensures c5.next-name2.ensures c3.before.if1.false c3.if2.false c.before.before.if4.false),
       loop-inv.both.small-o,
     )
 
@@ -428,7 +428,7 @@ sub-pass-5 c =
       let c4 = c.before.before.before.before in
           let c6 = c4.before.before in
           name_in c6.before.loop.invariant.left-o
-          (both-o c6.before.loop.invariant c6.next-name.ensures c4.before.next-name2.ensures c4.if1.false c.before.before.before.if2.false
+          (both_o c6.before.loop.invariant c6.next-name.ensures c4.before.next-name2.ensures c4.if1.false c.before.before.before.if2.false
           c.before.before.if4.false),
     )
 
@@ -440,7 +440,7 @@ part-pass-start-3 c =
       let c4 = c.before.before.before.before in
           let c6 = c4.before.before in
           name_in c6.before.loop.invariant.left-o
-          (both-o c6.before.loop.invariant c6.next-name.ensures c4.before.next-name2.ensures c4.if1.false c.before.before.before.if2.false
+          (both_o c6.before.loop.invariant c6.next-name.ensures c4.before.next-name2.ensures c4.if1.false c.before.before.before.if2.false
           c.before.before.if4.false),
     )
 
@@ -464,8 +464,8 @@ add-e-3 c =
     let c10 = c7.before.before.before in
     omega (
       arith,
-      end-in c10.loop.invariant.left-o
-          (both-o c10.loop.invariant c7.before.before.next-name.ensures c7.before.next-name2.ensures c7.if1.false c5.before.if2.false
+      end_in c10.loop.invariant.left-o
+          (both_o c10.loop.invariant c7.before.before.next-name.ensures c7.before.next-name2.ensures c7.if1.false c5.before.if2.false
           c5.if4.false)
           _
           (passed value_levels c10.before.before.before.before.before.before.before.before.before.before.before.args.o.now c10.loop.bt
@@ -489,8 +489,8 @@ part-put-end-3 c =
       let c5 = c.before.before.before.before.before in
           let c7 = c5.before.before in
           let c10 = c7.before.before.before in
-          end-in c10.loop.invariant.left-o
-          (both-o c10.loop.invariant c7.before.before.next-name.ensures c7.before.next-name2.ensures c7.if1.false c5.before.if2.false
+          end_in c10.loop.invariant.left-o
+          (both_o c10.loop.invariant c7.before.before.next-name.ensures c7.before.next-name2.ensures c7.if1.false c5.before.if2.false
           c5.if4.false)
           _
           (passed value_levels c10.before.before.before.before.before.before.before.before.before.before.before.args.o.now c10.loop.bt
@@ -504,7 +504,7 @@ put-requires-3 c κs =
     let c8 = c7.before in
     let loop-inv = c8.before.before.before.before.loop.invariant in
     entry_room loop-inv loop-inv.left-o
-    (both-o loop-inv c8.before.before.before.next-name.ensures c8.before.before.next-name2.ensures c8.before.if1.false c8.if2.false
+    (both_o loop-inv c8.before.before.before.next-name.ensures c8.before.before.next-name2.ensures c8.before.if1.false c8.if2.false
     c7.if4.false)
     _ _ c.before.before.pass3.ensures loop-inv.both.small-o
 
@@ -519,7 +519,7 @@ add-j-3 c =
     let c14 = c11.before.before.before in
     omega (
       arith,
-      (both-o c14.before.before.loop.invariant c14.before.next-name.ensures c14.next-name2.ensures c11.before.before.if1.false
+      (both_o c14.before.before.loop.invariant c14.before.next-name.ensures c14.next-name2.ensures c11.before.before.if1.false
           c11.before.if2.false c11.if4.false),
       c14.before.before.before.before.before.before.before.before.word-at2.ensures.1,
     )
@@ -540,9 +540,9 @@ loop-less-4 c =
     let c14 = c11.before.before.before in
     omega (
       arith,
-      (both-c c14.before.before.loop.invariant c14.before.next-name.ensures c14.next-name2.ensures c11.before.before.if1.false
+      (both_c c14.before.before.loop.invariant c14.before.next-name.ensures c14.next-name2.ensures c11.before.before.if1.false
           c11.before.if2.false c11.if4.false),
-      (both-o c14.before.before.loop.invariant c14.before.next-name.ensures c14.next-name2.ensures c11.before.before.if1.false
+      (both_o c14.before.before.loop.invariant c14.before.next-name.ensures c14.next-name2.ensures c11.before.before.if1.false
           c11.before.if2.false c11.if4.false),
     )
 
@@ -554,7 +554,7 @@ loop-again-4 c =
     let c11 = c6.before.before.before.before.before in
     let c14 = c11.before.before.before in
     let c25 = c14.before.before.before.before.before.before.before.before.before.before.before in
-    both-next c14.before.before.loop.invariant c14.before.next-name.ensures c14.next-name2.ensures c11.before.before.if1.false
+    both_next c14.before.before.loop.invariant c14.before.next-name.ensures c14.next-name2.ensures c11.before.before.if1.false
     c11.before.if2.false c11.if4.false _ c6.before.before.before.skip.ensures _ _ c6.pass3.ensures
     (bytes_of c25.before.before.args.o.now c25.shared-slice-known2.given) _ _ _ c3.put3.ensures.0 c3.put3.ensures.1
     c.max3.ensures
@@ -593,7 +593,7 @@ returns c =
     let c7 = c5.before.before in
     let c9 = c7.before.before in
     let c11 = c9.before.before in
-    joining-done c11.before.loop.invariant c11.next-name.ensures c9.before.next-name2.ensures c9.if1.false c7.before.if2.false
+    joining_done c11.before.loop.invariant c11.next-name.ensures c9.before.next-name2.ensures c9.if1.false c7.before.if2.false
     c7.if4.true _ _ c5.before.low.ensures c5.high.ensures
     c11.before.before.before.before.before.before.before.before.before.before.before.before.args.out.now _ _
     c11.before.before.before.before.fill.ensures c.before.before.fill2.ensures refl

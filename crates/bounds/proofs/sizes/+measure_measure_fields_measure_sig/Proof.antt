@@ -20,9 +20,9 @@ use Rattle.bounds.proofs.sizes.+measure_measure_fields_measure_sig.{statement}
 use Rattle.bounds.proofs.sizes.+measure_measure_fields_measure_sig.Tie.{close}
 use borrow.Author.Rules.{rules}
 use native.Mathlib.Omega.{arith}
-use Rattle.bounds.proofs.ReducedSizes.{within_ok, within-ends, within-done, some_first, some_left, simple_sizes, in_wrapped, context_three, in_context, function_at, none_sizes}
-use Rattle.bounds.proofs.ReducedSizes.{in_function, EntriesInv, entries_start, entry-name, entry-there, entry-ends, entry_next, entries_done, ParametersInv, parameters_start}
-use Rattle.bounds.proofs.ReducedSizes.{parameter-there, parameter-ends, parameter-next, result-there, result_fits, parameters-done}
+use Rattle.bounds.proofs.ReducedSizes.{within_ok, within_ends, within_done, some_first, some_left, simple_sizes, in_wrapped, context_three, in_context, function_at, none_sizes}
+use Rattle.bounds.proofs.ReducedSizes.{in_function, EntriesInv, entries_start, entry_name, entry_there, entry_ends, entry_next, entries_done, ParametersInv, parameters_start}
+use Rattle.bounds.proofs.ReducedSizes.{parameter_there, parameter_ends, parameter_next, result_there, result_fits, parameters_done}
 
 abbrev μ-measure : Measures 1 measure-kinds.ps ℕ
 μ-measure κs a = 2 * a.1.0
@@ -126,7 +126,7 @@ pub +measure-measure-fields-measure-sig-spec : {M : Type 1} → statement M
     omega (
       arith,
       c7.well-formed,
-      within-ends (in_wrapped _ c7.args.s.now c7.requires.1 c3.before.if1.false c3.if2.true) _ _ c.before.measure.ensures,
+      within_ends (in_wrapped _ c7.args.s.now c7.requires.1 c3.before.if1.false c3.if2.true) _ _ c.before.measure.ensures,
     ))
     (λ c.
     let c4 = c.before.before.before.before in
@@ -134,12 +134,12 @@ pub +measure-measure-fields-measure-sig-spec : {M : Type 1} → statement M
     omega (
       arith,
       c8.well-formed,
-      within-ends (in_wrapped _ c8.args.s.now c8.requires.1 c4.before.if1.false c4.if2.true) _ _ c.before.before.measure.ensures,
+      within_ends (in_wrapped _ c8.args.s.now c8.requires.1 c4.before.if1.false c4.if2.true) _ _ c.before.before.measure.ensures,
     ))
     (λ c.
     let c4 = c.before.before.before.before in
     let c8 = c4.before.before.before.before in
-    within-done (in_wrapped _ c8.args.s.now c8.requires.1 c4.before.if1.false c4.if2.true) _ _ c.before.before.measure.ensures)
+    within_done (in_wrapped _ c8.args.s.now c8.requires.1 c4.before.if1.false c4.if2.true) _ _ c.before.before.measure.ensures)
     (λ c.
     omega (
       arith,
@@ -176,7 +176,7 @@ pub +measure-measure-fields-measure-sig-spec : {M : Type 1} → statement M
     omega (
       arith,
       c9.well-formed,
-      within-ends (in_context _ c9.args.s.now c9.requires.1 c4.if3.true _ c.before.before.word_at.ensures.0) _ _
+      within_ends (in_context _ c9.args.s.now c9.requires.1 c4.if3.true _ c.before.before.word_at.ensures.0) _ _
           c.before.measure-fields.ensures,
     ))
     (λ c.
@@ -185,13 +185,13 @@ pub +measure-measure-fields-measure-sig-spec : {M : Type 1} → statement M
     omega (
       arith,
       c10.well-formed,
-      within-ends (in_context _ c10.args.s.now c10.requires.1 c3.before.before.if3.true _ c3.word_at.ensures.0) _ _
+      within_ends (in_context _ c10.args.s.now c10.requires.1 c3.before.before.if3.true _ c3.word_at.ensures.0) _ _
           c.before.before.measure-fields.ensures,
     ))
     (λ c.
     let c5 = c.before.before.before.before.before in
     let c10 = c5.before.before.before.before.before in
-    within-done (in_context _ c10.args.s.now c10.requires.1 c5.if3.true _ c.before.before.before.word_at.ensures.0) _ _
+    within_done (in_context _ c10.args.s.now c10.requires.1 c5.if3.true _ c.before.before.before.word_at.ensures.0) _ _
     c.before.before.measure-fields.ensures)
     (λ c.
     omega (
@@ -239,7 +239,7 @@ pub +measure-measure-fields-measure-sig-spec : {M : Type 1} → statement M
     omega (
       arith,
       c11.well-formed,
-      within-ends
+      within_ends
           (in_function (function_at _ c11.args.s.now c11.requires.1 c6.before.if2.false c6.if3.false) c4.if4.false _
           c.before.before.wide.ensures.0)
           _ _ c.before.measure-sig.ensures,
@@ -251,7 +251,7 @@ pub +measure-measure-fields-measure-sig-spec : {M : Type 1} → statement M
     omega (
       arith,
       c12.well-formed,
-      within-ends
+      within_ends
           (in_function (function_at _ c12.args.s.now c12.requires.1 c7.before.if2.false c7.if3.false) c3.before.before.if4.false _
           c3.wide.ensures.0)
           _ _ c.before.before.measure-sig.ensures,
@@ -260,25 +260,25 @@ pub +measure-measure-fields-measure-sig-spec : {M : Type 1} → statement M
     let c3 = c.before.before.before in
     let c7 = c3.before.before.before.before in
     let c12 = c7.before.before.before.before.before in
-    within-done
+    within_done
     (in_function (function_at _ c12.args.s.now c12.requires.1 c7.before.if2.false c7.if3.false) c3.before.before.if4.false _
     c3.wide.ensures.0)
     _ _ c.before.before.measure-sig.ensures))
     (λ t.
     measure-fields-lts.spec (measure-below t, measure.Post) (measure-fields-at t) measure-fields.Post measure-fields-Inv-loop measure-fields-μ-loop
     (λ c. entries_start _ _ _ c.before.requires.1)
-    (λ c. omega (arith, c.before.before.before.well-formed, entry-name c.before.loop.invariant c.loop-test.true))
-    (λ c. omega (arith, c.before.before.before.well-formed, c.before.loop.invariant.low, entry-name c.before.loop.invariant c.loop-test.true))
-    (λ c. omega (arith, entry-name c.before.loop.invariant c.loop-test.true))
-    (λ c. omega (arith, entry-name c.before.loop.invariant c.loop-test.true))
+    (λ c. omega (arith, c.before.before.before.well-formed, entry_name c.before.loop.invariant c.loop-test.true))
+    (λ c. omega (arith, c.before.before.before.well-formed, c.before.loop.invariant.low, entry_name c.before.loop.invariant c.loop-test.true))
+    (λ c. omega (arith, entry_name c.before.loop.invariant c.loop-test.true))
+    (λ c. omega (arith, entry_name c.before.loop.invariant c.loop-test.true))
     (λ c. search rules)
-    (λ c κs. (omega (arith, c.before.before.before.before.requires.0), entry-there c.before.before.loop.invariant c.before.loop-test.true))
+    (λ c κs. (omega (arith, c.before.before.before.before.requires.0), entry_there c.before.before.loop.invariant c.before.loop-test.true))
     (λ c.
     let c3 = c.before.before.before in
-    omega (arith, c3.before.before.before.well-formed, entry-ends c3.before.loop.invariant c3.loop-test.true _ _ c.before.measure.ensures))
+    omega (arith, c3.before.before.before.well-formed, entry_ends c3.before.loop.invariant c3.loop-test.true _ _ c.before.measure.ensures))
     (λ c.
     let c4 = c.before.before.before.before in
-    omega (arith, c4.before.before.before.well-formed, entry-ends c4.before.loop.invariant c4.loop-test.true _ _ c.before.before.measure.ensures))
+    omega (arith, c4.before.before.before.well-formed, entry_ends c4.before.loop.invariant c4.loop-test.true _ _ c.before.before.measure.ensures))
     (λ c.
     let c4 = c.before.before.before.before in
     omega (arith, c4.before.before.before.well-formed, c4.loop-test.true))
@@ -293,25 +293,25 @@ pub +measure-measure-fields-measure-sig-spec : {M : Type 1} → statement M
     (λ c. omega (arith, c.before.loop.invariant.within))
     (λ c. omega (arith, c.before.loop.invariant.within))
     (λ c. search rules)
-    (λ c κs. (omega (arith, c.before.before.before.before.requires.0), parameter-there c.before.before.loop.invariant c.before.loop-test.true))
+    (λ c κs. (omega (arith, c.before.before.before.before.requires.0), parameter_there c.before.before.loop.invariant c.before.loop-test.true))
     (λ c.
     let c3 = c.before.before.before in
-    omega (arith, c3.before.before.before.well-formed, parameter-ends c3.before.loop.invariant c3.loop-test.true _ _ c.before.measure.ensures))
+    omega (arith, c3.before.before.before.well-formed, parameter_ends c3.before.loop.invariant c3.loop-test.true _ _ c.before.measure.ensures))
     (λ c.
     let c4 = c.before.before.before.before in
     omega
-    (arith, c4.before.before.before.well-formed, parameter-ends c4.before.loop.invariant c4.loop-test.true _ _ c.before.before.measure.ensures))
+    (arith, c4.before.before.before.well-formed, parameter_ends c4.before.loop.invariant c4.loop-test.true _ _ c.before.before.measure.ensures))
     (λ c.
     let c4 = c.before.before.before.before in
     omega (arith, c4.before.before.before.well-formed, c4.loop-test.true))
     (λ c. omega (arith, c.before.before.before.before.loop-test.true))
     (λ c.
     let c4 = c.before.before.before.before in
-    parameter-next c4.before.loop.invariant c4.loop-test.true _ _ c.before.before.measure.ensures)
+    parameter_next c4.before.loop.invariant c4.loop-test.true _ _ c.before.before.measure.ensures)
     (λ c. omega (arith, c.before.loop.invariant.within))
     (λ c. omega (arith, c.before.loop.invariant.within))
     (λ c. search rules)
-    (λ c κs. (omega (arith, c.before.before.before.before.requires.0), result-there c.before.before.loop.invariant c.before.loop-test.false))
+    (λ c κs. (omega (arith, c.before.before.before.before.requires.0), result_there c.before.before.loop.invariant c.before.loop-test.false))
     (λ c.
     let c3 = c.before.before.before in
     omega (arith, c3.before.before.before.well-formed, result_fits c3.before.loop.invariant c3.loop-test.false _ _ c.before.measure2.ensures))
@@ -320,4 +320,4 @@ pub +measure-measure-fields-measure-sig-spec : {M : Type 1} → statement M
     omega (arith, c4.before.before.before.well-formed, result_fits c4.before.loop.invariant c4.loop-test.false _ _ c.before.before.measure2.ensures))
     (λ c.
     let c4 = c.before.before.before.before in
-    parameters-done c4.before.loop.invariant c4.loop-test.false _ _ c.before.before.measure2.ensures)
+    parameters_done c4.before.loop.invariant c4.loop-test.false _ _ c.before.before.measure2.ensures)

@@ -6,7 +6,7 @@ use Rattle.coercion.proofs.conversion.convert.Tie as tie
 use mathlib.Core.Path.{subst}
 use lib.ListN.{length}
 use Rattle.form.specs.Answers.{Built}
-use Rattle.coercion.proofs.Rules.{value_byte, list_three, give_same, give_item, give_no_item, long_value, low_value, give-single, give-failed}
+use Rattle.coercion.proofs.Rules.{value_byte, list_three, give_same, give_item, give_no_item, long_value, low_value, give_single, give_failed}
 
 pub convert-spec : {M : Type 1} → statement M
 convert-spec =
@@ -76,7 +76,7 @@ convert-spec =
     let c13 = c8.before.before.before.before.before in
     subst
     (λ o. Built o c13.args.out.now c2.wrap.new.1.1.0 c2.wrap.result)
-    (give-single c13.args.t.now c13.args.v.now c13.requires.0.both _
+    (give_single c13.args.t.now c13.args.v.now c13.requires.0.both _
     c8.before.keeps.ensures c8.if1.false c5.before.if2.false _ c5.meets-inner.ensures
     c2.before.before.if4.true _ c13.requires.0.level (length c13.args.out.now))
     c2.wrap.ensures)
@@ -90,7 +90,7 @@ convert-spec =
     let c14 = c9.before.before.before.before.before in
     subst
     (λ o. Built o c14.args.out.now c2.give4.new.1.0 c2.give4.result)
-    (give-failed c14.args.t.now c14.args.v.now c14.requires.0.both _
+    (give_failed c14.args.t.now c14.args.v.now c14.requires.0.both _
     c9.before.keeps.ensures c9.if1.false c5.before.before.if2.false _
     c5.before.meets-inner.ensures c5.if4.false (length c14.args.out.now))
     c2.give4.ensures))

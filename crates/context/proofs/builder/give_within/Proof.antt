@@ -5,7 +5,7 @@ use Rattle.context.proofs.builder.give_within.Statement.{statement}
 use Rattle.context.proofs.builder.give_within.Tie as tie
 use mathlib.Core.Path.{sym}
 use lib.Seq.{length-take-le}
-use Rattle.context.proofs.CallContracts.{within_long, within-deep, within-done}
+use Rattle.context.proofs.CallContracts.{within_long, within_deep, within_done}
 
 -- at `return Written::Refused(refusals::RESULT);`
 returns : tie.Need-returns
@@ -17,7 +17,7 @@ returns c =
 returns-2 : tie.Need-returns-2
 returns-2 c =
     let args = c.before.before.before.before.args in
-    λ w H. within-deep args.spare.now args.size args.level w H args.out.now c.before.if1.false c.if2.true
+    λ w H. within_deep args.spare.now args.size args.level w H args.out.now c.before.if1.false c.if2.true
 
 -- at `output::give(&spare[..size], out)`
 slice-aggregate-give : tie.Need-slice-aggregate-give
@@ -37,7 +37,7 @@ returns-3 c =
     let c5 = c.before.before.before.before.before in
     let args = c5.before.before.before.before.args in
     λ w H.
-    within-done args.spare.now args.size args.level w H args.out.now c5.before.if1.false c5.if2.false _ _
+    within_done args.spare.now args.size args.level w H args.out.now c5.before.if1.false c5.if2.false _ _
     c.before.before.give.ensures
 
 pub give-within-spec : {M : Type 1} → statement M

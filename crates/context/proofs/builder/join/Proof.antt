@@ -6,7 +6,7 @@ use Rattle.context.proofs.builder.join.Tie as tie
 use mathlib.Core.Path.{refl}
 use Rattle.values.proofs.CallContracts.{value_refused, value_accepted}
 use Rattle.paths.proofs.CallContracts.{held_byte}
-use Rattle.context.proofs.CallContracts.{few_room, all_room, join_first, join-second, join_other, join-others, join-context, join-context2, join-small, join-done}
+use Rattle.context.proofs.CallContracts.{few_room, all_room, join_first, join_second, join_other, join_others, join_context, join-context2, join-small, join-done}
 
 pub join-spec : {M : Type 1} → statement M
 join-spec =
@@ -26,7 +26,7 @@ join-spec =
     let c3 = c.before.before.before in
     let c6 = c3.before.before.before in
     let args = c6.before.before.before.before.args in
-    join-second args.all args.c.now args.o.now args.out.now
+    join_second args.all args.c.now args.o.now args.out.now
     (value_accepted args.c.now c6.check-value.ensures.1 c6.check-value.result _ c3.before.enum_told.given.1
     c6.check-value.ensures.0)
     _ (value_refused args.o.now c3.check-value2.result _ c.before.n2.given.1 c3.check-value2.ensures.0))
@@ -58,7 +58,7 @@ join-spec =
     let c6 = c4.before.before in
     let c9 = c6.before.before.before in
     let args = c9.before.before.before.before.args in
-    join-others args.all args.c.now args.o.now args.out.now
+    join_others args.all args.c.now args.o.now args.out.now
     (value_accepted args.c.now c9.check-value.ensures.1 c9.check-value.result _ c6.before.enum_told.given.1
     c9.check-value.ensures.0)
     (value_accepted args.o.now c6.check-value2.ensures.1 c6.check-value2.result _ c4.enum-told2.given.1 c6.check-value2.ensures.0)
@@ -76,7 +76,7 @@ join-spec =
     let value-accepted2 =
     value_accepted args.o.now c9.check-value2.ensures.1 c9.check-value2.result _ c5.before.before.enum-told2.given.1
     c9.check-value2.ensures.0 in (
-      join-context args.all args.c.now args.o.now args.out.now value-accepted1 value-accepted2 c5.if1.false,
+      join_context args.all args.c.now args.o.now args.out.now value-accepted1 value-accepted2 c5.if1.false,
       (
         join-context2 args.all args.c.now args.o.now args.out.now value-accepted1 value-accepted2 c5.if1.false c3.if2.false,
         (
@@ -111,7 +111,7 @@ join-spec =
     let value-accepted2 =
     value_accepted args.o.now c9.check-value2.ensures.1 c9.check-value2.result _ c5.before.before.enum-told2.given.1
     c9.check-value2.ensures.0 in (
-      join-context args.all args.c.now args.o.now args.out.now value-accepted1 value-accepted2 c5.if1.false,
+      join_context args.all args.c.now args.o.now args.out.now value-accepted1 value-accepted2 c5.if1.false,
       (
         join-context2 args.all args.c.now args.o.now args.out.now value-accepted1 value-accepted2 c5.if1.false c3.if2.false,
         (

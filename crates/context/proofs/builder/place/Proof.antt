@@ -5,7 +5,7 @@ use Rattle.context.proofs.builder.place.Statement.{statement}
 use Rattle.context.proofs.builder.place.Tie as tie
 use mathlib.Core.Path.{sym, ◌∙◌}
 use Rattle.form.proofs.Whole.{bytes_of}
-use Rattle.context.proofs.CallContracts.{along, place_copy, place_asks, place-err, place-long, place-deep, place_short, place-done}
+use Rattle.context.proofs.CallContracts.{along, place_copy, place_asks, place_err, place_long, place-deep, place_short, place-done}
 
 -- at `return output::give(c, out);`
 give-requires : tie.Need-give-requires
@@ -38,7 +38,7 @@ returns-2 c =
     let args = c7.args in
     λ es x ec ex.
     let along1 = along args.c.now args.path.now args.way.rest args.way.cut es ec c7.requires.1.1.1.0 in
-    place-err args.strict args.c.now args.path.now args.v.now args.out.now es x ec ex
+    place_err args.strict args.c.now args.path.now args.v.now args.out.now es x ec ex
     (bytes_of args.c.now c4.before.before.shared-slice-known.given) (bytes_of args.v.now c4.shared-slice-known3.given)
     c7.requires.1.1.0.bytes-c c.before.before.if1.false args.way.rest args.way.cut along1.0 along1.1
     (sym c.before.is_err.ensures ∙ c.if2.true)
@@ -65,7 +65,7 @@ returns-3 c =
     let args = c10.args in
     λ es x ec ex.
     let along1 = along args.c.now args.path.now args.way.rest args.way.cut es ec c10.requires.1.1.1.0 in
-    place-long args.strict args.c.now args.path.now args.v.now args.out.now es x ec ex
+    place_long args.strict args.c.now args.path.now args.v.now args.out.now es x ec ex
     (bytes_of args.c.now c7.before.before.shared-slice-known.given) (bytes_of args.v.now c7.shared-slice-known3.given)
     c10.requires.1.1.0.bytes-c c4.before.if1.false args.way.rest args.way.cut along1.0 along1.1
     (sym c4.is_err.ensures ∙ c2.before.if2.false) args.level (c10.requires.1.1.1.1 x ex) _ _ c2.measure.ensures.0 c2.measure.ensures.1

@@ -6,7 +6,7 @@ use Rattle.context.proofs.builder.update.Tie as tie
 use Rattle.form.proofs.Whole.{bytes_of}
 use Rattle.values.proofs.CallContracts.{value_refused}
 use Rattle.paths.proofs.CallContracts.{judged_refused, judged_told}
-use Rattle.context.proofs.CallContracts.{told, told_byte, update_first, update-names, update-second, update_other, update-small, update-value, update-level, update-context, update-done}
+use Rattle.context.proofs.CallContracts.{told, told_byte, update_first, update_names, update_second, update_other, update_small, update_value, update_level, update-context, update-done}
 
 -- at `let way = updates::way::read(c, path, &mut status);`
 read-requires : tie.Need-read-requires
@@ -24,7 +24,7 @@ returns-2 : tie.Need-returns-2
 returns-2 c =
     let c7 = c.before.before.before.before.before.before.before in
     let args = c7.before.args in
-    update-names args.strict args.c.now args.path.now args.v.now args.out.now
+    update_names args.strict args.c.now args.path.now args.v.now args.out.now
     (judged_told args.c.now _ _ c.before.before.read.ensures.0 (bytes_of args.c.now c7.shared-slice-known.given) c.before.if1.false)
     c.if2.true
 
@@ -76,12 +76,12 @@ place-requires c κs =
     let told1 = told v-now c6.check-value.ensures.1 _ _ c4.level.given.1 c6.check-value.ensures.0 in (
       update-context args.strict c-now args.path.now v-now args.out.now judged-told1 if2-left told1 c.before.if3.false,
       (
-        update-value args.strict c-now args.path.now v-now args.out.now judged-told1 if2-left told1,
+        update_value args.strict c-now args.path.now v-now args.out.now judged-told1 if2-left told1,
         (
-          update-small args.strict c-now args.path.now v-now args.out.now judged-told1 if2-left told1,
+          update_small args.strict c-now args.path.now v-now args.out.now judged-told1 if2-left told1,
           (
             c9.read.ensures.1 judged-told1.accepted.short,
-            update-level args.strict c-now args.path.now v-now args.out.now judged-told1 if2-left told1,
+            update_level args.strict c-now args.path.now v-now args.out.now judged-told1 if2-left told1,
           ),
         ),
       ),
@@ -94,7 +94,7 @@ returns-4 c =
     let c5 = c3.before.before in
     let c11 = c5.before.before.before.before.before.before in
     let args = c11.before.args in
-    update-second args.strict args.c.now args.path.now args.v.now args.out.now
+    update_second args.strict args.c.now args.path.now args.v.now args.out.now
     (judged_told args.c.now _ _ c5.before.read.ensures.0 (bytes_of args.c.now c11.shared-slice-known.given) c5.if1.false)
     c3.before.if2.false _ (value_refused args.v.now c3.check-value.result _ c.before.n.given.1 c3.check-value.ensures.0)
 

@@ -35,11 +35,11 @@ use Rattle.form.specs.Layout.{k_range, k_list, k_context, of_value, kind_of, ope
 use Rattle.form.specs.Read.{read_v, read_run, read_named, read_vals, read_entries, ascending}
 use Rattle.form.specs.Walks.{walk_of, walk_by}
 use Rattle.form.proofs.Loops.{DeepInv, deep_start, deep_turn, deep_is, none_told, level_some, run_empty, named_empty, fits}
-use Rattle.form.proofs.Loops.{items_short, items_walk, items_fault, items_end, names_end, names_none, names-fall, names-short}
-use Rattle.form.proofs.Loops.{names-walk, names-fault}
+use Rattle.form.proofs.Loops.{items_short, items_walk, items_fault, items_end, names_end, names_none, names_fall, names_short}
+use Rattle.form.proofs.Loops.{names_walk, names_fault}
 use Rattle.form.proofs.WalkAnswers.{told_stop, told_parent, told_whole, on_whole, ample, part_room}
-use Rattle.form.proofs.ValueLaws.{value_level, leaf_level, entries_law, entries_flat, vals_law, vals_flat, v_level, v-range-first}
-use Rattle.form.proofs.ValueLaws.{v-range-second, v-range-is, v-list-is, v-context-is}
+use Rattle.form.proofs.ValueLaws.{value_level, leaf_level, entries_law, entries_flat, vals_law, vals_flat, v_level, v_range_first}
+use Rattle.form.proofs.ValueLaws.{v_range_second, v_range_is, v_list_is, v_context_is}
 
 abbrev μ-walk-entries : Measures 2 walk-entries-kinds.ps ℕ
 μ-walk-entries κs a = 2 * a.1.1.0 + 1
@@ -199,7 +199,7 @@ walk-entries-returns-3 : (t : ℕ) →
 walk-entries-returns-3 t c =
     let c3 = c.before.before.before in
     let c6 = c3.before.before.before in
-    names-fall level_v level_entries no_entries entry ascending entries_law entries_flat
+    names_fall level_v level_entries no_entries entry ascending entries_law entries_flat
     (read_v c6.before.before.before.args.left) c6.loop.least c6.loop.invariant.run
     c3.name-at.result c3.name-at.ensures.0 c3.before.if2.false
     c3.before.before.loop-test.true 3 _ _ _ c.before.before.if3.true
@@ -250,7 +250,7 @@ walk-entries-loop-again t c =
     deep_turn c6.loop.invariant
     (λ (n : ℕ). read_named no_entries entry ascending readV1 n (ascending c3.name-at.result))
     _ c6.loop.deep 1
-    (names-short level_v level_entries no_entries entry ascending entries_law entries_flat readV1
+    (names_short level_v level_entries no_entries entry ascending entries_law entries_flat readV1
     c6.loop.least c6.loop.invariant.run c3.name-at.result c3.name-at.ensures.0
     c3.before.if2.false c3.before.before.loop-test.true c.before.before.if3.false
     is_short_leaf leaf_level c.before.leaf-size-at.result (max c6.loop.invariant.d 1)
@@ -286,7 +286,7 @@ walk-entries-returns-4 t c =
     let c6 = c.before.before.before.before.before.before in
     let c7 = c6.before in
     let c9 = c7.before.before in
-    names-fault level_v level_entries no_entries entry ascending entries_law entries_flat
+    names_fault level_v level_entries no_entries entry ascending entries_law entries_flat
     (read_v c9.before.before.before.before.args.left) c9.before.loop.least
     c9.before.loop.invariant.run c7.name-at.result c7.name-at.ensures.0 c7.before.if2.false
     c9.loop-test.true c6.if3.false c.before.walk-value.result _ 3 _
@@ -325,7 +325,7 @@ walk-entries-loop-again-2 t c =
     (λ (n : ℕ).
     read_named no_entries entry ascending (read_v args.left) n (ascending c9.name-at.result))
     _ c.max.result c3.walk-value.new.1.1.0
-    (names-walk level_v level_entries no_entries entry ascending entries_law entries_flat
+    (names_walk level_v level_entries no_entries entry ascending entries_law entries_flat
     (read_v args.left) c12.loop.least c12.loop.invariant.run c9.name-at.result
     c9.name-at.ensures.0 c9.before.if2.false c9.before.before.loop-test.true
     c8.if3.false c3.walk-value.result c3.walk-value.new.1.1.0
@@ -572,7 +572,7 @@ walk-value-returns-3 t c =
     ample c.before.before.before.before.before.before.before.before.before.args.s.now 0x09
     2 (of_value k_range) c.before.before.before.before.match.keys1 refl refl (omega arith) in
     told_stop Shape
-    (v-range-first
+    (v_range_first
     c.before.before.before.before.before.before.before.before.before.args.left
     c.before.before.before.before.before.before.before.before.before.args.s.now
     (omega arith) (omega arith) w.1 w.0 c.before.before.if3.true)
@@ -594,7 +594,7 @@ walk-value-returns-4 t c =
     0x09 2 (of_value k_range) c.before.before.before.before.before.before.match.keys1 refl refl
     (omega arith) in
     told_stop Shape
-    (v-range-second
+    (v_range_second
     c.before.before.before.before.before.before.before.before.before.before.before.args.left
     c.before.before.before.before.before.before.before.before.before.before.before.args.s.now
     (omega arith) (omega arith) w.1 w.0 c.before.before.before.before.if3.false
@@ -713,7 +713,7 @@ walk-value-returns-5 t c =
     2 r))
     c.before.before.before.before.before.before.before.before.before.before.before.before.args.s.now
     3 _ _
-    (v-range-is
+    (v_range_is
     c.before.before.before.before.before.before.before.before.before.before.before.before.args.left
     c.before.before.before.before.before.before.before.before.before.before.before.before.args.s.now
     (omega arith) (omega arith) w.1 w.0 c.before.before.before.before.before.if3.false
@@ -733,7 +733,7 @@ walk-value-returns-6 t c =
     (read_v (c.before.before.before.before.before.before.before.before.before.args.left - 1))
     c.before.before.word_at.result r))
     c.before.before.before.before.before.before.before.before.before.args.s.now 3 _ _
-    (v-list-is c.before.before.before.before.before.before.before.before.before.args.left
+    (v_list_is c.before.before.before.before.before.before.before.before.before.args.left
     c.before.before.before.before.before.before.before.before.before.args.s.now
     (omega arith) (omega arith) w.1 c.before.before.word_at.result
     c.before.before.word_at.ensures.0 w.0)
@@ -752,7 +752,7 @@ walk-value-returns-7 t c =
     (read_v (c.before.before.before.before.before.before.before.before.before.args.left - 1))
     c.before.before.word-at2.result 0 r))
     c.before.before.before.before.before.before.before.before.before.args.s.now 3 _ _
-    (v-context-is c.before.before.before.before.before.before.before.before.before.args.left
+    (v_context_is c.before.before.before.before.before.before.before.before.before.args.left
     c.before.before.before.before.before.before.before.before.before.args.s.now
     (omega arith) (omega arith) w.1 c.before.before.word-at2.result
     c.before.before.word-at2.ensures.0 w.0)

@@ -36,11 +36,11 @@ use Rattle.form.specs.Read.{read_t, read_run, read_named, read_tys, read_fields,
 use Rattle.form.specs.Walks.{walk_by}
 use Rattle.form.proofs.Runs.{RunInv, run_start}
 use Rattle.form.proofs.WalkAnswers.{told_stop, told_ended, told_parent, ample, scant, part_room}
-use Rattle.form.proofs.Loops.{fits, items_short, items_walk, items_fault, items_end, names_end, names_none, names-fall, names-short}
-use Rattle.form.proofs.Loops.{names-walk, names-fault}
+use Rattle.form.proofs.Loops.{fits, items_short, items_walk, items_fault, items_end, names_end, names_none, names_fall, names_short}
+use Rattle.form.proofs.Loops.{names_walk, names_fault}
 use Rattle.form.proofs.CommandKinds.{kind_simple}
 use Rattle.form.proofs.TypeLaws.{simple_level, fields_law, fields_flat, tys_law, tys_flat, t_none, t_level, t_short, t_other}
-use Rattle.form.proofs.TypeLaws.{t_simple_lem, t_one_run, t-context, t-function}
+use Rattle.form.proofs.TypeLaws.{t_simple_lem, t_one_run, t_context_lem, t_function_lem}
 
 abbrev μ-walk-fields : Measures 2 walk-fields-kinds.ps ℕ
 μ-walk-fields κs a = 2 * a.1.1.0 + 1
@@ -128,7 +128,7 @@ pub +walk-fields-walk-type-walk-types-spec : {M : Type 1} → statement M
     (λ c.
     let c3 = c.before.before.before in
     let c6 = c3.before.before.before in
-    names-fall level level_fields no_fields field ascending fields_law fields_flat
+    names_fall level level_fields no_fields field ascending fields_law fields_flat
     (read_t c6.before.before.args.left) c6.loop.least c6.loop.invariant c3.name-at.result
     c3.name-at.ensures.0 c3.before.if1.false c3.before.before.loop-test.true 3 _ _ _
     c.before.before.if2.true c.fault2.ensures.0 c.fault2.ensures.1)
@@ -148,7 +148,7 @@ pub +walk-fields-walk-type-walk-types-spec : {M : Type 1} → statement M
     let c2 = c.before.before in
     let c4 = c2.before.before in
     let c7 = c4.before.before.before in
-    names-short level level_fields no_fields field ascending fields_law fields_flat
+    names_short level level_fields no_fields field ascending fields_law fields_flat
     (read_t c7.before.before.args.left) c7.loop.least c7.loop.invariant c4.name-at.result
     c4.name-at.ensures.0 c4.before.if1.false c4.before.before.loop-test.true
     c2.before.if2.false simple simple_level c2.simple-at.result c.max.result
@@ -161,7 +161,7 @@ pub +walk-fields-walk-type-walk-types-spec : {M : Type 1} → statement M
     let c6 = c.before.before.before.before.before.before in
     let c7 = c6.before in
     let c9 = c7.before.before in
-    names-fault level level_fields no_fields field ascending fields_law fields_flat
+    names_fault level level_fields no_fields field ascending fields_law fields_flat
     (read_t c9.before.before.before.args.left) c9.before.loop.least c9.before.loop.invariant
     c7.name-at.result c7.name-at.ensures.0 c7.before.if1.false c9.loop-test.true
     c6.if2.false c.before.walk-type.result _ 3 _ c.before.walk-type.ensures c.if4.true)
@@ -177,7 +177,7 @@ pub +walk-fields-walk-type-walk-types-spec : {M : Type 1} → statement M
     let c3 = c.before.before.before in
     let c8 = c3.before.before.before.before.before in
     let c11 = c8.before.before.before in
-    names-walk level level_fields no_fields field ascending fields_law fields_flat
+    names_walk level level_fields no_fields field ascending fields_law fields_flat
     (read_t c11.before.before.before.args.left) c11.before.loop.least
     c11.before.loop.invariant c8.before.name-at.result c8.before.name-at.ensures.0
     c8.before.before.if1.false c11.loop-test.true c8.if2.false c3.walk-type.result
@@ -311,7 +311,7 @@ pub +walk-fields-walk-type-walk-types-spec : {M : Type 1} → statement M
     c.before.before.word_at.result 0 r))
     c.before.before.before.before.before.before.before.before.before.before.args.s.now 3
     _ _
-    (t-context
+    (t_context_lem
     c.before.before.before.before.before.before.before.before.before.before.args.left
     c.before.before.before.before.before.before.before.before.before.before.args.s.now
     (omega arith) (omega arith) w.1 c.before.before.word_at.result
@@ -333,7 +333,7 @@ pub +walk-fields-walk-type-walk-types-spec : {M : Type 1} → statement M
     (c.before.before.wide.result + 1) r))
     c.before.before.before.before.before.before.before.before.before.before.before.args.s.now
     2 _ _
-    (t-function
+    (t_function_lem
     c.before.before.before.before.before.before.before.before.before.before.before.args.left
     c.before.before.before.before.before.before.before.before.before.before.before.args.s.now
     (omega arith) (omega arith) w.1 (c.before.before.wide.result + 1)

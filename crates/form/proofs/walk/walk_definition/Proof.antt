@@ -14,7 +14,7 @@ use Rattle.form.specs.Read.{read_t, read_named, any_order}
 use Rattle.form.specs.Walks.{walk_of, pair_walk, up}
 use Rattle.form.proofs.Runs.{RunInv, run_start, pair_end, pair_fault}
 use Rattle.form.proofs.WalkAnswers.{told_end, told_fault}
-use Rattle.form.proofs.Loops.{fits, names_end, names_none, names-walk, names-fault}
+use Rattle.form.proofs.Loops.{fits, names_end, names_none, names_walk, names_fault}
 use Rattle.form.proofs.ValueLaws.{params_law, params_flat}
 
 abbrev invariant-loop : tie.invariant-loop
@@ -73,7 +73,7 @@ walk-definition-spec =
     let c4 = c.before.before.before.before in
     let c5 = c4.before in
     let args = c5.before.before.before.before.before.before.before.args in
-    names-fault level level_params no_parameters parameter any_order params_law params_flat
+    names_fault level level_params no_parameters parameter any_order params_law params_flat
     (read_t args.left) 0 c5.before.loop.invariant
     (num_at name_width c5.before.loop.at args.s.now) refl c4.if2.false c5.loop-test.true
     (omega arith) c.before.walk-type2.result _ 4 _ c.before.walk-type2.ensures c.if3.true)
@@ -91,7 +91,7 @@ walk-definition-spec =
     let c6 = c3.before.before.before in
     let c8 = c6.before.before in
     let args = c8.before.before.before.before.before.before.args in
-    names-walk level level_params no_parameters parameter any_order params_law params_flat
+    names_walk level level_params no_parameters parameter any_order params_law params_flat
     (read_t args.left) 0 c8.loop.invariant (num_at name_width c8.loop.at args.s.now) refl
     c6.if2.false c6.before.loop-test.true (omega arith) c3.walk-type2.result
     c3.walk-type2.new.1.1.0 c.max.result c3.walk-type2.ensures

@@ -16,7 +16,7 @@ use Rattle.form.specs.Walks.{walk_by, pair_walk, flag_walk}
 use Rattle.form.proofs.CommandKinds.{arm, leaf_low, leaf_decimal}
 use mathlib.Core.Logic.{⊎_elim}
 use Rattle.form.proofs.WalkAnswers.{told_stop, told_ended, told_parent, told_within, part_room, no_parent}
-use Rattle.form.proofs.ValueLaws.{v_none, v_level, v_short, v_other, v-leaf-is, v-built-in-is, v-definition, v_type_is, v_irrelevant_is}
+use Rattle.form.proofs.ValueLaws.{v_none, v_level, v_short, v_other, v_leaf_is, v_built_in_is, v_definition, v_type_is, v_irrelevant_is}
 
 -- at `return fault(SHAPE, told);`
 fault-requires : tie.Need-fault-requires
@@ -190,7 +190,7 @@ returns-4 c =
     c.before.before.wide.result 0)
     (read_t (c.before.before.before.before.before.before.before.before.before.before.before.before.args.left - 1) r))
     c.before.before.before.before.before.before.before.before.before.before.before.before.args.s.now 4 _ _
-    (v-definition c.before.before.before.before.before.before.before.before.before.before.before.before.args.left
+    (v_definition c.before.before.before.before.before.before.before.before.before.before.before.before.args.left
     c.before.before.before.before.before.before.before.before.before.before.before.before.args.s.now (omega arith) (omega arith)
     (omega (arith, c.before.before.before.before.before.before.before.width.ensures)) c.before.before.wide.result
     c.before.before.wide.ensures.0 w.0)
@@ -206,7 +206,7 @@ returns-5 c =
     let n = w.1 in
     told_within (flag_walk (get_or c.before.before.before.before.before.before.before.before.before.before.args.s.now 1 0) 85 2) 2
     (length c.before.before.before.before.before.before.before.before.before.before.args.s.now) _ _ c.flag.ensures
-    (v-built-in-is c.before.before.before.before.before.before.before.before.before.before.args.left
+    (v_built_in_is c.before.before.before.before.before.before.before.before.before.before.args.left
     c.before.before.before.before.before.before.before.before.before.before.args.s.now (omega arith) (omega arith)
     (omega (arith, c.before.before.before.before.before.width.ensures)) w.0)
     (omega arith)
@@ -269,7 +269,7 @@ returns-9 c =
     let w = c6.width in
     told_within (flag_walk (get_or s-now w.result 0) c2.operand-end.result (w.result + 1)) (w.result + 1) (length s-now) _ _ c.flag2.ensures
     (rw (w.ensures, c2.operand-end.ensures)
-    (v-leaf-is args.left s-now (omega arith) (omega arith) (omega (arith, w.ensures))
+    (v_leaf_is args.left s-now (omega arith) (omega arith) (omega (arith, w.ensures))
     (omega (arith, c2.before.shared-slice-known5.given (width_of (get_or s-now 0 0))))
     (⊎_elim (λ x. leaf_decimal (get_or s-now 0 0) x.keys1) (λ x. leaf_low (get_or s-now 0 0) x.1.taken) c2.before.before.match.branch)))
     (omega arith)

@@ -34,12 +34,12 @@ use Rattle.order.proofs.Ends.{reading_ends}
 use native.Mathlib.Omega.{arith}
 use Rattle.form.proofs.Whole.{bytes_of}
 use Rattle.form.proofs.CommandKinds.{leaf_low, leaf_decimal}
-use Rattle.infer.proofs.Entries.{EntriesInv, entries_start, entry-name, entry_room, name-len, entry-fits, entry_read, entry-wrote, entry_next, entry_some, entry-byte, entry_free}
-use Rattle.infer.proofs.Entries.{entry-leaf-read, entry-leaf-wrote, entry-leaf, entries_done}
-use Rattle.infer.proofs.Items.{ItemsInv, items_one, items_none, items-first, items_kept, items_start, item_room, item-fits, item_read, item-sides, item-reduced, item-next, item_some}
-use Rattle.infer.proofs.Items.{item-byte, item-free, leaf-read, leaf-sides, leaf-reduced, leaf-next, items_done}
-use Rattle.infer.proofs.ByCommand.{first_byte, level_left, one_free, leaf-ends, leaf_done, other-ends, other_done, in_range, in_list, in_context, in_definition, definition_fits}
-use Rattle.infer.proofs.ByCommand.{in_type, type_end, type_room, type_done, part_fits, under_head, under_room, under_free, under-read, under-wrote, under-kept, under-done, still}
+use Rattle.infer.proofs.Entries.{EntriesInv, entries_start, entry_name, entry_room, name_len, entry_fits, entry_read, entry_wrote, entry_next, entry_some, entry_byte, entry_free}
+use Rattle.infer.proofs.Entries.{entry_leaf_read, entry_leaf_wrote, entry_leaf, entries_done}
+use Rattle.infer.proofs.Items.{ItemsInv, items_one, items_none, items_first, items_kept, items_start, item_room, item_fits, item_read, item_sides, item_reduced, item_next, item_some}
+use Rattle.infer.proofs.Items.{item_byte, item_free, leaf_read, leaf_sides, leaf_reduced, leaf_next, items_done}
+use Rattle.infer.proofs.ByCommand.{first_byte, level_left, one_free, leaf_ends, leaf_done, other_ends, other_done, in_range, in_list, in_context, in_definition, definition_fits}
+use Rattle.infer.proofs.ByCommand.{in_type, type_end, type_room, type_done, part_fits, under_head, under_room, under_free, under_read, under_wrote, under_kept, under_done, still}
 
 abbrev μ-write-entries : Measures 3 write-entries-kinds.ps ℕ
 μ-write-entries κs a = 2 * a.1.1.1.1.1.0 + 1
@@ -150,7 +150,7 @@ write-entries-add-p t c =
     omega (
       arith,
       c4.before.well-formed,
-      entry-name c.before.loop.invariant (bytes_of c4.before.args.v.now c4.shared-slice-known.given) c.loop-test.true,
+      entry_name c.before.loop.invariant (bytes_of c4.before.args.v.now c4.shared-slice-known.given) c.loop-test.true,
     )
 
 -- at `let w = to + NAME_WIDTH;`
@@ -161,7 +161,7 @@ write-entries-add-w t c =
       arith,
       c4.before.well-formed,
       c.before.loop.invariant.low,
-      entry-name c.before.loop.invariant (bytes_of c4.before.args.v.now c4.shared-slice-known.given) c.loop-test.true,
+      entry_name c.before.loop.invariant (bytes_of c4.before.args.v.now c4.shared-slice-known.given) c.loop-test.true,
     )
 
 -- at `output::copy_name(v, at, out, to);`
@@ -170,7 +170,7 @@ write-entries-copy-name-requires : (t : ℕ) →
 write-entries-copy-name-requires t c κs =
     let c2 = c.before.before in
     let bytes-of1 = bytes_of c2.before.before.before.before.args.v.now c2.before.before.before.shared-slice-known.given in
-    (entry-name c2.loop.invariant bytes-of1 c.before.loop-test.true, entry_room c2.loop.invariant bytes-of1 c.before.loop-test.true)
+    (entry_name c2.loop.invariant bytes-of1 c.before.loop-test.true, entry_room c2.loop.invariant bytes-of1 c.before.loop-test.true)
 
 -- at `let k = data::leaf(&v[p..]);`
 write-entries-sub-leaf : (t : ℕ) →
@@ -178,7 +178,7 @@ write-entries-sub-leaf : (t : ℕ) →
 write-entries-sub-leaf t c =
     let c4 = c.before.before.before.before in
     let c8 = c4.before.before.before.before in
-    entry-name c4.before.loop.invariant (bytes_of c8.before.args.v.now c8.shared-slice-known.given) c4.loop-test.true
+    entry_name c4.before.loop.invariant (bytes_of c8.before.args.v.now c8.shared-slice-known.given) c4.loop-test.true
 
 -- at `let k = data::leaf(&v[p..]);`
 write-entries-part-leaf-start : (t : ℕ) →
@@ -188,7 +188,7 @@ write-entries-part-leaf-start t c =
       arith,
       let c4 = c.before.before.before.before in
           let c8 = c4.before.before.before.before in
-          entry-name c4.before.loop.invariant (bytes_of c8.before.args.v.now c8.shared-slice-known.given) c4.loop-test.true,
+          entry_name c4.before.loop.invariant (bytes_of c8.before.args.v.now c8.shared-slice-known.given) c4.loop-test.true,
     )
 
 -- at `let k = data::leaf(&v[p..]);`
@@ -209,7 +209,7 @@ write-entries-shared-slice-read-leaf-type : (t : ℕ) →
     write-entries-μ-loop
 write-entries-shared-slice-read-leaf-type t c =
     let c8 = c.before.before.before.before.before.before.before.before in
-    entry-byte c8.before.loop.invariant
+    entry_byte c8.before.loop.invariant
     (bytes_of c8.before.before.before.before.before.args.v.now c8.before.before.before.before.shared-slice-known.given)
     c8.loop-test.true
 
@@ -238,7 +238,7 @@ write-entries-add-at t c =
     omega (
       arith,
       c13.before.well-formed,
-      entry-leaf-read c9.before.loop.invariant (bytes_of c13.before.args.v.now c13.shared-slice-known.given) c9.loop-test.true _
+      entry_leaf_read c9.before.loop.invariant (bytes_of c13.before.args.v.now c13.shared-slice-known.given) c9.loop-test.true _
           c7.copy_name.ensures _ c.leaf_type.ensures _ (c.before.before.before.leaf.ensures.0 (omega (arith, c.before.before.if1.true))),
     )
 
@@ -252,7 +252,7 @@ write-entries-add-to t c =
     omega (
       arith,
       c13.before.well-formed,
-      entry-leaf-wrote c9.before.loop.invariant (bytes_of c13.before.args.v.now c13.shared-slice-known.given) c9.loop-test.true _
+      entry_leaf_wrote c9.before.loop.invariant (bytes_of c13.before.args.v.now c13.shared-slice-known.given) c9.loop-test.true _
           c7.copy_name.ensures _ c.leaf_type.ensures _ (c.before.before.before.leaf.ensures.0 (omega (arith, c.before.before.if1.true))),
     )
 
@@ -271,7 +271,7 @@ write-entries-loop-again : (t : ℕ) →
 write-entries-loop-again t c =
     let c7 = c.before.before.before.before.before.before.before in
     let c9 = c7.before.before in
-    entry-leaf c9.before.loop.invariant
+    entry_leaf c9.before.loop.invariant
     (bytes_of c9.before.before.before.before.before.args.v.now c9.before.before.before.before.shared-slice-known.given)
     c9.loop-test.true _ c7.copy_name.ensures _ c.leaf_type.ensures _
     (c.before.before.before.leaf.ensures.0 (omega (arith, c.before.before.if1.true)))
@@ -281,7 +281,7 @@ write-entries-sub-write-type : (t : ℕ) →
     write-entries-lts.Need-overflow-sub-write-type (write-entries-claims t) (write-entries-at t) write_entries.Post write-entries-Inv-loop write-entries-μ-loop
 write-entries-sub-write-type t c =
     let c7 = c.before.before.before.before.before.before.before in
-    entry-name c7.before.loop.invariant
+    entry_name c7.before.loop.invariant
     (bytes_of c7.before.before.before.before.before.args.v.now c7.before.before.before.before.shared-slice-known.given)
     c7.loop-test.true
 
@@ -293,7 +293,7 @@ write-entries-part-write-type-start t c =
     omega (
       arith,
       let c7 = c.before.before.before.before.before.before.before in
-          entry-name c7.before.loop.invariant
+          entry_name c7.before.loop.invariant
           (bytes_of c7.before.before.before.before.before.args.v.now c7.before.before.before.before.shared-slice-known.given)
           c7.loop-test.true,
     )
@@ -314,7 +314,7 @@ write-entries-sub-write-type-2 t c =
     omega (
       arith,
       entry_room c8.before.loop.invariant bytes-of1 c8.loop-test.true,
-      name-len c8.before.loop.invariant bytes-of1 c8.loop-test.true _ c6.copy_name.ensures,
+      name_len c8.before.loop.invariant bytes-of1 c8.loop-test.true _ c6.copy_name.ensures,
     )
 
 -- at `let e = write_type(least, &v[p..], &mut out[w..], spare, left, reading);`
@@ -328,7 +328,7 @@ write-entries-part-write-type-start-2 t c =
     omega (
       arith,
       entry_room c8.before.loop.invariant bytes-of1 c8.loop-test.true,
-      name-len c8.before.loop.invariant bytes-of1 c8.loop-test.true _ c6.copy_name.ensures,
+      name_len c8.before.loop.invariant bytes-of1 c8.loop-test.true _ c6.copy_name.ensures,
     )
 
 -- at `let e = write_type(least, &v[p..], &mut out[w..], spare, left, reading);`
@@ -348,8 +348,8 @@ write-entries-write-type-requires t c κs =
     let bytes-of1 = bytes_of c14.before.args.v.now c14.shared-slice-known.given in (
       omega (arith, c14.before.requires.0),
       (
-        entry-fits c10.before.loop.invariant bytes-of1 c10.loop-test.true c8.copy_name.new.1.1.0
-            (name-len c10.before.loop.invariant bytes-of1 c10.loop-test.true _ c8.copy_name.ensures),
+        entry_fits c10.before.loop.invariant bytes-of1 c10.loop-test.true c8.copy_name.new.1.1.0
+            (name_len c10.before.loop.invariant bytes-of1 c10.loop-test.true _ c8.copy_name.ensures),
         c14.before.requires.1.1,
       ),
     )
@@ -378,7 +378,7 @@ write-entries-add-to-2 t c =
     omega (
       arith,
       c21.before.well-formed,
-      entry-wrote c15.before.before.before.loop.invariant (bytes_of c21.before.args.v.now c21.shared-slice-known.given)
+      entry_wrote c15.before.before.before.loop.invariant (bytes_of c21.before.args.v.now c21.shared-slice-known.given)
           c15.before.before.loop-test.true _ _ _ _ c15.copy_name.ensures c6.write-type.ensures.0,
     )
 
@@ -457,7 +457,7 @@ write-items-write-type-requires t c κs =
     let c6 = c5.before in (
       omega (arith, c6.requires.0),
       (
-        items-first (order_of c6.args.reading) c6.args.least c6.args.equal c6.args.left c6.args.v.now c6.args.n c6.args.out.now c6.args.spare.now
+        items_first (order_of c6.args.reading) c6.args.least c6.args.equal c6.args.left c6.args.v.now c6.args.n c6.args.out.now c6.args.spare.now
             c6.requires.1.0 (bytes_of c6.args.v.now c5.shared-slice-known.given) c6.requires.1.1 c.before.before.if1.false,
         c6.requires.1.1,
       ),
@@ -499,7 +499,7 @@ write-items-shared-slice-read-leaf-type : (t : ℕ) →
 write-items-shared-slice-read-leaf-type t c =
     let c4 = c.before.before.before.before in
     let c16 = c4.before.before.before.before.before.before.before.before.before.before.before.before in
-    item-byte c4.before.loop.invariant (bytes_of c16.before.args.v.now c16.shared-slice-known.given) c4.loop-test.true
+    item_byte c4.before.loop.invariant (bytes_of c16.before.args.v.now c16.shared-slice-known.given) c4.loop-test.true
 
 -- at `out[to] = commands::leaf_type(v[at]);`
 write-items-leaf-type-requires : (t : ℕ) →
@@ -512,7 +512,7 @@ write-items-slice-write-out-2 : (t : ℕ) →
 write-items-slice-write-out-2 t c =
     let c5 = c.before.before.before.before.before in
     let c17 = c5.before.before.before.before.before.before.before.before.before.before.before.before in
-    item-free c5.before.loop.invariant (bytes_of c17.before.args.v.now c17.shared-slice-known.given) c5.loop-test.true
+    item_free c5.before.loop.invariant (bytes_of c17.before.args.v.now c17.shared-slice-known.given) c5.loop-test.true
 
 -- at `at = at + k;`
 write-items-add-at : (t : ℕ) → write-items-lts.Need-overflow-add-at (write-items-claims t) (write-items-at t) write-items.Post write-items-Inv-loop write-items-μ-loop
@@ -522,7 +522,7 @@ write-items-add-at t c =
     omega (
       arith,
       c17.before.well-formed,
-      leaf-read c5.before.loop.invariant (bytes_of c17.before.args.v.now c17.shared-slice-known.given) c5.loop-test.true
+      leaf_read c5.before.loop.invariant (bytes_of c17.before.args.v.now c17.shared-slice-known.given) c5.loop-test.true
           c17.before.requires.1.1 _ c.leaf_type.ensures _ (c.before.before.before.leaf.ensures.0 (omega (arith, c.before.before.if2.true))),
     )
 
@@ -535,8 +535,8 @@ write-items-join-requires t c κs =
     let c19 = c7.before.before.before.before.before.before.before.before.before.before.before.before in
     let c1 = c4.before.leaf.ensures.0 (omega (arith, c4.if2.true)) in
     let bytes-of1 = bytes_of c19.before.args.v.now c19.shared-slice-known.given in (
-      leaf-sides c7.before.loop.invariant bytes-of1 c7.loop-test.true c19.before.requires.1.1 _ c.before.before.leaf_type.ensures _ c1,
-      leaf-reduced c7.before.loop.invariant bytes-of1 c7.loop-test.true c19.before.requires.1.1 _ c.before.before.leaf_type.ensures _ c1,
+      leaf_sides c7.before.loop.invariant bytes-of1 c7.loop-test.true c19.before.requires.1.1 _ c.before.before.leaf_type.ensures _ c1,
+      leaf_reduced c7.before.loop.invariant bytes-of1 c7.loop-test.true c19.before.requires.1.1 _ c.before.before.leaf_type.ensures _ c1,
     )
 
 -- at `i += 1;`
@@ -557,7 +557,7 @@ write-items-loop-again t c =
     let c9 = c4.before.before.before.before.before in
     let c12 = c9.before.before.before in
     let c24 = c12.before.before.before.before.before.before.before.before.before.before.before.before in
-    leaf-next c12.before.loop.invariant (bytes_of c24.before.args.v.now c24.shared-slice-known.given) c12.loop-test.true
+    leaf_next c12.before.loop.invariant (bytes_of c24.before.args.v.now c24.shared-slice-known.given) c12.loop-test.true
     c24.before.requires.1.1 _ c4.before.before.before.leaf_type.ensures _ (c9.before.leaf.ensures.0 (omega (arith, c9.if2.true))) _ _ _
     c4.join.ensures.0 c4.join.ensures.1
 
@@ -608,7 +608,7 @@ write-items-write-type-requires-2 t c κs =
     let c18 = c6.before.before.before.before.before.before.before.before.before.before.before.before in (
       omega (arith, c18.before.requires.0),
       (
-        item-fits c6.before.loop.invariant (bytes_of c18.before.args.v.now c18.shared-slice-known.given) c6.loop-test.true,
+        item_fits c6.before.loop.invariant (bytes_of c18.before.args.v.now c18.shared-slice-known.given) c6.loop-test.true,
         c18.before.requires.1.1,
       ),
     )
@@ -634,9 +634,9 @@ write-items-join-requires-2 t c κs =
     let c14 = c7.before.before.before.before.before.before.before in
     let c26 = c14.before.before.before.before.before.before.before.before.before.before.before.before in
     let bytes-of1 = bytes_of c26.before.args.v.now c26.shared-slice-known.given in (
-      item-sides c14.before.loop.invariant bytes-of1 c14.loop-test.true c26.before.requires.1.1 _ c7.write-type2.new.1.1.1.0 _ _
+      item_sides c14.before.loop.invariant bytes-of1 c14.loop-test.true c26.before.requires.1.1 _ c7.write-type2.new.1.1.1.0 _ _
           c7.write-type2.ensures.0 c7.write-type2.ensures.1,
-      item-reduced c14.before.loop.invariant bytes-of1 c14.loop-test.true c26.before.requires.1.1 _ c7.write-type2.new.1.1.1.0 _ _
+      item_reduced c14.before.loop.invariant bytes-of1 c14.loop-test.true c26.before.requires.1.1 _ c7.write-type2.new.1.1.1.0 _ _
           c7.write-type2.ensures.0 c7.write-type2.ensures.1,
     )
 
@@ -663,7 +663,7 @@ write-items-loop-again-2 t c =
     let c12 = c4.before.before.before.before.before.before.before.before in
     let c19 = c12.before.before.before.before.before.before.before in
     let c31 = c19.before.before.before.before.before.before.before.before.before.before.before.before in
-    item-next c19.before.loop.invariant (bytes_of c31.before.args.v.now c31.shared-slice-known.given) c19.loop-test.true
+    item_next c19.before.loop.invariant (bytes_of c31.before.args.v.now c31.shared-slice-known.given) c19.loop-test.true
     c31.before.requires.1.1 _ c12.write-type2.new.1.1.1.0 _ _ c12.write-type2.ensures.0 c12.write-type2.ensures.1 _ _ _
     c4.join2.ensures.0 c4.join2.ensures.1
 
@@ -799,7 +799,7 @@ write-type-add-t22 t c =
       arith,
       c13.before.well-formed,
       let args = c13.before.args in
-          under-read
+          under_read
           (in_range (order_of args.reading) args.least args.left args.v.now args.out.now args.spare.now c13.before.requires.1.0
           (bytes_of args.v.now c13.shared-slice-known.given) c9.match.keys2).under
           _ _ _ c5.write-items.ensures.0,
@@ -814,7 +814,7 @@ write-type-add-t31 t c =
       arith,
       c14.before.well-formed,
       let args = c14.before.args in
-          under-wrote
+          under_wrote
           (in_range (order_of args.reading) args.least args.left args.v.now args.out.now args.spare.now c14.before.requires.1.0
           (bytes_of args.v.now c14.shared-slice-known.given) c6.before.before.before.before.match.keys2).under
           _ _ _ c6.write-items.ensures.0,
@@ -926,7 +926,7 @@ write-type-add-t34 t c =
       arith,
       c14.before.well-formed,
       let args = c14.before.args in
-          under-read
+          under_read
           (in_list (order_of args.reading) args.least args.left args.v.now args.out.now args.spare.now c14.before.requires.1.0
           (bytes_of args.v.now c14.shared-slice-known.given) (reading_ends args.reading) _ c9.word_at.ensures.0 c9.before.match.keys3).under
           _ _ _ c5.write-items2.ensures.0,
@@ -942,7 +942,7 @@ write-type-add-t43 t c =
       arith,
       c15.before.well-formed,
       let args = c15.before.args in
-          under-wrote
+          under_wrote
           (in_list (order_of args.reading) args.least args.left args.v.now args.out.now args.spare.now c15.before.requires.1.0
           (bytes_of args.v.now c15.shared-slice-known.given) (reading_ends args.reading) _ c10.word_at.ensures.0 c10.before.match.keys3).under
           _ _ _ c6.write-items2.ensures.0,
@@ -1107,7 +1107,7 @@ write-type-add-t51 t c =
       arith,
       c16.before.well-formed,
       let args = c16.before.args in
-          under-read
+          under_read
           (in_context (order_of args.reading) args.least args.left args.v.now args.out.now args.spare.now c16.before.requires.1.0
           (bytes_of args.v.now c16.shared-slice-known.given) _ c11.word-at2.ensures.0 c11.before.match.keys4).under
           _ _ _ c5.write_entries.ensures.0,
@@ -1123,7 +1123,7 @@ write-type-add-t60 t c =
       arith,
       c17.before.well-formed,
       let args = c17.before.args in
-          under-wrote
+          under_wrote
           (in_context (order_of args.reading) args.least args.left args.v.now args.out.now args.spare.now c17.before.requires.1.0
           (bytes_of args.v.now c17.shared-slice-known.given) _ c12.word-at2.ensures.0 c12.before.match.keys4).under
           _ _ _ c6.write_entries.ensures.0,
@@ -1246,7 +1246,7 @@ write-type-add-t66 t c =
       arith,
       c12.before.well-formed,
       let args = c12.before.args in
-          under-read
+          under_read
           (in_definition (order_of args.reading) args.least args.left args.v.now args.out.now args.spare.now c12.before.requires.1.0
           (bytes_of args.v.now c12.shared-slice-known.given) _ c5.wide.ensures.0 c5.before.before.before.match.keys5)
           _ _ _ c.before.before.before.write-signature.ensures,
@@ -1262,7 +1262,7 @@ write-type-add-t74 t c =
       arith,
       c13.before.well-formed,
       let args = c13.before.args in
-          under-wrote
+          under_wrote
           (in_definition (order_of args.reading) args.least args.left args.v.now args.out.now args.spare.now c13.before.requires.1.0
           (bytes_of args.v.now c13.shared-slice-known.given) _ c6.wide.ensures.0 c6.before.before.before.match.keys5)
           _ _ _ c4.write-signature.ensures,
@@ -1375,7 +1375,7 @@ write-type-add-t89 t c =
       arith,
       c7.well-formed,
       c.width.ensures,
-      other-ends (order_of c7.args.reading) c7.args.least c7.args.left c7.args.v.now c7.args.out.now c7.args.spare.now c7.requires.1.0
+      other_ends (order_of c7.args.reading) c7.args.least c7.args.left c7.args.v.now c7.args.out.now c7.args.spare.now c7.requires.1.0
           (bytes_of c7.args.v.now c6.shared-slice-known.given) c.before.before.match.rest c.before.if1.false,
     )
 
@@ -1408,7 +1408,7 @@ write-type-add-t93 t c =
       c7.well-formed,
       c.width2.ensures,
       let v-now = c7.args.v.now in
-          leaf-ends (order_of c7.args.reading) c7.args.least c7.args.left v-now c7.args.out.now c7.args.spare.now c7.requires.1.0
+          leaf_ends (order_of c7.args.reading) c7.args.least c7.args.left v-now c7.args.out.now c7.args.spare.now c7.requires.1.0
           (bytes_of v-now c6.shared-slice-known.given)
           (⊎_elim (λ x. leaf_decimal (get_or v-now 0 0) x.keys1) (λ x. leaf_low (get_or v-now 0 0) (omega (arith, x.1.taken))) c.before.before.match.branch),
     )
@@ -1420,7 +1420,7 @@ write-type-same-length t c =
     let c10 = c6.before.before.before.before in
     let c14 = c10.before.before.before.before in
     let args = c14.before.args in
-    under-kept
+    under_kept
     (in_range (order_of args.reading) args.least args.left args.v.now args.out.now args.spare.now c14.before.requires.1.0
     (bytes_of args.v.now c14.shared-slice-known.given) c10.match.keys2).under
     _ _ _ c6.write-items.ensures.0
@@ -1435,7 +1435,7 @@ write-type-returns t c =
     let c6 = c.before.before.before.before.before.before in
     let c14 = c6.before.before.before.before.before.before.before.before in
     let args = c14.before.args in (
-      under-done
+      under_done
           (in_range (order_of args.reading) args.least args.left args.v.now args.out.now args.spare.now c14.before.requires.1.0
           (bytes_of args.v.now c14.shared-slice-known.given) c6.before.before.before.before.match.keys2).under
           _ _ _ c6.write-items.ensures.0,
@@ -1449,7 +1449,7 @@ write-type-same-length-3 t c =
     let c10 = c6.before.before.before.before in
     let c15 = c10.before.before.before.before.before in
     let args = c15.before.args in
-    under-kept
+    under_kept
     (in_list (order_of args.reading) args.least args.left args.v.now args.out.now args.spare.now c15.before.requires.1.0
     (bytes_of args.v.now c15.shared-slice-known.given) (reading_ends args.reading) _ c10.word_at.ensures.0 c10.before.match.keys3).under
     _ _ _ c6.write-items2.ensures.0
@@ -1465,7 +1465,7 @@ write-type-returns-2 t c =
     let c10 = c6.before.before.before.before in
     let c15 = c10.before.before.before.before.before in
     let args = c15.before.args in (
-      under-done
+      under_done
           (in_list (order_of args.reading) args.least args.left args.v.now args.out.now args.spare.now c15.before.requires.1.0
           (bytes_of args.v.now c15.shared-slice-known.given) (reading_ends args.reading) _ c10.word_at.ensures.0 c10.before.match.keys3).under
           _ _ _ c6.write-items2.ensures.0,
@@ -1479,7 +1479,7 @@ write-type-same-length-5 t c =
     let c12 = c6.before.before.before.before.before.before in
     let c17 = c12.before.before.before.before.before in
     let args = c17.before.args in
-    under-kept
+    under_kept
     (in_context (order_of args.reading) args.least args.left args.v.now args.out.now args.spare.now c17.before.requires.1.0
     (bytes_of args.v.now c17.shared-slice-known.given) _ c12.word-at2.ensures.0 c12.before.match.keys4).under
     _ _ _ c6.write_entries.ensures.0
@@ -1495,7 +1495,7 @@ write-type-returns-3 t c =
     let c12 = c6.before.before.before.before.before.before in
     let c17 = c12.before.before.before.before.before in
     let args = c17.before.args in (
-      under-done
+      under_done
           (in_context (order_of args.reading) args.least args.left args.v.now args.out.now args.spare.now c17.before.requires.1.0
           (bytes_of args.v.now c17.shared-slice-known.given) _ c12.word-at2.ensures.0 c12.before.match.keys4).under
           _ _ _ c6.write_entries.ensures.0,
@@ -1509,7 +1509,7 @@ write-type-same-length-7 t c =
     let c9 = c4.before.before.before.before.before in
     let c13 = c9.before.before.before.before in
     let args = c13.before.args in
-    under-kept
+    under_kept
     (in_definition (order_of args.reading) args.least args.left args.v.now args.out.now args.spare.now c13.before.requires.1.0
     (bytes_of args.v.now c13.shared-slice-known.given) _ c4.before.before.wide.ensures.0 c9.match.keys5)
     _ _ _ c4.write-signature.ensures
@@ -1521,7 +1521,7 @@ write-type-returns-4 t c =
     let c9 = c4.before.before.before.before.before in
     let c13 = c9.before.before.before.before in
     let args = c13.before.args in (
-      under-done
+      under_done
           (in_definition (order_of args.reading) args.least args.left args.v.now args.out.now args.spare.now c13.before.requires.1.0
           (bytes_of args.v.now c13.shared-slice-known.given) _ c4.before.before.wide.ensures.0 c9.match.keys5)
           _ _ _ c4.write-signature.ensures,

@@ -5,7 +5,7 @@ use Rattle.infer.proofs.builder.build.Statement.{statement}
 use Rattle.infer.proofs.builder.build.Tie as tie
 use lib.ListN.{length}
 use Rattle.order.specs.Order.{order_of}
-use Rattle.infer.proofs.CallContracts.{build-long}
+use Rattle.infer.proofs.CallContracts.{build_long}
 
 pub build-spec : {M : Type 1} → statement M
 build-spec =
@@ -20,7 +20,7 @@ build-spec =
     (λ c κs.
     let c7 = c.before.before.before.before.before.before.before in (
       c7.requires,
-      build-long (order_of c7.args.reading) c7.args.least c7.args.v.now (length c7.args.scratch.now)
+      build_long (order_of c7.args.reading) c7.args.least c7.args.v.now (length c7.args.scratch.now)
           c7.args.out.now c7.requires,
     ))
     (λ c. search rules)

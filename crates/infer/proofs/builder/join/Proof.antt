@@ -9,8 +9,8 @@ use Rattle.order.specs.Order.{order_of}
 use Rattle.order.proofs.Ends.{reading_ends}
 use Rattle.form.proofs.Numbers.{take_length}
 use Rattle.form.proofs.Whole.{bytes_of}
-use Rattle.infer.proofs.JoinedTypes.{both_inside, first_byte, join-ask, sup-spared, sup-inside, sup-kept, joined-super, keeps_ask}
-use Rattle.infer.proofs.JoinedTypes.{joined-first, joined_same, joined-any}
+use Rattle.infer.proofs.JoinedTypes.{both_inside, first_byte, join_ask, sup_spared, sup_inside, sup_kept, joined_super, keeps_ask}
+use Rattle.infer.proofs.JoinedTypes.{joined_first, joined_same, joined_any}
 
 pub join-spec : {M : Type 1} → statement M
 join-spec =
@@ -43,16 +43,16 @@ join-spec =
     (λ c. search rules)
     (λ c κs.
     let c9 = c.before.before.before.before.before.before.before.before.before in
-    join-ask c9.args.out.now c9.args.n c9.args.m _ c9.requires.0 (order_of c9.args.reading))
+    join_ask c9.args.out.now c9.args.n c9.args.m _ c9.requires.0 (order_of c9.args.reading))
     (λ c.
     let c12 =
     c.before.before.before.before.before.before.before.before.before.before.before.before in
     let args = c12.args in
     omega (
       arith,
-      sup-spared args.out.now args.n args.m _ c12.pre.0 (order_of args.reading) args.spare.now _ _ _ _ refl
+      sup_spared args.out.now args.n args.m _ c12.pre.0 (order_of args.reading) args.spare.now _ _ _ _ refl
           c.before.before.write-super.ensures,
-      sup-kept args.out.now args.n args.m _ c12.pre.0 (order_of args.reading) args.spare.now _ _ _ _ refl
+      sup_kept args.out.now args.n args.m _ c12.pre.0 (order_of args.reading) args.spare.now _ _ _ _ refl
           c.before.before.write-super.ensures,
     ))
     (λ c.
@@ -63,9 +63,9 @@ join-spec =
     (take_length _ _
     (omega (
       arith,
-      sup-spared args.out.now args.n args.m _ c13.requires.0 (order_of args.reading) args.spare.now _ _ _ _ refl
+      sup_spared args.out.now args.n args.m _ c13.requires.0 (order_of args.reading) args.spare.now _ _ _ _ refl
           c3.write-super.ensures,
-      sup-kept args.out.now args.n args.m _ c13.requires.0 (order_of args.reading) args.spare.now _ _ _ _ refl
+      sup_kept args.out.now args.n args.m _ c13.requires.0 (order_of args.reading) args.spare.now _ _ _ _ refl
           c3.write-super.ensures,
     ))))
     (λ c κs.
@@ -74,14 +74,14 @@ join-spec =
     let args = c14.args in
     omega (
       arith,
-      sup-inside args.out.now args.n args.m _ c14.requires.0 (order_of args.reading) args.spare.now _ _ _ _ refl
+      sup_inside args.out.now args.n args.m _ c14.requires.0 (order_of args.reading) args.spare.now _ _ _ _ refl
           c4.write-super.ensures,
       take_length c4.write-super.result.wrote c4.write-super.new.1.1.0
           (omega (
             arith,
-            sup-spared args.out.now args.n args.m _ c14.requires.0 (order_of args.reading) args.spare.now _ _ _ _ refl
+            sup_spared args.out.now args.n args.m _ c14.requires.0 (order_of args.reading) args.spare.now _ _ _ _ refl
                 c4.write-super.ensures,
-            sup-kept args.out.now args.n args.m _ c14.requires.0 (order_of args.reading) args.spare.now _ _ _ _ refl
+            sup_kept args.out.now args.n args.m _ c14.requires.0 (order_of args.reading) args.spare.now _ _ _ _ refl
                 c4.write-super.ensures,
           )),
     ))
@@ -91,10 +91,10 @@ join-spec =
     let c7 = c.before.before.before.before.before.before.before in
     let c17 = c7.before.before.before.before.before.before.before.before.before.before in
     let args = c17.args in (
-      joined-super args.out.now args.n args.m _ c17.requires.0 (order_of args.reading) args.spare.now _ _ _ _ refl
+      joined_super args.out.now args.n args.m _ c17.requires.0 (order_of args.reading) args.spare.now _ _ _ _ refl
           c7.write-super.ensures _ _ c7.before.before.before.before.if2.true _
           c.before.before.copy.ensures,
-      sup-kept args.out.now args.n args.m _ c17.requires.0 (order_of args.reading) args.spare.now _ _ _ _ refl
+      sup_kept args.out.now args.n args.m _ c17.requires.0 (order_of args.reading) args.spare.now _ _ _ _ refl
           c7.write-super.ensures,
     ))
     (λ c κs.
@@ -104,7 +104,7 @@ join-spec =
     (λ c.
     let c8 = c.before.before.before.before.before.before.before.before in
     let args = c8.before.args in (
-      joined-first args.out.now args.n args.m _ c8.before.requires.0 (order_of args.reading)
+      joined_first args.out.now args.n args.m _ c8.before.requires.0 (order_of args.reading)
           (bytes_of args.out.now c8.slice-known.given) _ _ _ c.before.before.before.if2.false
           c.before.keeps2.ensures c.if3.true,
       refl,
@@ -115,7 +115,7 @@ join-spec =
     (λ c. search rules)
     (λ c.
     let c9 = c.before.before.before.before.before.before.before.before.before in (
-      joined-any c9.args.out.now c9.args.n c9.args.m _ c9.requires.0 (order_of c9.args.reading) _ _ _
+      joined_any c9.args.out.now c9.args.n c9.args.m _ c9.requires.0 (order_of c9.args.reading) _ _ _
           c.before.before.before.if2.false c.before.keeps2.ensures c.if3.false,
       refl,
     )))

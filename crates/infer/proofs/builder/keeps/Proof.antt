@@ -8,7 +8,7 @@ use mathlib.Core.Path.{sym}
 use Rattle.form.proofs.Numbers.{take_length}
 use Rattle.form.proofs.Whole.{bytes_of}
 use Rattle.form.proofs.Exact.{bytes_drop}
-use Rattle.infer.proofs.JoinedTypes.{both_inside, kept_equal, kept-conforms, kept-not}
+use Rattle.infer.proofs.JoinedTypes.{both_inside, kept_equal, kept_conforms, kept_not}
 
 add-p : tie.Need-overflow-add-p
 add-p c =
@@ -74,14 +74,14 @@ returns-2 : tie.Need-returns-2
 returns-2 c =
     let c4 = c.before.before.before.before in
     let c6 = c4.before.before in
-    kept-not c6.args.s.now c6.args.n c6.args.m _ c6.requires _ c4.if1.false
+    kept_not c6.args.s.now c6.args.n c6.args.m _ c6.requires _ c4.if1.false
     c.before.conforms.result _ c.before.conforms.ensures c.if2.true
 
 returns-3 : tie.Need-returns-3
 returns-3 c =
     let c4 = c.before.before.before.before in
     let c6 = c4.before.before in
-    kept-conforms c6.args.s.now c6.args.n c6.args.m _ c6.requires _ c4.if1.false
+    kept_conforms c6.args.s.now c6.args.n c6.args.m _ c6.requires _ c4.if1.false
     c.before.conforms.result _ c.before.conforms.ensures c.if2.false
 
 pub keeps_spec : {M : Type 1} → statement M

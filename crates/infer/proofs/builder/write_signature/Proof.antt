@@ -7,7 +7,7 @@ use native.Mathlib.Omega.{arith}
 use mathlib.Core.Path.{sym}
 use Rattle.form.proofs.Numbers.{take_length}
 use Rattle.form.proofs.Whole.{bytes_of}
-use Rattle.infer.proofs.Signatures.{SigInv, sig_start, sig-name, sig-type, sig_to, sig-part, sig-wide, sig-again, sig_result, sig_last}
+use Rattle.infer.proofs.Signatures.{SigInv, sig_start, sig_name, sig_type, sig_to, sig_part, sig_wide, sig_again, sig_result, sig_last}
 use Rattle.infer.proofs.Signatures.{sig_last_room, sig_same, sig_done}
 use borrow.Author.Rules.{rules}
 
@@ -23,33 +23,33 @@ write-signature-spec =
     (tie.spec invariant-loop decreases-loop
     (λ c κs. search rules)
     (λ c. sig_start _ _ _ _ _ c.before.before.before.requires c.skip.ensures)
-    (λ c. omega (arith, sig-name c.before.loop.invariant c.loop-test.true))
-    (λ c. sig-name c.before.loop.invariant c.loop-test.true)
-    (λ c. sig-name c.before.loop.invariant c.loop-test.true)
+    (λ c. omega (arith, sig_name c.before.loop.invariant c.loop-test.true))
+    (λ c. sig_name c.before.loop.invariant c.loop-test.true)
+    (λ c. sig_name c.before.loop.invariant c.loop-test.true)
     (λ c. search rules)
     (λ c κs. search rules)
     (λ c.
     omega (
       arith,
-      sig-type c.before.before.before.loop.invariant c.before.before.loop-test.true _
+      sig_type c.before.before.before.loop.invariant c.before.before.loop-test.true _
           c.skip2.ensures,
     ))
     (λ c. search rules)
     (λ c. search rules)
     (λ c.
-    sig-type c.before.before.before.loop.invariant c.before.before.loop-test.true _
+    sig_type c.before.before.before.loop.invariant c.before.before.loop-test.true _
     c.skip2.ensures)
     (λ c. sig_to c.before.before.before.before.loop.invariant)
     (λ c. sig_to c.before.before.before.before.loop.invariant)
     (λ c. search rules)
     (λ c κs.
     let c4 = c.before.before.before.before in
-    sig-part c4.before.loop.invariant c4.loop-test.true _ c.before.before.skip2.ensures)
+    sig_part c4.before.loop.invariant c4.loop-test.true _ c.before.before.skip2.ensures)
     (λ c.
     omega (
       arith,
       let c5 = c.before.before.before.before.before in
-          sig-wide c5.before.before.before.loop.invariant c5.before.before.loop-test.true _
+          sig_wide c5.before.before.before.loop.invariant c5.before.before.loop-test.true _
           c5.skip2.ensures,
     ))
     (λ c. search rules)
@@ -57,7 +57,7 @@ write-signature-spec =
     (λ c.
     let c5 = c.before.before.before.before.before in
     let c7 = c5.before.before in
-    sig-again c7.before.loop.invariant c7.loop-test.true _ c5.skip2.ensures
+    sig_again c7.before.loop.invariant c7.loop-test.true _ c5.skip2.ensures
     (bytes_of c7.before.before.before.before.before.args.v.now
     c7.before.before.before.before.shared-slice-known.given)
     _ c.before.before.copy.ensures)

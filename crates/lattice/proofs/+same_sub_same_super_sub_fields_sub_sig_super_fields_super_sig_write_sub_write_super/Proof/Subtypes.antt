@@ -24,12 +24,12 @@ use Rattle.types.specs.Conform.{ignores_at}
 use Rattle.types.proofs.TypeConformance.{compared_strict, compared_some}
 use Rattle.lattice.specs.Writing.{of_fields, of_sigs}
 use Rattle.output.proofs.OntoLaws.{back_length}
-use Rattle.lattice.proofs.Branches.{Inner, Wrapped, Functions, byte_a, byte_b, level_a, one, left-ready, left-done, right-ready, right-done, other_done, inner_ready, inner-ends}
-use Rattle.lattice.proofs.Branches.{leaf_done, wrapped, wrapped_done, ctx_three, in_contexts, ctx_count, ctx_done, in_functions, fun_one, fun_other, fun-none-room, fun-none, fun_head}
-use Rattle.lattice.proofs.Branches.{ignored, in-sigs, fun-done}
-use Rattle.lattice.proofs.SortedMerge.{Peeked, fields_start, peek_a, peek_b, few, more_a, more_b, fields_done, both-room, both-length, both-ready, both_ends, both-next}
-use Rattle.lattice.proofs.SortedMerge.{a-room, a-length, a-ready, a-ends, a-next, b-room, b-length, b-ready, b-ends, b-next}
-use Rattle.lattice.proofs.SignatureLoop.{sig_start, to_fits, param-ready, param-ends, param_next, result-ready, result-ends, sig_done}
+use Rattle.lattice.proofs.Branches.{Inner, Wrapped, Functions, byte_a, byte_b, level_a, one, left_ready, left_done, right_ready, right_done, other_done, inner_ready, inner_ends}
+use Rattle.lattice.proofs.Branches.{leaf_done, wrapped, wrapped_done, ctx_three, in_contexts, ctx_count, ctx_done, in_functions, fun_one, fun_other, fun_none_room, fun_none, fun_head}
+use Rattle.lattice.proofs.Branches.{ignored, in_sigs, fun_done}
+use Rattle.lattice.proofs.SortedMerge.{Peeked, fields_start, peek_a, peek_b, few, more_a, more_b, fields_done, both_room, both_length, both_ready, both_ends, both_next}
+use Rattle.lattice.proofs.SortedMerge.{a_room, a_length, a_ready, a_ends, a_next, b_room, b_length, b_ready, b_ends, b_next}
+use Rattle.lattice.proofs.SignatureLoop.{sig_start, to_fits, param_ready, param_ends, param_next, result_ready, result_ends, sig_done}
 use Rattle.form.proofs.Runs.{behind}
 use Rattle.types.proofs.Entries.{at_end_lem}
 use Rattle.lattice.proofs.+same_sub_same_super_sub_fields_sub_sig_super_fields_super_sig_write_sub_write_super.Proof.Cycle.{same_sub_at, sub_fields_at, sub_sig_at, write_sub_at}
@@ -91,7 +91,7 @@ same_sub_sigs : (t : ℕ) (c : same-sub-lts.After-wide (same_sub_claims t) (same
     (sig_at (args.left - 1) c.wide.result (behind 2 args.a.now)) (sig_at (args.left - 1) c.wide.result (behind 2 args.b.now))
 same_sub_sigs t c =
     let c3 = c.before.before.before in
-    in-sigs (same_sub_functions t c3.before.before.before.before) c3.before.if4.false (same_sub_taken t c3) _ c.wide.ensures.0
+    in_sigs (same_sub_functions t c3.before.before.before.before) c3.before.if4.false (same_sub_taken t c3) _ c.wide.ensures.0
 
 sub_fields_peeked : (t : ℕ)
     (c : sub-fields-lts.After-next-name2 (sub_fields_claims t) (sub_fields_at t) sub-fields.Post sub_fields_Inv_loop sub_fields_μ_loop) →
@@ -191,18 +191,18 @@ same_sub_met t =
     omega (
       arith,
       c7.before.before.before.before.before.before.well_formed,
-      inner-ends (same_sub_wrapped t c7).inner _ _ _ _ _ c.before.before.before.write-sub.ensures,
+      inner_ends (same_sub_wrapped t c7).inner _ _ _ _ _ c.before.before.before.write-sub.ensures,
     ))
     (λ c.
     let c4 = c.before.before.before.before in
     let c8 = c4.before.before.before.before in
     omega
-    (arith, c8.before.before.before.before.before.before.well_formed, inner-ends (same_sub_wrapped t c8).inner _ _ _ _ _ c4.write-sub.ensures))
+    (arith, c8.before.before.before.before.before.before.well_formed, inner_ends (same_sub_wrapped t c8).inner _ _ _ _ _ c4.write-sub.ensures))
     (λ c.
     let c5 = c.before.before.before.before.before in
     let c9 = c5.before.before.before.before in
     omega
-    (arith, c9.before.before.before.before.before.before.well_formed, inner-ends (same_sub_wrapped t c9).inner _ _ _ _ _ c5.write-sub.ensures))
+    (arith, c9.before.before.before.before.before.before.well_formed, inner_ends (same_sub_wrapped t c9).inner _ _ _ _ _ c5.write-sub.ensures))
     (λ c.
     let c5 = c.before.before.before.before.before in
     let args = c5.before.before.before.before.before.before.before.before.before.before.args in
@@ -276,7 +276,7 @@ same_sub_met t =
     omega (
       arith,
       c9.before.before.before.before.before.before.before.before.before.well_formed,
-      inner-ends (same_sub_contexts t c9) _ _ _ _ _ c5.sub-fields.ensures.0,
+      inner_ends (same_sub_contexts t c9) _ _ _ _ _ c5.sub-fields.ensures.0,
     ))
     (λ c.
     let c6 = c.before.before.before.before.before.before in
@@ -284,7 +284,7 @@ same_sub_met t =
     omega (
       arith,
       c10.before.before.before.before.before.before.before.before.before.well_formed,
-      inner-ends (same_sub_contexts t c10) _ _ _ _ _ c6.sub-fields.ensures.0,
+      inner_ends (same_sub_contexts t c10) _ _ _ _ _ c6.sub-fields.ensures.0,
     ))
     (λ c.
     let c7 = c.before.before.before.before.before.before.before in
@@ -292,7 +292,7 @@ same_sub_met t =
     omega (
       arith,
       c11.before.before.before.before.before.before.before.before.before.well_formed,
-      inner-ends (same_sub_contexts t c11) _ _ _ _ _ c7.sub-fields.ensures.0,
+      inner_ends (same_sub_contexts t c11) _ _ _ _ _ c7.sub-fields.ensures.0,
     ))
     (λ c.
     let c7 = c.before.before.before.before.before.before.before in
@@ -321,12 +321,12 @@ same_sub_met t =
     (λ c κs. search rules)
     (λ c.
     simp length-set
-    (omega (arith, fun-none-room (same_sub_functions t c.before.before.before.before.before.before) c.before.before.before.if4.false (same_sub_ignored t c))))
+    (omega (arith, fun_none_room (same_sub_functions t c.before.before.before.before.before.before) c.before.before.before.if4.false (same_sub_ignored t c))))
     (λ c κs. search rules)
     (λ c κs. search rules)
     (λ c. simp length-set)
     (λ c.
-    fun-none (same_sub_functions t c.before.before.before.before.before.before.before.before) c.before.before.before.before.before.if4.false
+    fun_none (same_sub_functions t c.before.before.before.before.before.before.before.before) c.before.before.before.before.before.if4.false
     (same_sub_ignored t c.before.before) _ refl _ _ c.before.skip3.ensures c.skip4.ensures)
     (λ c. omega (arith, (same_sub_functions t c.before.before.before.before).two_a))
     (λ c. omega (arith, (same_sub_functions t c.before.before.before.before).two_a))
@@ -367,21 +367,21 @@ same_sub_met t =
     omega (
       arith,
       c3.before.before.before.before.before.before.before.before.before.before.before.before.before.before.before.before.well_formed,
-      inner-ends (same_sub_sigs t c3.before.before) _ _ _ _ _ c3.sub-sig.ensures,
+      inner_ends (same_sub_sigs t c3.before.before) _ _ _ _ _ c3.sub-sig.ensures,
     ))
     (λ c.
     let c4 = c.before.before.before.before in
     omega (
       arith,
       c4.before.before.before.before.before.before.before.before.before.before.before.before.before.before.before.before.well_formed,
-      inner-ends (same_sub_sigs t c4.before.before) _ _ _ _ _ c4.sub-sig.ensures,
+      inner_ends (same_sub_sigs t c4.before.before) _ _ _ _ _ c4.sub-sig.ensures,
     ))
     (λ c.
     let c5 = c.before.before.before.before.before in
     omega (
       arith,
       c5.before.before.before.before.before.before.before.before.before.before.before.before.before.before.before.before.well_formed,
-      inner-ends (same_sub_sigs t c5.before.before) _ _ _ _ _ c5.sub-sig.ensures,
+      inner_ends (same_sub_sigs t c5.before.before) _ _ _ _ _ c5.sub-sig.ensures,
     ))
     (λ c.
     let c5 = c.before.before.before.before.before in
@@ -392,7 +392,7 @@ same_sub_met t =
     let c5 = c.before.before.before.before.before in
     let c10 = c5.before.before.before.before.before in
     let c14 = c10.before.before.before.before in
-    fun-done (same_sub_functions t c14) c10.before.if4.false (same_sub_taken t c10) _ c5.before.before.wide.ensures.0
+    fun_done (same_sub_functions t c14) c10.before.if4.false (same_sub_taken t c10) _ c5.before.before.wide.ensures.0
     c14.before.before.before.before.before.before.before.args.out.now _ _ _ _ refl c5.sub-sig.ensures)
 
 -- the entries of two contexts
@@ -411,12 +411,12 @@ sub_fields_met t =
     (λ c.
     let c3 = c.before.before.before in
     omega
-    (arith, c3.before.before.before.before.well_formed, c3.loop.invariant.out_len, a-room c3.loop.invariant (sub_fields_peeked t c.before) c.if1.true))
+    (arith, c3.before.before.before.before.well_formed, c3.loop.invariant.out_len, a_room c3.loop.invariant (sub_fields_peeked t c.before) c.if1.true))
     (λ c κs.
     let c2 = c.before.before in
     let loop-inv = c2.before.before.loop.invariant in (
       peek_a loop-inv (more_a loop-inv (sub_fields_peeked t c2) (omega (arith, c.before.if1.true, c2.next-name2.ensures.1.0))),
-      a-room loop-inv (sub_fields_peeked t c2) c.before.if1.true,
+      a_room loop-inv (sub_fields_peeked t c2) c.before.if1.true,
     ))
     (λ c.
     omega (
@@ -457,8 +457,8 @@ sub_fields_met t =
     let c6 = c4.before.before in
     omega (
       arith,
-      a-room c6.before.before.before.loop.invariant (sub_fields_peeked t c6.before) c6.if1.true,
-      a-length c6.before.before.before.loop.invariant (sub_fields_peeked t c6.before) c6.if1.true c4.copy_name.new.1.1.0
+      a_room c6.before.before.before.loop.invariant (sub_fields_peeked t c6.before) c6.if1.true,
+      a_length c6.before.before.before.loop.invariant (sub_fields_peeked t c6.before) c6.if1.true c4.copy_name.new.1.1.0
           c4.copy_name.ensures,
     ))
     (λ c.
@@ -466,8 +466,8 @@ sub_fields_met t =
     let c6 = c4.before.before in
     omega (
       arith,
-      a-room c6.before.before.before.loop.invariant (sub_fields_peeked t c6.before) c6.if1.true,
-      a-length c6.before.before.before.loop.invariant (sub_fields_peeked t c6.before) c6.if1.true c4.copy_name.new.1.1.0
+      a_room c6.before.before.before.loop.invariant (sub_fields_peeked t c6.before) c6.if1.true,
+      a_length c6.before.before.before.loop.invariant (sub_fields_peeked t c6.before) c6.if1.true c4.copy_name.new.1.1.0
           c4.copy_name.ensures,
     ))
     (λ c. search rules)
@@ -476,7 +476,7 @@ sub_fields_met t =
     let c8 = c5.before.before.before in (
       omega (arith, c8.before.before.before.before.before.before.requires.0),
       (
-        a-ready c8.before.before.loop.invariant (sub_fields_peeked t c8) c5.before.before.if1.true c5.copy_name.new.1.1.0
+        a_ready c8.before.before.loop.invariant (sub_fields_peeked t c8) c5.before.before.if1.true c5.copy_name.new.1.1.0
             c5.copy_name.ensures,
         refl,
       ),
@@ -488,7 +488,7 @@ sub_fields_met t =
       arith,
       c14.before.before.before.before.well_formed,
       c14.loop.invariant.out_len,
-      a-ends c14.loop.invariant (sub_fields_peeked t c9.before.before.before) c9.before.before.if1.true c9.copy_name.new.1.1.0
+      a_ends c14.loop.invariant (sub_fields_peeked t c9.before.before.before) c9.before.before.if1.true c9.copy_name.new.1.1.0
           c9.copy_name.ensures _ _ _ _ c.before.before.before.same-sub.ensures,
     ))
     (λ c.
@@ -499,7 +499,7 @@ sub_fields_met t =
       arith,
       c15.before.before.before.before.well_formed,
       c15.loop.invariant.out_len,
-      a-ends c15.loop.invariant (sub_fields_peeked t c10.before.before.before) c10.before.before.if1.true c10.copy_name.new.1.1.0
+      a_ends c15.loop.invariant (sub_fields_peeked t c10.before.before.before) c10.before.before.if1.true c10.copy_name.new.1.1.0
           c10.copy_name.ensures _ _ _ _ c4.same-sub.ensures,
     ))
     (λ c.
@@ -523,7 +523,7 @@ sub_fields_met t =
     (λ c.
     let c4 = c.before.before.before.before in
     let c10 = c4.before.before.before.before.before.before in
-    a-next c10.before.before.before.before.before.loop.invariant (sub_fields_peeked t c10.before.before.before) c10.before.before.if1.true
+    a_next c10.before.before.before.before.before.loop.invariant (sub_fields_peeked t c10.before.before.before) c10.before.before.if1.true
     c10.copy_name.new.1.1.0 c10.copy_name.ensures _ _ _ _ c4.same-sub.ensures c4.same-sub.auto.1.1.0)
     (λ c.
     omega (
@@ -538,13 +538,13 @@ sub_fields_met t =
       arith,
       c4.before.before.before.before.well_formed,
       c4.loop.invariant.out_len,
-      b-room c4.loop.invariant (sub_fields_peeked t c.before.before) c.if2.true,
+      b_room c4.loop.invariant (sub_fields_peeked t c.before.before) c.if2.true,
     ))
     (λ c κs.
     let c3 = c.before.before.before in
     let loop-inv = c3.before.before.loop.invariant in (
       peek_b loop-inv (more_b loop-inv (sub_fields_peeked t c3) (omega (arith, c.before.if2.true, c3.before.next-name.ensures.1.0))),
-      b-room loop-inv (sub_fields_peeked t c3) c.before.if2.true,
+      b_room loop-inv (sub_fields_peeked t c3) c.before.if2.true,
     ))
     (λ c.
     omega (
@@ -586,8 +586,8 @@ sub_fields_met t =
     let c8 = c6.before.before in
     omega (
       arith,
-      b-room c8.before.before.loop.invariant (sub_fields_peeked t c8) c6.if2.true,
-      b-length c8.before.before.loop.invariant (sub_fields_peeked t c8) c6.if2.true c4.copy-name2.new.1.1.0 c4.copy-name2.ensures,
+      b_room c8.before.before.loop.invariant (sub_fields_peeked t c8) c6.if2.true,
+      b_length c8.before.before.loop.invariant (sub_fields_peeked t c8) c6.if2.true c4.copy-name2.new.1.1.0 c4.copy-name2.ensures,
     ))
     (λ c.
     let c4 = c.before.before.before.before in
@@ -595,8 +595,8 @@ sub_fields_met t =
     let c8 = c6.before.before in
     omega (
       arith,
-      b-room c8.before.before.loop.invariant (sub_fields_peeked t c8) c6.if2.true,
-      b-length c8.before.before.loop.invariant (sub_fields_peeked t c8) c6.if2.true c4.copy-name2.new.1.1.0 c4.copy-name2.ensures,
+      b_room c8.before.before.loop.invariant (sub_fields_peeked t c8) c6.if2.true,
+      b_length c8.before.before.loop.invariant (sub_fields_peeked t c8) c6.if2.true c4.copy-name2.new.1.1.0 c4.copy-name2.ensures,
     ))
     (λ c. search rules)
     (λ c κs.
@@ -604,7 +604,7 @@ sub_fields_met t =
     let c9 = c5.before.before.before.before in (
       omega (arith, c9.before.before.before.before.before.before.requires.0),
       (
-        b-ready c9.before.before.loop.invariant (sub_fields_peeked t c9) c5.before.before.if2.true c5.copy-name2.new.1.1.0
+        b_ready c9.before.before.loop.invariant (sub_fields_peeked t c9) c5.before.before.if2.true c5.copy-name2.new.1.1.0
             c5.copy-name2.ensures,
         refl,
       ),
@@ -616,7 +616,7 @@ sub_fields_met t =
       arith,
       c13.before.before.before.before.before.before.well_formed,
       c13.before.before.loop.invariant.out_len,
-      b-ends c13.before.before.loop.invariant (sub_fields_peeked t c13) c9.before.before.if2.true c9.copy-name2.new.1.1.0
+      b_ends c13.before.before.loop.invariant (sub_fields_peeked t c13) c9.before.before.if2.true c9.copy-name2.new.1.1.0
           c9.copy-name2.ensures _ _ _ _ c.before.before.before.same-sub2.ensures,
     ))
     (λ c.
@@ -627,7 +627,7 @@ sub_fields_met t =
       arith,
       c14.before.before.before.before.before.before.well_formed,
       c14.before.before.loop.invariant.out_len,
-      b-ends c14.before.before.loop.invariant (sub_fields_peeked t c14) c10.before.before.if2.true c10.copy-name2.new.1.1.0
+      b_ends c14.before.before.loop.invariant (sub_fields_peeked t c14) c10.before.before.if2.true c10.copy-name2.new.1.1.0
           c10.copy-name2.ensures _ _ _ _ c4.same-sub2.ensures,
     ))
     (λ c.
@@ -652,7 +652,7 @@ sub_fields_met t =
     let c4 = c.before.before.before.before in
     let c10 = c4.before.before.before.before.before.before in
     let c14 = c10.before.before.before.before in
-    b-next c14.before.before.loop.invariant (sub_fields_peeked t c14) c10.before.before.if2.true c10.copy-name2.new.1.1.0
+    b_next c14.before.before.loop.invariant (sub_fields_peeked t c14) c10.before.before.if2.true c10.copy-name2.new.1.1.0
     c10.copy-name2.ensures _ _ _ _ c4.same-sub2.ensures c4.same-sub2.auto.1.1.0)
     (λ c. c.before.before.before.before.before.loop.invariant.out_len)
     (λ c.
@@ -685,14 +685,14 @@ sub_fields_met t =
       arith,
       c5.before.before.before.before.well_formed,
       c5.loop.invariant.out_len,
-      both-room c5.loop.invariant (sub_fields_peeked t c3) (omega (arith, c.before.before.if1.false, c.before.if2.false))
+      both_room c5.loop.invariant (sub_fields_peeked t c3) (omega (arith, c.before.before.if1.false, c.before.if2.false))
           (omega (arith, c3.before.next-name.ensures.1.0, c.if3.false)),
     ))
     (λ c κs.
     let c4 = c.before.before.before.before in
     let loop-inv = c4.before.before.loop.invariant in (
       peek_a loop-inv (more_a loop-inv (sub_fields_peeked t c4) (omega (arith, c4.before.next-name.ensures.1.0, c.before.if3.false))),
-      both-room loop-inv (sub_fields_peeked t c4) (omega (arith, c.before.before.before.if1.false, c.before.before.if2.false))
+      both_room loop-inv (sub_fields_peeked t c4) (omega (arith, c.before.before.before.if1.false, c.before.before.if2.false))
           (omega (arith, c4.before.next-name.ensures.1.0, c.before.if3.false)),
     ))
     (λ c.
@@ -740,9 +740,9 @@ sub_fields_met t =
     let c9 = c8.before in
     omega (
       arith,
-      both-room c9.before.before.loop.invariant (sub_fields_peeked t c9) (omega (arith, c8.if1.false, c6.before.if2.false))
+      both_room c9.before.before.loop.invariant (sub_fields_peeked t c9) (omega (arith, c8.if1.false, c6.before.if2.false))
           (omega (arith, c9.before.next-name.ensures.1.0, c6.if3.false)),
-      both-length c9.before.before.loop.invariant (sub_fields_peeked t c9) (omega (arith, c8.if1.false, c6.before.if2.false))
+      both_length c9.before.before.loop.invariant (sub_fields_peeked t c9) (omega (arith, c8.if1.false, c6.before.if2.false))
           (omega (arith, c9.before.next-name.ensures.1.0, c6.if3.false)) c4.copy-name3.new.1.1.0 c4.copy-name3.ensures,
     ))
     (λ c.
@@ -752,9 +752,9 @@ sub_fields_met t =
     let c9 = c8.before in
     omega (
       arith,
-      both-room c9.before.before.loop.invariant (sub_fields_peeked t c9) (omega (arith, c8.if1.false, c6.before.if2.false))
+      both_room c9.before.before.loop.invariant (sub_fields_peeked t c9) (omega (arith, c8.if1.false, c6.before.if2.false))
           (omega (arith, c9.before.next-name.ensures.1.0, c6.if3.false)),
-      both-length c9.before.before.loop.invariant (sub_fields_peeked t c9) (omega (arith, c8.if1.false, c6.before.if2.false))
+      both_length c9.before.before.loop.invariant (sub_fields_peeked t c9) (omega (arith, c8.if1.false, c6.before.if2.false))
           (omega (arith, c9.before.next-name.ensures.1.0, c6.if3.false)) c4.copy-name3.new.1.1.0 c4.copy-name3.ensures,
     ))
     (λ c. search rules)
@@ -763,7 +763,7 @@ sub_fields_met t =
     let c7 = c5.before.before in
     let c10 = c7.before.before.before in (
       omega (arith, c10.before.before.before.before.before.before.requires.0),
-      both-ready c10.before.before.loop.invariant (sub_fields_peeked t c10) (omega (arith, c7.before.before.if1.false, c7.before.if2.false))
+      both_ready c10.before.before.loop.invariant (sub_fields_peeked t c10) (omega (arith, c7.before.before.if1.false, c7.before.if2.false))
           (omega (arith, c10.before.next-name.ensures.1.0, c7.if3.false)) c5.copy-name3.new.1.1.0 c5.copy-name3.ensures,
     ))
     (λ c.
@@ -840,7 +840,7 @@ sub_fields_met t =
     let c5 = c.before.before.before.before.before in
     let c11 = c5.before.before.before.before.before.before in
     let c15 = c11.before.before.before.before in
-    both-next c15.before.before.before.loop.invariant (sub_fields_peeked t c15.before)
+    both_next c15.before.before.before.loop.invariant (sub_fields_peeked t c15.before)
     (omega (arith, c15.if1.false, c11.before.before.before.if2.false))
     (omega (arith, c15.before.before.next-name.ensures.1.0, c11.before.before.if3.false)) c11.copy-name3.new.1.1.0
     c11.copy-name3.ensures _ _ _ _ c5.write-sub.ensures c5.write-sub.auto.1.1.0)
@@ -862,14 +862,14 @@ sub_sig_met t =
     (λ c. search rules)
     (λ c κs.
     let c3 = c.before.before.before in
-    (omega (arith, c3.before.before.before.before.before.requires.0), param-ready c3.before.loop.invariant c3.loop-test.true))
+    (omega (arith, c3.before.before.before.before.before.requires.0), param_ready c3.before.loop.invariant c3.loop-test.true))
     (λ c.
     let c7 = c.before.before.before.before.before.before.before in
     omega (
       arith,
       c7.before.before.before.before.before.well_formed,
       c7.before.loop.invariant.out_len,
-      param-ends c7.before.loop.invariant c7.loop-test.true _ _ _ _ c.before.before.before.write-super.ensures,
+      param_ends c7.before.loop.invariant c7.loop-test.true _ _ _ _ c.before.before.before.write-super.ensures,
     ))
     (λ c.
     let c4 = c.before.before.before.before in
@@ -878,7 +878,7 @@ sub_sig_met t =
       arith,
       c8.before.before.before.before.before.well_formed,
       c8.before.loop.invariant.out_len,
-      param-ends c8.before.loop.invariant c8.loop-test.true _ _ _ _ c4.write-super.ensures,
+      param_ends c8.before.loop.invariant c8.loop-test.true _ _ _ _ c4.write-super.ensures,
     ))
     (λ c.
     let c5 = c.before.before.before.before.before in
@@ -887,7 +887,7 @@ sub_sig_met t =
       arith,
       c9.before.before.before.before.before.well_formed,
       c9.before.loop.invariant.out_len,
-      param-ends c9.before.loop.invariant c9.loop-test.true _ _ _ _ c5.write-super.ensures,
+      param_ends c9.before.loop.invariant c9.loop-test.true _ _ _ _ c5.write-super.ensures,
     ))
     (λ c.
     let c9 = c.before.before.before.before.before.before.before.before.before in
@@ -908,14 +908,14 @@ sub_sig_met t =
     (λ c. search rules)
     (λ c κs.
     let c3 = c.before.before.before in
-    (omega (arith, c3.before.before.before.before.before.requires.0), result-ready c3.before.loop.invariant c3.loop-test.false))
+    (omega (arith, c3.before.before.before.before.before.requires.0), result_ready c3.before.loop.invariant c3.loop-test.false))
     (λ c.
     let c7 = c.before.before.before.before.before.before.before in
     omega (
       arith,
       c7.before.before.before.before.before.well_formed,
       c7.before.loop.invariant.out_len,
-      result-ends c7.before.loop.invariant c7.loop-test.false _ _ _ _ c.before.before.before.write-sub.ensures,
+      result_ends c7.before.loop.invariant c7.loop-test.false _ _ _ _ c.before.before.before.write-sub.ensures,
     ))
     (λ c.
     let c4 = c.before.before.before.before in
@@ -924,7 +924,7 @@ sub_sig_met t =
       arith,
       c8.before.before.before.before.before.well_formed,
       c8.before.loop.invariant.out_len,
-      result-ends c8.before.loop.invariant c8.loop-test.false _ _ _ _ c4.write-sub.ensures,
+      result_ends c8.before.loop.invariant c8.loop-test.false _ _ _ _ c4.write-sub.ensures,
     ))
     (λ c.
     let c5 = c.before.before.before.before.before in
@@ -933,7 +933,7 @@ sub_sig_met t =
       arith,
       c9.before.before.before.before.before.well_formed,
       c9.before.loop.invariant.out_len,
-      result-ends c9.before.loop.invariant c9.loop-test.false _ _ _ _ c5.write-sub.ensures,
+      result_ends c9.before.loop.invariant c9.loop-test.false _ _ _ _ c5.write-sub.ensures,
     ))
     (λ c.
     let c5 = c.before.before.before.before.before in
@@ -977,20 +977,20 @@ write_sub_met t =
     (λ c. c.before.before.same-sub.ensures)
     (λ c κs.
     let c8 = c.before.before.before.before.before.before.before.before in
-    (omega (arith, c8.requires.0), (left-ready _ down _ c8.args.a.now c8.args.b.now _ c8.requires.1 (reading_ends c8.args.reading) c.before.if3.true, refl)))
+    (omega (arith, c8.requires.0), (left_ready _ down _ c8.args.a.now c8.args.b.now _ c8.requires.1 (reading_ends c8.args.reading) c.before.if3.true, refl)))
     (λ c. c.before.before.same-sub2.auto.1.1.0)
     (λ c.
     let c4 = c.before.before.before.before in
     let c11 = c4.before.before.before.before.before.before.before in
-    left-done _ down _ c11.args.a.now c11.args.b.now _ c11.requires.1 (reading_ends c11.args.reading) c4.if3.true _ _ _ _ _ c.before.before.same-sub2.ensures)
+    left_done _ down _ c11.args.a.now c11.args.b.now _ c11.requires.1 (reading_ends c11.args.reading) c4.if3.true _ _ _ _ _ c.before.before.same-sub2.ensures)
     (λ c κs.
     let c9 = c.before.before.before.before.before.before.before.before.before in
-    (omega (arith, c9.requires.0), (right-ready _ down _ c9.args.a.now c9.args.b.now _ c9.requires.1 (reading_ends c9.args.reading) c.before.if4.true, refl)))
+    (omega (arith, c9.requires.0), (right_ready _ down _ c9.args.a.now c9.args.b.now _ c9.requires.1 (reading_ends c9.args.reading) c.before.if4.true, refl)))
     (λ c. c.before.before.same-sub3.auto.1.1.0)
     (λ c.
     let c4 = c.before.before.before.before in
     let c12 = c4.before.before.before.before.before.before.before.before in
-    right-done _ down _ c12.args.a.now c12.args.b.now _ c12.requires.1 (reading_ends c12.args.reading) c4.if4.true _ _ _ _ _ c.before.before.same-sub3.ensures)
+    right_done _ down _ c12.args.a.now c12.args.b.now _ c12.requires.1 (reading_ends c12.args.reading) c4.if4.true _ _ _ _ _ c.before.before.same-sub3.ensures)
     (λ c κs. search rules)
     (λ c.
     omega (

@@ -24,12 +24,12 @@ use Rattle.types.specs.Conform.{ignores_at}
 use Rattle.types.proofs.TypeConformance.{compared_strict, compared_some}
 use Rattle.lattice.specs.Writing.{of_fields, of_sigs}
 use Rattle.output.proofs.OntoLaws.{back_length}
-use Rattle.lattice.proofs.Branches.{Inner, Wrapped, Functions, byte_a, byte_b, level_a, one, left-ready, left-done, right-ready, right-done, other_done, inner_ready, inner-ends}
-use Rattle.lattice.proofs.Branches.{leaf_done, wrapped, wrapped_done, ctx_three, in_contexts, ctx_count, ctx_done, in_functions, fun_one, fun_other, fun-none-room, fun-none, fun_head}
-use Rattle.lattice.proofs.Branches.{ignored, in-sigs, fun-done}
-use Rattle.lattice.proofs.SortedMerge.{Peeked, fields_start, peek_a, peek_b, few, more_a, more_b, fields_done, both-room, both-length, both-ready, both_ends, both-next}
-use Rattle.lattice.proofs.SortedMerge.{skip-a-fits, skip-a, skip-b-fits, skip-b}
-use Rattle.lattice.proofs.SignatureLoop.{sig_start, to_fits, param-ready, param-ends, param_next, result-ready, result-ends, sig_done}
+use Rattle.lattice.proofs.Branches.{Inner, Wrapped, Functions, byte_a, byte_b, level_a, one, left_ready, left_done, right_ready, right_done, other_done, inner_ready, inner_ends}
+use Rattle.lattice.proofs.Branches.{leaf_done, wrapped, wrapped_done, ctx_three, in_contexts, ctx_count, ctx_done, in_functions, fun_one, fun_other, fun_none_room, fun_none, fun_head}
+use Rattle.lattice.proofs.Branches.{ignored, in_sigs, fun_done}
+use Rattle.lattice.proofs.SortedMerge.{Peeked, fields_start, peek_a, peek_b, few, more_a, more_b, fields_done, both_room, both_length, both_ready, both_ends, both_next}
+use Rattle.lattice.proofs.SortedMerge.{skip_a_fits, skip_a, skip_b_fits, skip_b}
+use Rattle.lattice.proofs.SignatureLoop.{sig_start, to_fits, param_ready, param_ends, param_next, result_ready, result_ends, sig_done}
 use Rattle.form.proofs.Runs.{behind}
 use Rattle.types.proofs.Entries.{at_end_lem}
 use Rattle.lattice.proofs.+same_sub_same_super_sub_fields_sub_sig_super_fields_super_sig_write_sub_write_super.Proof.Cycle.{same_super_at, super_fields_at, super_sig_at, write_super_at}
@@ -91,7 +91,7 @@ same_super_sigs : (t : ℕ) (c : same-super-lts.After-wide (same_super_claims t)
     (sig_at (args.left - 1) c.wide.result (behind 2 args.a.now)) (sig_at (args.left - 1) c.wide.result (behind 2 args.b.now))
 same_super_sigs t c =
     let c3 = c.before.before.before in
-    in-sigs (same_super_functions t c3.before.before.before.before) c3.before.if4.false (same_super_taken t c3) _ c.wide.ensures.0
+    in_sigs (same_super_functions t c3.before.before.before.before) c3.before.if4.false (same_super_taken t c3) _ c.wide.ensures.0
 
 super_fields_peeked : (t : ℕ)
     (c : super-fields-lts.After-next-name2 (super_fields_claims t) (super_fields_at t) super-fields.Post super_fields_Inv_loop super_fields_μ_loop) →
@@ -191,18 +191,18 @@ same_super_met t =
     omega (
       arith,
       c7.before.before.before.before.before.before.well_formed,
-      inner-ends (same_super_wrapped t c7).inner _ _ _ _ _ c.before.before.before.write-super.ensures,
+      inner_ends (same_super_wrapped t c7).inner _ _ _ _ _ c.before.before.before.write-super.ensures,
     ))
     (λ c.
     let c4 = c.before.before.before.before in
     let c8 = c4.before.before.before.before in
     omega
-    (arith, c8.before.before.before.before.before.before.well_formed, inner-ends (same_super_wrapped t c8).inner _ _ _ _ _ c4.write-super.ensures))
+    (arith, c8.before.before.before.before.before.before.well_formed, inner_ends (same_super_wrapped t c8).inner _ _ _ _ _ c4.write-super.ensures))
     (λ c.
     let c5 = c.before.before.before.before.before in
     let c9 = c5.before.before.before.before in
     omega
-    (arith, c9.before.before.before.before.before.before.well_formed, inner-ends (same_super_wrapped t c9).inner _ _ _ _ _ c5.write-super.ensures))
+    (arith, c9.before.before.before.before.before.before.well_formed, inner_ends (same_super_wrapped t c9).inner _ _ _ _ _ c5.write-super.ensures))
     (λ c.
     let c5 = c.before.before.before.before.before in
     let args = c5.before.before.before.before.before.before.before.before.before.before.args in
@@ -276,7 +276,7 @@ same_super_met t =
     omega (
       arith,
       c9.before.before.before.before.before.before.before.before.before.well_formed,
-      inner-ends (same_super_contexts t c9) _ _ _ _ _ c5.super-fields.ensures.0,
+      inner_ends (same_super_contexts t c9) _ _ _ _ _ c5.super-fields.ensures.0,
     ))
     (λ c.
     let c6 = c.before.before.before.before.before.before in
@@ -284,7 +284,7 @@ same_super_met t =
     omega (
       arith,
       c10.before.before.before.before.before.before.before.before.before.well_formed,
-      inner-ends (same_super_contexts t c10) _ _ _ _ _ c6.super-fields.ensures.0,
+      inner_ends (same_super_contexts t c10) _ _ _ _ _ c6.super-fields.ensures.0,
     ))
     (λ c.
     let c7 = c.before.before.before.before.before.before.before in
@@ -292,7 +292,7 @@ same_super_met t =
     omega (
       arith,
       c11.before.before.before.before.before.before.before.before.before.well_formed,
-      inner-ends (same_super_contexts t c11) _ _ _ _ _ c7.super-fields.ensures.0,
+      inner_ends (same_super_contexts t c11) _ _ _ _ _ c7.super-fields.ensures.0,
     ))
     (λ c.
     let c7 = c.before.before.before.before.before.before.before in
@@ -321,12 +321,12 @@ same_super_met t =
     (λ c κs. search rules)
     (λ c.
     simp length-set
-    (omega (arith, fun-none-room (same_super_functions t c.before.before.before.before.before.before) c.before.before.before.if4.false (same_super_ignored t c))))
+    (omega (arith, fun_none_room (same_super_functions t c.before.before.before.before.before.before) c.before.before.before.if4.false (same_super_ignored t c))))
     (λ c κs. search rules)
     (λ c κs. search rules)
     (λ c. simp length-set)
     (λ c.
-    fun-none (same_super_functions t c.before.before.before.before.before.before.before.before) c.before.before.before.before.before.if4.false
+    fun_none (same_super_functions t c.before.before.before.before.before.before.before.before) c.before.before.before.before.before.if4.false
     (same_super_ignored t c.before.before) _ refl _ _ c.before.skip3.ensures c.skip4.ensures)
     (λ c. omega (arith, (same_super_functions t c.before.before.before.before).two_a))
     (λ c. omega (arith, (same_super_functions t c.before.before.before.before).two_a))
@@ -367,21 +367,21 @@ same_super_met t =
     omega (
       arith,
       c3.before.before.before.before.before.before.before.before.before.before.before.before.before.before.before.before.well_formed,
-      inner-ends (same_super_sigs t c3.before.before) _ _ _ _ _ c3.super-sig.ensures,
+      inner_ends (same_super_sigs t c3.before.before) _ _ _ _ _ c3.super-sig.ensures,
     ))
     (λ c.
     let c4 = c.before.before.before.before in
     omega (
       arith,
       c4.before.before.before.before.before.before.before.before.before.before.before.before.before.before.before.before.well_formed,
-      inner-ends (same_super_sigs t c4.before.before) _ _ _ _ _ c4.super-sig.ensures,
+      inner_ends (same_super_sigs t c4.before.before) _ _ _ _ _ c4.super-sig.ensures,
     ))
     (λ c.
     let c5 = c.before.before.before.before.before in
     omega (
       arith,
       c5.before.before.before.before.before.before.before.before.before.before.before.before.before.before.before.before.well_formed,
-      inner-ends (same_super_sigs t c5.before.before) _ _ _ _ _ c5.super-sig.ensures,
+      inner_ends (same_super_sigs t c5.before.before) _ _ _ _ _ c5.super-sig.ensures,
     ))
     (λ c.
     let c5 = c.before.before.before.before.before in
@@ -392,7 +392,7 @@ same_super_met t =
     let c5 = c.before.before.before.before.before in
     let c10 = c5.before.before.before.before.before in
     let c14 = c10.before.before.before.before in
-    fun-done (same_super_functions t c14) c10.before.if4.false (same_super_taken t c10) _ c5.before.before.wide.ensures.0
+    fun_done (same_super_functions t c14) c10.before.if4.false (same_super_taken t c10) _ c5.before.before.wide.ensures.0
     c14.before.before.before.before.before.before.before.args.out.now _ _ _ _ refl c5.super-sig.ensures)
 
 -- the entries of two contexts
@@ -427,7 +427,7 @@ super_fields_met t =
     omega (
       arith,
       c3.before.before.before.before.before.before.well_formed,
-      skip-a-fits c3.before.before.loop.invariant (super_fields_peeked t c3) c.before.before.if1.true _ c.skip.ensures,
+      skip_a_fits c3.before.before.loop.invariant (super_fields_peeked t c3) c.before.before.if1.true _ c.skip.ensures,
     ))
     (λ c.
     let c3 = c.before.before.before in
@@ -443,7 +443,7 @@ super_fields_met t =
       (more_a c3.before.before.loop.invariant (super_fields_peeked t c3) (omega (arith, c.before.before.if1.true, c3.next-name2.ensures.1.0))),
     ))
     (λ c.
-    skip-a c.before.before.before.before.before.loop.invariant (super_fields_peeked t c.before.before.before) c.before.before.if1.true _
+    skip_a c.before.before.before.before.before.loop.invariant (super_fields_peeked t c.before.before.before) c.before.before.if1.true _
     c.skip.ensures)
     (λ c.
     omega (
@@ -473,7 +473,7 @@ super_fields_met t =
     omega (
       arith,
       c4.before.before.before.before.before.before.well_formed,
-      skip-b-fits c4.before.before.loop.invariant (super_fields_peeked t c4) c.before.before.if2.true _ c.skip2.ensures,
+      skip_b_fits c4.before.before.loop.invariant (super_fields_peeked t c4) c.before.before.if2.true _ c.skip2.ensures,
     ))
     (λ c.
     let c4 = c.before.before.before.before in
@@ -490,7 +490,7 @@ super_fields_met t =
     ))
     (λ c.
     let c4 = c.before.before.before.before in
-    skip-b c4.before.before.loop.invariant (super_fields_peeked t c4) c.before.before.if2.true _ c.skip2.ensures)
+    skip_b c4.before.before.loop.invariant (super_fields_peeked t c4) c.before.before.if2.true _ c.skip2.ensures)
     (λ c. c.before.before.before.before.before.loop.invariant.out_len)
     (λ c.
     let c3 = c.before.before.before in
@@ -522,14 +522,14 @@ super_fields_met t =
       arith,
       c5.before.before.before.before.well_formed,
       c5.loop.invariant.out_len,
-      both-room c5.loop.invariant (super_fields_peeked t c3) (omega (arith, c.before.before.if1.false, c.before.if2.false))
+      both_room c5.loop.invariant (super_fields_peeked t c3) (omega (arith, c.before.before.if1.false, c.before.if2.false))
           (omega (arith, c3.before.next-name.ensures.1.0, c.if3.false)),
     ))
     (λ c κs.
     let c4 = c.before.before.before.before in
     let loop-inv = c4.before.before.loop.invariant in (
       peek_a loop-inv (more_a loop-inv (super_fields_peeked t c4) (omega (arith, c4.before.next-name.ensures.1.0, c.before.if3.false))),
-      both-room loop-inv (super_fields_peeked t c4) (omega (arith, c.before.before.before.if1.false, c.before.before.if2.false))
+      both_room loop-inv (super_fields_peeked t c4) (omega (arith, c.before.before.before.if1.false, c.before.before.if2.false))
           (omega (arith, c4.before.next-name.ensures.1.0, c.before.if3.false)),
     ))
     (λ c.
@@ -577,9 +577,9 @@ super_fields_met t =
     let c9 = c8.before in
     omega (
       arith,
-      both-room c9.before.before.loop.invariant (super_fields_peeked t c9) (omega (arith, c8.if1.false, c6.before.if2.false))
+      both_room c9.before.before.loop.invariant (super_fields_peeked t c9) (omega (arith, c8.if1.false, c6.before.if2.false))
           (omega (arith, c9.before.next-name.ensures.1.0, c6.if3.false)),
-      both-length c9.before.before.loop.invariant (super_fields_peeked t c9) (omega (arith, c8.if1.false, c6.before.if2.false))
+      both_length c9.before.before.loop.invariant (super_fields_peeked t c9) (omega (arith, c8.if1.false, c6.before.if2.false))
           (omega (arith, c9.before.next-name.ensures.1.0, c6.if3.false)) c4.copy_name.new.1.1.0 c4.copy_name.ensures,
     ))
     (λ c.
@@ -589,9 +589,9 @@ super_fields_met t =
     let c9 = c8.before in
     omega (
       arith,
-      both-room c9.before.before.loop.invariant (super_fields_peeked t c9) (omega (arith, c8.if1.false, c6.before.if2.false))
+      both_room c9.before.before.loop.invariant (super_fields_peeked t c9) (omega (arith, c8.if1.false, c6.before.if2.false))
           (omega (arith, c9.before.next-name.ensures.1.0, c6.if3.false)),
-      both-length c9.before.before.loop.invariant (super_fields_peeked t c9) (omega (arith, c8.if1.false, c6.before.if2.false))
+      both_length c9.before.before.loop.invariant (super_fields_peeked t c9) (omega (arith, c8.if1.false, c6.before.if2.false))
           (omega (arith, c9.before.next-name.ensures.1.0, c6.if3.false)) c4.copy_name.new.1.1.0 c4.copy_name.ensures,
     ))
     (λ c. search rules)
@@ -600,7 +600,7 @@ super_fields_met t =
     let c7 = c5.before.before in
     let c10 = c7.before.before.before in (
       omega (arith, c10.before.before.before.before.before.before.requires.0),
-      both-ready c10.before.before.loop.invariant (super_fields_peeked t c10) (omega (arith, c7.before.before.if1.false, c7.before.if2.false))
+      both_ready c10.before.before.loop.invariant (super_fields_peeked t c10) (omega (arith, c7.before.before.if1.false, c7.before.if2.false))
           (omega (arith, c10.before.next-name.ensures.1.0, c7.if3.false)) c5.copy_name.new.1.1.0 c5.copy_name.ensures,
     ))
     (λ c.
@@ -677,7 +677,7 @@ super_fields_met t =
     let c5 = c.before.before.before.before.before in
     let c11 = c5.before.before.before.before.before.before in
     let c15 = c11.before.before.before.before in
-    both-next c15.before.before.before.loop.invariant (super_fields_peeked t c15.before)
+    both_next c15.before.before.before.loop.invariant (super_fields_peeked t c15.before)
     (omega (arith, c15.if1.false, c11.before.before.before.if2.false))
     (omega (arith, c15.before.before.next-name.ensures.1.0, c11.before.before.if3.false)) c11.copy_name.new.1.1.0
     c11.copy_name.ensures _ _ _ _ c5.write-super.ensures c5.write-super.auto.1.1.0)
@@ -699,14 +699,14 @@ super_sig_met t =
     (λ c. search rules)
     (λ c κs.
     let c3 = c.before.before.before in
-    (omega (arith, c3.before.before.before.before.before.requires.0), param-ready c3.before.loop.invariant c3.loop-test.true))
+    (omega (arith, c3.before.before.before.before.before.requires.0), param_ready c3.before.loop.invariant c3.loop-test.true))
     (λ c.
     let c7 = c.before.before.before.before.before.before.before in
     omega (
       arith,
       c7.before.before.before.before.before.well_formed,
       c7.before.loop.invariant.out_len,
-      param-ends c7.before.loop.invariant c7.loop-test.true _ _ _ _ c.before.before.before.write-sub.ensures,
+      param_ends c7.before.loop.invariant c7.loop-test.true _ _ _ _ c.before.before.before.write-sub.ensures,
     ))
     (λ c.
     let c4 = c.before.before.before.before in
@@ -715,7 +715,7 @@ super_sig_met t =
       arith,
       c8.before.before.before.before.before.well_formed,
       c8.before.loop.invariant.out_len,
-      param-ends c8.before.loop.invariant c8.loop-test.true _ _ _ _ c4.write-sub.ensures,
+      param_ends c8.before.loop.invariant c8.loop-test.true _ _ _ _ c4.write-sub.ensures,
     ))
     (λ c.
     let c5 = c.before.before.before.before.before in
@@ -724,7 +724,7 @@ super_sig_met t =
       arith,
       c9.before.before.before.before.before.well_formed,
       c9.before.loop.invariant.out_len,
-      param-ends c9.before.loop.invariant c9.loop-test.true _ _ _ _ c5.write-sub.ensures,
+      param_ends c9.before.loop.invariant c9.loop-test.true _ _ _ _ c5.write-sub.ensures,
     ))
     (λ c.
     let c9 = c.before.before.before.before.before.before.before.before.before in
@@ -745,14 +745,14 @@ super_sig_met t =
     (λ c. search rules)
     (λ c κs.
     let c3 = c.before.before.before in
-    (omega (arith, c3.before.before.before.before.before.requires.0), result-ready c3.before.loop.invariant c3.loop-test.false))
+    (omega (arith, c3.before.before.before.before.before.requires.0), result_ready c3.before.loop.invariant c3.loop-test.false))
     (λ c.
     let c7 = c.before.before.before.before.before.before.before in
     omega (
       arith,
       c7.before.before.before.before.before.well_formed,
       c7.before.loop.invariant.out_len,
-      result-ends c7.before.loop.invariant c7.loop-test.false _ _ _ _ c.before.before.before.write-super.ensures,
+      result_ends c7.before.loop.invariant c7.loop-test.false _ _ _ _ c.before.before.before.write-super.ensures,
     ))
     (λ c.
     let c4 = c.before.before.before.before in
@@ -761,7 +761,7 @@ super_sig_met t =
       arith,
       c8.before.before.before.before.before.well_formed,
       c8.before.loop.invariant.out_len,
-      result-ends c8.before.loop.invariant c8.loop-test.false _ _ _ _ c4.write-super.ensures,
+      result_ends c8.before.loop.invariant c8.loop-test.false _ _ _ _ c4.write-super.ensures,
     ))
     (λ c.
     let c5 = c.before.before.before.before.before in
@@ -770,7 +770,7 @@ super_sig_met t =
       arith,
       c9.before.before.before.before.before.well_formed,
       c9.before.loop.invariant.out_len,
-      result-ends c9.before.loop.invariant c9.loop-test.false _ _ _ _ c5.write-super.ensures,
+      result_ends c9.before.loop.invariant c9.loop-test.false _ _ _ _ c5.write-super.ensures,
     ))
     (λ c.
     let c5 = c.before.before.before.before.before in
@@ -814,20 +814,20 @@ write_super_met t =
     (λ c. c.before.before.same-super.ensures)
     (λ c κs.
     let c8 = c.before.before.before.before.before.before.before.before in
-    (omega (arith, c8.requires.0), (left-ready _ up _ c8.args.a.now c8.args.b.now _ c8.requires.1 (reading_ends c8.args.reading) c.before.if3.true, refl)))
+    (omega (arith, c8.requires.0), (left_ready _ up _ c8.args.a.now c8.args.b.now _ c8.requires.1 (reading_ends c8.args.reading) c.before.if3.true, refl)))
     (λ c. c.before.before.same-super2.auto.1.1.0)
     (λ c.
     let c4 = c.before.before.before.before in
     let c11 = c4.before.before.before.before.before.before.before in
-    left-done _ up _ c11.args.a.now c11.args.b.now _ c11.requires.1 (reading_ends c11.args.reading) c4.if3.true _ _ _ _ _ c.before.before.same-super2.ensures)
+    left_done _ up _ c11.args.a.now c11.args.b.now _ c11.requires.1 (reading_ends c11.args.reading) c4.if3.true _ _ _ _ _ c.before.before.same-super2.ensures)
     (λ c κs.
     let c9 = c.before.before.before.before.before.before.before.before.before in
-    (omega (arith, c9.requires.0), (right-ready _ up _ c9.args.a.now c9.args.b.now _ c9.requires.1 (reading_ends c9.args.reading) c.before.if4.true, refl)))
+    (omega (arith, c9.requires.0), (right_ready _ up _ c9.args.a.now c9.args.b.now _ c9.requires.1 (reading_ends c9.args.reading) c.before.if4.true, refl)))
     (λ c. c.before.before.same-super3.auto.1.1.0)
     (λ c.
     let c4 = c.before.before.before.before in
     let c12 = c4.before.before.before.before.before.before.before.before in
-    right-done _ up _ c12.args.a.now c12.args.b.now _ c12.requires.1 (reading_ends c12.args.reading) c4.if4.true _ _ _ _ _ c.before.before.same-super3.ensures)
+    right_done _ up _ c12.args.a.now c12.args.b.now _ c12.requires.1 (reading_ends c12.args.reading) c4.if4.true _ _ _ _ _ c.before.before.same-super3.ensures)
     (λ c κs. search rules)
     (λ c.
     omega (

@@ -5,7 +5,7 @@ use Rattle.paths.proofs.walk.refusal.Statement.{statement}
 use Rattle.paths.proofs.walk.refusal.Tie as tie
 use native.Mathlib.Omega.{arith}
 use Rattle.values.proofs.CallContracts.{value_refused, value_accepted}
-use Rattle.paths.proofs.CallContracts.{refused_value, refused-other, refused-not, held_byte}
+use Rattle.paths.proofs.CallContracts.{refused_value, refused_other, refused_not, held_byte}
 
 -- at `if let Checked::Refused(n) = form::check_value(c) {`
 check-value-requires : tie.Need-check-value-requires
@@ -37,7 +37,7 @@ shared-slice-read-if1 c =
 returns-2 : tie.Need-returns-2
 returns-2 c =
     let c4 = c.before.before.before.before in
-    refused-other c4.before.before.args.c.now 0
+    refused_other c4.before.before.args.c.now 0
     (value_accepted c4.before.before.args.c.now c4.check-value.ensures.1 c4.check-value.result _ c.before.before.enum_told.given.1
     c4.check-value.ensures.0).whole
     (omega arith) c.if1.true
@@ -46,7 +46,7 @@ returns-2 c =
 returns-3 : tie.Need-returns-3
 returns-3 c =
     let c4 = c.before.before.before.before in
-    refused-not c4.before.before.args.c.now 0
+    refused_not c4.before.before.args.c.now 0
     (value_accepted c4.before.before.args.c.now c4.check-value.ensures.1 c4.check-value.result _ c.before.before.enum_told.given.1
     c4.check-value.ensures.0).whole
     (omega arith) c.if1.false

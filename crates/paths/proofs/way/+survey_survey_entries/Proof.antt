@@ -24,8 +24,8 @@ use borrow.Author.Rules.{rules}
 use native.Mathlib.Omega.{arith}
 use mathlib.Core.Path.{refl}
 use Rattle.form.proofs.Runs.{behind}
-use Rattle.paths.proofs.Along.{Along, along_start, along_none, along-fall, along-fault, along-fits, along-this, along-before}
-use Rattle.paths.proofs.Along.{along-behind, along_end, along-cut, flat_answer, path_parts}
+use Rattle.paths.proofs.Along.{Along, along_start, along_none, along_fall, along_fault, along_fits, along_this, along_before}
+use Rattle.paths.proofs.Along.{along_behind, along_end, along_cut, flat_answer, path_parts}
 
 abbrev μ-survey : Measures 2 survey-kinds.ps ℕ
 μ-survey κs a = 2 * a.1.1.0 + 1
@@ -211,7 +211,7 @@ survey-entries-returns-2 : (t : ℕ) →
     survey-entries.Post survey-entries-Inv-loop survey-entries-μ-loop
 survey-entries-returns-2 t c =
     let c3 = c.before.before.before in
-    along-fall c3.before.before.loop.invariant c3.before.loop-test.true c3.if1.false
+    along_fall c3.before.before.loop.invariant c3.before.loop-test.true c3.if1.false
     c.before.before.name-at.ensures.0 _ _ _ _ _ c.before.if2.true c.stop2.ensures
 
 -- at `let p = at + NAME_WIDTH;`
@@ -296,7 +296,7 @@ survey-entries-returns-3 : (t : ℕ) →
 survey-entries-returns-3 t c =
     let c7 = c.before.before.before.before.before.before.before in
     let c9 = c7.before.before in
-    along-fault c9.before.before.loop.invariant c9.before.loop-test.true c9.if1.false
+    along_fault c9.before.before.loop.invariant c9.before.loop-test.true c9.if1.false
     c7.before.name-at.ensures.0 c7.if2.false c.before.before.before.survey.ensures.0 _
     _ _ _ _ c.before.if4.true c.stop3.ensures
 
@@ -322,12 +322,12 @@ survey-entries-around-requires t c κs =
     let c11 = c8.before.before.before in (
       omega (
         arith,
-        along-fits c11.before.loop.invariant c11.loop-test.true c8.before.before.if1.false
+        along_fits c11.before.loop.invariant c11.loop-test.true c8.before.before.if1.false
             c8.before.name-at.ensures.0 c8.if2.false c4.survey.ensures.0
             c.before.before.if4.false,
         c11.before.before.before.before.before.before.before.well-formed,
       ),
-      along-cut c11.before.loop.invariant c11.loop-test.true c8.before.before.if1.false
+      along_cut c11.before.loop.invariant c11.loop-test.true c8.before.before.if1.false
           c8.before.name-at.ensures.0 c8.if2.false c4.survey.ensures.0
           c.before.before.if4.false _ _ c4.survey.ensures.1,
     )
@@ -342,7 +342,7 @@ survey-entries-add-at t c =
     let c13 = c10.before.before.before in
     omega (
       arith,
-      along-fits c13.before.loop.invariant c13.loop-test.true c10.before.before.if1.false
+      along_fits c13.before.loop.invariant c13.loop-test.true c10.before.before.if1.false
           c10.before.name-at.ensures.0 c10.if2.false c4.before.before.survey.ensures.0
           c4.if4.false,
       c13.before.before.before.before.before.before.before.well-formed,
@@ -363,7 +363,7 @@ survey-entries-loop-again t c =
     let c6 = c3.before.before.before in
     let c9 = c6.before.before.before in
     let c12 = c9.before.before.before in
-    along-this c12.before.before.loop.invariant c12.before.loop-test.true c12.if1.false
+    along_this c12.before.before.loop.invariant c12.before.loop-test.true c12.if1.false
     c9.before.before.name-at.ensures.0 c9.before.if2.false c6.survey.ensures.0
     c3.before.if4.false c9.if3.true _ _ c6.survey.ensures.1 c3.max.ensures
     c.before.before.max2.ensures c.before.around.ensures
@@ -411,7 +411,7 @@ survey-entries-returns-4 : (t : ℕ) →
 survey-entries-returns-4 t c =
     let c6 = c.before.before.before.before.before.before in
     let c8 = c6.before.before in
-    along-fault c8.before.before.loop.invariant c8.before.loop-test.true c8.if1.false
+    along_fault c8.before.before.loop.invariant c8.before.loop-test.true c8.if1.false
     c6.before.name-at.ensures.0 c6.if2.false c.before.before.pass.ensures _ _ _ _ _
     c.before.if5.true c.stop4.ensures
 
@@ -436,7 +436,7 @@ survey-entries-add-at-2 t c =
       arith,
       let c7 = c.before.before.before.before.before.before.before in
           let c9 = c7.before.before in
-          along-fits c9.before.before.loop.invariant c9.before.loop-test.true c9.if1.false
+          along_fits c9.before.before.loop.invariant c9.before.loop-test.true c9.if1.false
           c7.before.name-at.ensures.0 c7.if2.false c.before.before.before.pass.ensures
           c.before.before.if5.false,
     )
@@ -454,7 +454,7 @@ survey-entries-loop-again-2 : (t : ℕ) →
 survey-entries-loop-again-2 t c =
     let c3 = c.before.before.before in
     let c8 = c3.before.before.before.before.before in
-    along-before c8.before.before.before.before.loop.invariant
+    along_before c8.before.before.before.before.loop.invariant
     c8.before.before.before.loop-test.true c8.before.before.if1.false
     c8.before.name-at.ensures.0 c8.if2.false c3.before.pass.ensures c3.if5.false
     c.if6.true c.before.before.max3.ensures c.before.max4.ensures refl
@@ -473,7 +473,7 @@ survey-entries-loop-again-3 t c =
     let c3 = c.before.before.before in
     let c7 = c3.before.before.before.before in
     let c9 = c7.before.before in
-    along-behind c9.before.before.before.loop.invariant c9.before.before.loop-test.true
+    along_behind c9.before.before.before.loop.invariant c9.before.before.loop-test.true
     c9.before.if1.false c9.name-at.ensures.0 c7.before.if2.false
     c3.before.pass.ensures c3.if5.false (omega (arith, c.if6.false, c7.if3.false))
     c.before.before.max3.ensures c.before.max4.ensures

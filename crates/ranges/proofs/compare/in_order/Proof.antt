@@ -5,8 +5,8 @@ use Rattle.ranges.proofs.compare.in_order.Statement.{statement}
 use Rattle.ranges.proofs.compare.in_order.Tie as tie
 use native.Mathlib.Omega.{arith}
 use Rattle.ranges.proofs.Numbers.{coefficient_inside}
-use Rattle.ranges.proofs.Ends.{number_start, low_sorted, past_numbers, start_inside, start_three, end-three, start-off, null-near, null-inside, null_null, null-other, end-near}
-use Rattle.ranges.proofs.Ends.{end-inside, end-null, no_number, numbers-there, numbers-done, end-other, texts-inside, texts-done, keys-inside, keys-done}
+use Rattle.ranges.proofs.Ends.{number_start, low_sorted, past_numbers, start_inside, start_three, end_three, start_off, null_near, null_inside, null_null, null_other, end_near}
+use Rattle.ranges.proofs.Ends.{end_inside, end_null, no_number, numbers-there, numbers-done, end_other, texts-inside, texts-done, keys-inside, keys-done}
 
 -- at `let i = v[1];`
 shared-slice-read-i : tie.Need-shared-slice-read-i
@@ -22,7 +22,7 @@ returns c = start_three c.before.before.before.before.pre c.if1.taken
 
 -- at `return false;`
 returns-2 : tie.Need-returns-2
-returns-2 c = end-three c.before.before.before.before.before.pre c.before.if1.left c.if2.taken
+returns-2 c = end_three c.before.before.before.before.before.pre c.before.if1.left c.if2.taken
 
 -- at `let c = v[3];`
 shared-slice-read-c : tie.Need-shared-slice-read-c
@@ -38,14 +38,14 @@ add-e c =
     omega (
       arith,
       let c3 = c.before.before.before in
-          null-near c3.before.before.before.before.before.pre c3.before.if1.left c3.if2.left c.before.match.keys1 c.width.ensures,
+          null_near c3.before.before.before.before.before.pre c3.before.if1.left c3.if2.left c.before.match.keys1 c.width.ensures,
     )
 
 -- at `if v[e] == commands::NULL {`
 shared-slice-read-if3 : tie.Need-shared-slice-read-if3
 shared-slice-read-if3 c =
     let c4 = c.before.before.before.before in
-    null-inside c4.before.before.before.before.before.pre c4.before.if1.left c4.if2.left c.before.before.match.keys1
+    null_inside c4.before.before.before.before.before.pre c4.before.if1.left c4.if2.left c.before.before.match.keys1
     c.before.width.ensures
 
 -- at `return false;`
@@ -65,7 +65,7 @@ add-e-2 c =
     omega (
       arith,
       let c3 = c.before.before.before in
-          end-near c3.before.before.before.before.before.pre c3.before.if1.left c3.if2.left (number_start c.before.match.keys2)
+          end_near c3.before.before.before.before.before.pre c3.before.if1.left c3.if2.left (number_start c.before.match.keys2)
           c.width2.ensures,
     )
 
@@ -73,14 +73,14 @@ add-e-2 c =
 shared-slice-read-d : tie.Need-shared-slice-read-d
 shared-slice-read-d c =
     let c4 = c.before.before.before.before in
-    end-inside c4.before.before.before.before.before.pre c4.before.if1.left c4.if2.left (number_start c.before.before.match.keys2)
+    end_inside c4.before.before.before.before.before.pre c4.before.if1.left c4.if2.left (number_start c.before.before.match.keys2)
     c.before.width2.ensures
 
 -- at `return j < 2;`
 returns-4 : tie.Need-returns-4
 returns-4 c =
     let c5 = c.before.before.before.before.before in
-    end-null c5.before.before.before.before.before.pre c5.before.if1.left c5.if2.left
+    end_null c5.before.before.before.before.before.pre c5.before.if1.left c5.if2.left
     (number_start c.before.before.before.match.keys2) c.before.before.width2.ensures c.if4.taken
 
 -- at `if commands::leaf_type(d) != commands::NUMBER_TYPE {`
@@ -119,7 +119,7 @@ add-key-at c =
       arith,
       let c6 = c.before.before.before.before.before.before in
           let c9 = c6.before.before.before in
-          end-near c9.before.before.before.before.before.pre c9.before.if1.left c9.if2.left (number_start c6.before.match.keys2)
+          end_near c9.before.before.before.before.before.pre c9.before.if1.left c9.if2.left (number_start c6.before.match.keys2)
           c6.width2.ensures,
     )
 
@@ -155,7 +155,7 @@ add-e-3 c =
     omega (
       arith,
       let c5 = c.before.before.before.before.before in
-          end-near c5.before.before.before.before.before.pre c5.before.if1.left c5.if2.left
+          end_near c5.before.before.before.before.before.pre c5.before.if1.left c5.if2.left
           (low_sorted c.before.before.if6.left c.before.if7.taken) c.width3.ensures,
     )
 
@@ -163,7 +163,7 @@ add-e-3 c =
 shared-slice-read-d-2 : tie.Need-shared-slice-read-d-2
 shared-slice-read-d-2 c =
     let c6 = c.before.before.before.before.before.before in
-    end-inside c6.before.before.before.before.before.pre c6.before.if1.left c6.if2.left
+    end_inside c6.before.before.before.before.before.pre c6.before.if1.left c6.if2.left
     (low_sorted c.before.before.before.if6.left c.before.before.if7.taken) c.before.width3.ensures
 
 -- at `return j < 2;`
@@ -171,7 +171,7 @@ returns-6 : tie.Need-returns-6
 returns-6 c =
     let c3 = c.before.before.before in
     let c7 = c3.before.before.before.before in
-    end-null c7.before.before.before.before.before.pre c7.before.if1.left c7.if2.left
+    end_null c7.before.before.before.before.before.pre c7.before.if1.left c7.if2.left
     (low_sorted c3.before.if6.left c3.if7.taken) c.before.before.width3.ensures c.if8.taken
 
 -- at `return false;`
@@ -180,7 +180,7 @@ returns-7 c =
     let c3 = c.before.before.before in
     let c5 = c3.before.before in
     let c8 = c5.before.before.before in
-    end-other c8.before.before.before.before.before.pre c8.before.if1.left c8.if2.left
+    end_other c8.before.before.before.before.before.pre c8.before.if1.left c8.if2.left
     (past_numbers c5.before.match.rest.1 c5.if6.left) c3.before.if7.taken c3.width3.ensures c.before.if8.left c.if9.taken
 
 -- at `return form::bytes::name_at(v, 4) <= form::bytes::name_at(v, e + 1);`
@@ -200,7 +200,7 @@ add-name-at c =
       arith,
       let c5 = c.before.before.before.before.before in
           let c10 = c5.before.before.before.before.before in
-          end-near c10.before.before.before.before.before.pre c10.before.if1.left c10.if2.left
+          end_near c10.before.before.before.before.before.pre c10.before.if1.left c10.if2.left
           (low_sorted c5.before.before.if6.left c5.before.if7.taken) c5.width3.ensures,
     )
 
@@ -241,7 +241,7 @@ add-key-at-2 c =
       arith,
       let c5 = c.before.before.before.before.before in
           let c10 = c5.before.before.before.before.before in
-          end-near c10.before.before.before.before.before.pre c10.before.if1.left c10.if2.left
+          end_near c10.before.before.before.before.before.pre c10.before.if1.left c10.if2.left
           (low_sorted c5.before.before.if6.left c5.before.if7.taken) c5.width3.ensures,
     )
 
@@ -263,7 +263,7 @@ signed-le-requires c κs = search rules
 returns-9 : tie.Need-returns-9
 returns-9 c =
     let c5 = c.before.before.before.before.before in
-    null-other c5.before.before.before.before.before.pre c5.before.if1.left c5.if2.left c.before.before.before.match.keys1
+    null_other c5.before.before.before.before.before.pre c5.before.if1.left c5.if2.left c.before.before.before.match.keys1
     c.before.before.width.ensures c.if3.left
 
 -- at the end
@@ -292,7 +292,7 @@ returns-11 c =
 returns-12 : tie.Need-returns-12
 returns-12 c =
     let c3 = c.before.before.before in
-    start-off c3.before.before.before.before.before.pre c3.before.if1.left c3.if2.left c.before.match.rest.0.1
+    start_off c3.before.before.before.before.before.pre c3.before.if1.left c3.if2.left c.before.match.rest.0.1
     c.before.match.rest.1
     (λ t. absurd (omega (arith, c.if6.taken)))
 
@@ -300,7 +300,7 @@ returns-12 c =
 returns-13 : tie.Need-returns-13
 returns-13 c =
     let c4 = c.before.before.before.before in
-    start-off c4.before.before.before.before.before.pre c4.before.if1.left c4.if2.left c.before.before.match.rest.0.1
+    start_off c4.before.before.before.before.before.pre c4.before.if1.left c4.if2.left c.before.before.match.rest.0.1
     c.before.before.match.rest.1
     (λ t. c.if7.left)
 

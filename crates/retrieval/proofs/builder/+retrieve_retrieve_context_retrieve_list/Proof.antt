@@ -31,12 +31,12 @@ use lib.ListN.{length}
 use lib.Seq.{length-take-le}
 use Rattle.form.proofs.Whole.{bytes_of}
 use Rattle.output.proofs.FillLaws.{length_fill}
-use Rattle.retrieval.proofs.ItemsLoop.{Lists, lists, ListInv, list_begins, list_kept, type_ok, item_ok, item_no, item_read, item-wrote, item-next, list_done, list_none, list_type_lem}
+use Rattle.retrieval.proofs.ItemsLoop.{Lists, lists, ListInv, list_begins, list_kept, type_ok, item_ok, item_no, item_read, item_wrote, item_next, list_done, list_none, list_type_lem}
 use Rattle.retrieval.proofs.ItemsLoop as listing
-use Rattle.retrieval.proofs.EntriesLoop.{Contexts, contexts, ContextInv, context_begins, context_kept, peek_v, peek_t, more-v, name-v, skip-v, passed-v, more-t, name-t, skip-t}
-use Rattle.retrieval.proofs.EntriesLoop.{passed-t, both-v, both-t, common-v, common-t, common-to, common-ok-v, common-ok-t, back-kept, common-no, both-read-v, both-read-t, both-wrote}
+use Rattle.retrieval.proofs.EntriesLoop.{Contexts, contexts, ContextInv, context_begins, context_kept, peek_v, peek_t, more_v, name_v, skip_v, passed_v, more_t, name_t, skip_t}
+use Rattle.retrieval.proofs.EntriesLoop.{passed_t, both_v, both_t, common_v, common_t, common_to, common_ok_v, common_ok_t, back_kept, common-no, both-read-v, both-read-t, both-wrote}
 use Rattle.retrieval.proofs.EntriesLoop.{common-next, context_done}
-use Rattle.retrieval.proofs.ByCommand.{first_v, first_t, null_done, list_refused, context_refused, kind-refused, copy-fits, kind-copied}
+use Rattle.retrieval.proofs.ByCommand.{first_v, first_t, null_done, list_refused, context_refused, kind_refused, copy_fits, kind_copied}
 
 abbrev μ-retrieve : Measures 3 retrieve-kinds.ps ℕ
 μ-retrieve κs a = 2 * a.1.1.1.0 + 1
@@ -237,7 +237,7 @@ retrieve-slice-aggregate-fill-2 t c =
           let c10 = c4.before.before.before.before.before.before in
           let c12 = c10.before.before in
           length-take-le _ c12.args.v.now
-          (copy-fits c12.args.left c12.args.t.now c12.args.v.now c12.requires.1.0 c12.requires.1.1 c4.before.before.if1.false
+          (copy_fits c12.args.left c12.args.t.now c12.args.v.now c12.requires.1.0 c12.requires.1.1 c4.before.before.if1.false
           c4.before.if2.false c4.if4.false _ c.before.before.before.outer-kind.ensures
           (bytes_of c12.args.v.now c10.shared-slice-known2.given) _ c.before.skip2.ensures),
     )
@@ -257,7 +257,7 @@ retrieve-returns-6 t c =
     let c9 = c6.before.before.before in
     let c15 = c9.before.before.before.before.before.before in
     let c17 = c15.before.before in
-    kind-copied c17.args.left c17.args.t.now c17.args.v.now c17.requires.1.0 c17.requires.1.1 c9.before.before.if1.false
+    kind_copied c17.args.left c17.args.t.now c17.args.v.now c17.requires.1.0 c17.requires.1.1 c9.before.before.if1.false
     c9.before.if2.false c9.if4.false _ c6.before.before.outer-kind.ensures (bytes_of c17.args.v.now c15.shared-slice-known2.given) _
     c6.skip2.ensures c6.before.if6.true _ c.skip3.ensures _ _ c.before.before.before.fill2.ensures
 
@@ -265,7 +265,7 @@ retrieve-returns-7 : (t : ℕ) → retrieve-lts.Need-returns-7 (retrieve-claims 
 retrieve-returns-7 t c =
     let c3 = c.before.before.before in
     let c10 = c3.before.before.before.before.before.before.before in
-    kind-refused c10.args.left c10.args.t.now c10.args.v.now c10.requires.1.0 c10.requires.1.1 c3.before.if1.false c3.if2.false
+    kind_refused c10.args.left c10.args.t.now c10.args.v.now c10.requires.1.0 c10.requires.1.1 c3.before.if1.false c3.if2.false
     c.before.before.if4.false _ c.before.outer-kind.ensures c.if6.false _
 
 retrieve-context-word-at-requires : (t : ℕ) →
@@ -324,7 +324,7 @@ retrieve-context-sub-skip t c =
     omega (
       arith,
       let c2 = c.before.before in
-          name-v c2.before.loop.invariant c2.next-name.result c.before.next-name2.result c2.next-name.ensures.0 c.before.next-name2.ensures.0
+          name_v c2.before.loop.invariant c2.next-name.result c.before.next-name2.result c2.next-name.ensures.0 c.before.next-name2.ensures.0
           c2.next-name.ensures.1.0 c.before.next-name2.ensures.1.0 c.if1.true,
     )
 
@@ -335,7 +335,7 @@ retrieve-context-part-skip-start t c =
     omega (
       arith,
       let c2 = c.before.before in
-          name-v c2.before.loop.invariant c2.next-name.result c.before.next-name2.result c2.next-name.ensures.0 c.before.next-name2.ensures.0
+          name_v c2.before.loop.invariant c2.next-name.result c.before.next-name2.result c2.next-name.ensures.0 c.before.next-name2.ensures.0
           c2.next-name.ensures.1.0 c.before.next-name2.ensures.1.0 c.if1.true,
     )
 
@@ -362,7 +362,7 @@ retrieve-context-add-at t c =
     omega (
       arith,
       c3.before.before.before.before.before.before.before.before.before.before.before.before.before.well-formed,
-      skip-v c3.before.before.loop.invariant c3.before.next-name.result c3.next-name2.result c3.before.next-name.ensures.0
+      skip_v c3.before.before.loop.invariant c3.before.next-name.result c3.next-name2.result c3.before.next-name.ensures.0
           c3.next-name2.ensures.0 c3.before.next-name.ensures.1.0 c3.next-name2.ensures.1.0 c.before.before.if1.true _
           c.skip.ensures,
     )
@@ -379,7 +379,7 @@ retrieve-context-loop-less t c =
     omega (
       arith,
       let c3 = c.before.before.before in
-          more-v c3.before.before.loop.invariant c3.before.next-name.result c3.next-name2.result c3.before.next-name.ensures.0
+          more_v c3.before.before.loop.invariant c3.before.next-name.result c3.next-name2.result c3.before.next-name.ensures.0
           c3.next-name2.ensures.0 c3.before.next-name.ensures.1.0 c3.next-name2.ensures.1.0 c.before.before.if1.true,
     )
 
@@ -388,7 +388,7 @@ retrieve-context-loop-again : (t : ℕ) →
     retrieve-context-μ-loop
 retrieve-context-loop-again t c =
     let c3 = c.before.before.before in
-    passed-v c3.before.before.loop.invariant c3.before.next-name.result c3.next-name2.result c3.before.next-name.ensures.0
+    passed_v c3.before.before.loop.invariant c3.before.next-name.result c3.next-name2.result c3.before.next-name.ensures.0
     c3.next-name2.ensures.0 c3.before.next-name.ensures.1.0 c3.next-name2.ensures.1.0 c.before.before.if1.true _
     c.skip.ensures
 
@@ -404,7 +404,7 @@ retrieve-context-sub-skip-3 t c =
     omega (
       arith,
       let c2 = c.before.before in
-          name-t c2.before.before.loop.invariant c2.before.next-name.result c2.next-name2.result c2.before.next-name.ensures.0
+          name_t c2.before.before.loop.invariant c2.before.next-name.result c2.next-name2.result c2.before.next-name.ensures.0
           c2.next-name2.ensures.0 c2.before.next-name.ensures.1.0 c2.next-name2.ensures.1.0 c.if2.true,
     )
 
@@ -415,7 +415,7 @@ retrieve-context-part-skip-start-2 t c =
     omega (
       arith,
       let c2 = c.before.before in
-          name-t c2.before.before.loop.invariant c2.before.next-name.result c2.next-name2.result c2.before.next-name.ensures.0
+          name_t c2.before.before.loop.invariant c2.before.next-name.result c2.next-name2.result c2.before.next-name.ensures.0
           c2.next-name2.ensures.0 c2.before.next-name.ensures.1.0 c2.next-name2.ensures.1.0 c.if2.true,
     )
 
@@ -442,7 +442,7 @@ retrieve-context-add-bt t c =
     omega (
       arith,
       c4.before.before.before.before.before.before.before.before.before.before.before.before.before.well-formed,
-      skip-t c4.before.before.loop.invariant c4.before.next-name.result c4.next-name2.result c4.before.next-name.ensures.0
+      skip_t c4.before.before.loop.invariant c4.before.next-name.result c4.next-name2.result c4.before.next-name.ensures.0
           c4.next-name2.ensures.0 c4.before.next-name.ensures.1.0 c4.next-name2.ensures.1.0 c.before.before.if2.true _
           c.skip2.ensures,
     )
@@ -459,7 +459,7 @@ retrieve-context-loop-less-2 t c =
     omega (
       arith,
       let c4 = c.before.before.before.before in
-          more-t c4.before.before.loop.invariant c4.before.next-name.result c4.next-name2.result c4.before.next-name.ensures.0
+          more_t c4.before.before.loop.invariant c4.before.next-name.result c4.next-name2.result c4.before.next-name.ensures.0
           c4.next-name2.ensures.0 c4.before.next-name.ensures.1.0 c4.next-name2.ensures.1.0 c.before.before.if2.true,
     )
 
@@ -468,7 +468,7 @@ retrieve-context-loop-again-2 : (t : ℕ) →
     retrieve-context-μ-loop
 retrieve-context-loop-again-2 t c =
     let c4 = c.before.before.before.before in
-    passed-t c4.before.before.loop.invariant c4.before.next-name.result c4.next-name2.result c4.before.next-name.ensures.0
+    passed_t c4.before.before.loop.invariant c4.before.next-name.result c4.next-name2.result c4.before.next-name.ensures.0
     c4.next-name2.ensures.0 c4.before.next-name.ensures.1.0 c4.next-name2.ensures.1.0 c.before.before.if2.true _
     c.skip2.ensures
 
@@ -504,7 +504,7 @@ retrieve-context-part-fill-end t c =
     omega (
       arith,
       let c4 = c.before.before.before.before in
-          common-v c4.before.before.loop.invariant c4.before.next-name.result c4.next-name2.result c4.before.next-name.ensures.0
+          common_v c4.before.before.loop.invariant c4.before.next-name.result c4.next-name2.result c4.before.next-name.ensures.0
           c4.next-name2.ensures.0 c4.before.next-name.ensures.1.0 c4.next-name2.ensures.1.0 c.before.before.before.if1.false
           c.before.before.if2.false c.before.if3.false,
     )
@@ -548,7 +548,7 @@ retrieve-context-sub-retrieve t c =
       let c7 = c.before.before.before.before.before.before.before in
           let c8 = c7.before in
           let c10 = c8.before.before in
-          common-t c10.before.before.loop.invariant c10.before.next-name.result c10.next-name2.result c10.before.next-name.ensures.0
+          common_t c10.before.before.loop.invariant c10.before.next-name.result c10.next-name2.result c10.before.next-name.ensures.0
           c10.next-name2.ensures.0 c10.before.next-name.ensures.1.0 c10.next-name2.ensures.1.0 c8.before.if1.false c8.if2.false
           c7.if3.false,
     )
@@ -562,7 +562,7 @@ retrieve-context-part-retrieve-start t c =
       let c7 = c.before.before.before.before.before.before.before in
           let c8 = c7.before in
           let c10 = c8.before.before in
-          common-t c10.before.before.loop.invariant c10.before.next-name.result c10.next-name2.result c10.before.next-name.ensures.0
+          common_t c10.before.before.loop.invariant c10.before.next-name.result c10.next-name2.result c10.before.next-name.ensures.0
           c10.next-name2.ensures.0 c10.before.next-name.ensures.1.0 c10.next-name2.ensures.1.0 c8.before.if1.false c8.if2.false
           c7.if3.false,
     )
@@ -581,7 +581,7 @@ retrieve-context-sub-retrieve-2 t c =
       let c8 = c.before.before.before.before.before.before.before.before in
           let c9 = c8.before in
           let c11 = c9.before.before in
-          common-v c11.before.before.loop.invariant c11.before.next-name.result c11.next-name2.result c11.before.next-name.ensures.0
+          common_v c11.before.before.loop.invariant c11.before.next-name.result c11.next-name2.result c11.before.next-name.ensures.0
           c11.next-name2.ensures.0 c11.before.next-name.ensures.1.0 c11.next-name2.ensures.1.0 c9.before.if1.false c9.if2.false
           c8.if3.false,
     )
@@ -595,7 +595,7 @@ retrieve-context-part-retrieve-start-2 t c =
       let c8 = c.before.before.before.before.before.before.before.before in
           let c9 = c8.before in
           let c11 = c9.before.before in
-          common-v c11.before.before.loop.invariant c11.before.next-name.result c11.next-name2.result c11.before.next-name.ensures.0
+          common_v c11.before.before.loop.invariant c11.before.next-name.result c11.next-name2.result c11.before.next-name.ensures.0
           c11.next-name2.ensures.0 c11.before.next-name.ensures.1.0 c11.next-name2.ensures.1.0 c9.before.if1.false c9.if2.false
           c8.if3.false,
     )
@@ -635,9 +635,9 @@ retrieve-context-retrieve-requires t c κs =
     let next-name = c13.before.next-name in (
       omega (arith, c26.requires.0, (context-here t c26).level),
       (
-        common-ok-t c13.before.before.loop.invariant next-name.result c13.next-name2.result next-name.ensures.0 c13.next-name2.ensures.0
+        common_ok_t c13.before.before.loop.invariant next-name.result c13.next-name2.result next-name.ensures.0 c13.next-name2.ensures.0
             next-name.ensures.1.0 c13.next-name2.ensures.1.0 c10.before.before.if1.false c10.before.if2.false c10.if3.false,
-        common-ok-v c13.before.before.loop.invariant next-name.result c13.next-name2.result next-name.ensures.0 c13.next-name2.ensures.0
+        common_ok_v c13.before.before.loop.invariant next-name.result c13.next-name2.result next-name.ensures.0 c13.next-name2.ensures.0
             next-name.ensures.1.0 c13.next-name2.ensures.1.0 c10.before.before.if1.false c10.before.if2.false c10.if3.false,
       ),
     )
@@ -692,7 +692,7 @@ retrieve-context-add-to t c =
     omega (
       arith,
       c19.before.before.before.before.before.before.before.before.before.before.before.before.before.well-formed,
-      common-to c19.before.before.loop.invariant c19.before.next-name.result c19.next-name2.result c19.before.next-name.ensures.0
+      common_to c19.before.before.loop.invariant c19.before.next-name.result c19.next-name2.result c19.before.next-name.ensures.0
           c19.next-name2.ensures.0 c19.before.next-name.ensures.1.0 c19.next-name2.ensures.1.0 c16.before.before.if1.false
           c16.before.if2.false c16.if3.false,
     )
@@ -730,7 +730,7 @@ retrieve-context-same-length t c =
     let c18 = c14.before.before.before.before in
     let c23 = c18.before.before.before.before.before in
     let c29 = c23.before.before.before.before.before.before in
-    back-kept c18.before.before.loop.invariant c18.before.next-name.result c18.next-name2.result c18.before.next-name.ensures.0
+    back_kept c18.before.before.loop.invariant c18.before.next-name.result c18.next-name2.result c18.before.next-name.ensures.0
     c18.next-name2.ensures.0 c18.before.next-name.ensures.1.0 c18.next-name2.ensures.1.0 c14.before.before.before.if1.false
     c14.before.before.if2.false c14.before.if3.false (bytes_of c29.before.before.args.v.now c29.shared-slice-known2.given) _
     c14.min.ensures _ c11.fill2.ensures _ _ _ c4.retrieve.ensures ∙ ap length c23.fill.ensures ∙ length_fill _ _
@@ -763,7 +763,7 @@ retrieve-context-add-j-2 t c =
     let c19 = c16.before.before.before in
     omega (
       arith,
-      both-t c19.before.before.loop.invariant c19.before.next-name.result c19.next-name2.result c19.before.next-name.ensures.0
+      both_t c19.before.before.loop.invariant c19.before.next-name.result c19.next-name2.result c19.before.next-name.ensures.0
           c19.next-name2.ensures.0 c19.before.next-name.ensures.1.0 c19.next-name2.ensures.1.0 c16.before.before.if1.false
           c16.before.if2.false c16.if3.false,
       c19.before.before.before.before.before.before.before.before.before.word_at.ensures.1,
@@ -783,9 +783,9 @@ retrieve-context-loop-less-3 t c =
     let next-name = c19.before.next-name in
     omega (
       arith,
-      both-v c19.before.before.loop.invariant next-name.result c19.next-name2.result next-name.ensures.0 c19.next-name2.ensures.0
+      both_v c19.before.before.loop.invariant next-name.result c19.next-name2.result next-name.ensures.0 c19.next-name2.ensures.0
           next-name.ensures.1.0 c19.next-name2.ensures.1.0 c16.before.before.if1.false c16.before.if2.false c16.if3.false,
-      both-t c19.before.before.loop.invariant next-name.result c19.next-name2.result next-name.ensures.0 c19.next-name2.ensures.0
+      both_t c19.before.before.loop.invariant next-name.result c19.next-name2.result next-name.ensures.0 c19.next-name2.ensures.0
           next-name.ensures.1.0 c19.next-name2.ensures.1.0 c16.before.before.if1.false c16.before.if2.false c16.if3.false,
     )
 
@@ -950,7 +950,7 @@ retrieve-list-add-to t c =
     omega (
       arith,
       c10.before.before.before.before.before.before.before.before.before.before.before.well-formed,
-      item-wrote c10.before.loop.invariant c10.loop-test.true _ _ _ c5.retrieve.ensures _ _ _ c.before.y.given.1,
+      item_wrote c10.before.loop.invariant c10.loop-test.true _ _ _ c5.retrieve.ensures _ _ _ c.before.y.given.1,
     )
 
 retrieve-list-enum-told : (t : ℕ) →
@@ -985,7 +985,7 @@ retrieve-list-loop-again : (t : ℕ) →
 retrieve-list-loop-again t c =
     let c5 = c.before.before.before.before.before in
     let c9 = c5.before.before.before.before in
-    item-next c9.before.before.loop.invariant c9.before.loop-test.true _ _ _ c5.retrieve.ensures _ _ _ c.before.y.given.1
+    item_next c9.before.before.loop.invariant c9.before.loop-test.true _ _ _ c5.retrieve.ensures _ _ _ c.before.y.given.1
     c9.min.ensures
 
 retrieve-list-skip-requires : (t : ℕ) →

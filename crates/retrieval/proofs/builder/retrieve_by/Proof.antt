@@ -5,7 +5,7 @@ use Rattle.retrieval.proofs.builder.retrieve_by.Statement.{statement}
 use Rattle.retrieval.proofs.builder.retrieve_by.Tie as tie
 use native.Mathlib.Omega.{arith}
 use lib.ListN.{length-take}
-use Rattle.retrieval.proofs.CallContracts.{call-err, call_room, call_done, type_ok, value_ok}
+use Rattle.retrieval.proofs.CallContracts.{call_err, call_room, call_done, type_ok, value_ok}
 
 pub retrieve-by-spec : {M : Type 1} → statement M
 retrieve-by-spec =
@@ -35,7 +35,7 @@ retrieve-by-spec =
     (λ c.
     let c4 = c.before.before.before.before in
     let c10 = c4.before.before.before.before.before.before in
-    call-err c10.args.t.now c10.args.v.now c10.requires.0 c10.args.out.now _ _ _ c4.retrieve.ensures c.enum_told.given.1)
+    call_err c10.args.t.now c10.args.v.now c10.requires.0 c10.args.out.now _ _ _ c4.retrieve.ensures c.enum_told.given.1)
     (λ c. search rules)
     (λ c. search rules)
     (λ c.

@@ -3,7 +3,7 @@
 use borrow.Author.Rules.{rules}
 use Rattle.tables.proofs.load.carries.Statement.{statement}
 use Rattle.tables.proofs.load.carries.Tie as tie
-use Rattle.tables.proofs.CallContracts.{carries_own, carries_none, mutual-rows, carries-through}
+use Rattle.tables.proofs.CallContracts.{carries_own, carries_none, mutual_rows, carries_through}
 
 pub carries-spec : {M : Type 1} → statement M
 carries-spec =
@@ -21,8 +21,8 @@ carries-spec =
     (λ c. search rules)
     (λ c.
     let c4 = c.before.before.before.before in
-    mutual-rows c4.before.args.rows.now c4.before.args.i c4.before.args.j c4.if1.false c.before.before.if2.false c.if3.true)
+    mutual_rows c4.before.args.rows.now c4.before.args.i c4.before.args.j c4.if1.false c.before.before.if2.false c.if3.true)
     (λ c.
     let c4 = c.before.before.before.before in
-    carries-through c4.before.args.rows.now c4.before.args.i c4.before.args.j c4.if1.false c.before.before.if2.false
+    carries_through c4.before.args.rows.now c4.before.args.i c4.before.args.j c4.if1.false c.before.before.if2.false
     c.if3.false))

@@ -5,7 +5,7 @@ use Rattle.tables.proofs.load.is_ordered_at.Tie as tie
 use borrow.Author.Tests.{not-true, not-false}
 use mathlib.Core.Path.{sym, ◌∙◌}
 use Rattle.tables.proofs.Loops.{Checking, checking_start, checking_fails, checking_next, checking_end}
-use Rattle.tables.proofs.CallContracts.{order_own, order-null, order-any, order-rest}
+use Rattle.tables.proofs.CallContracts.{order_own, order_null, order_any, order_rest}
 use Prim.Native.Nat.{◌-◌}
 use Rattle.tables.specs.Rows.{carries_at, all_from}
 use borrow.Author.Rules.{rules}
@@ -29,10 +29,10 @@ is-ordered-at-spec =
     (λ c. search rules)
     (λ c.
     let args = c.before.before.before.before.before.args in
-    order-null args.rows.now args.i c.before.before.if1.false c.if2.true)
+    order_null args.rows.now args.i c.before.before.if1.false c.if2.true)
     (λ c.
     let args = c.before.before.before.before.before.before.args in
-    order-any args.rows.now args.i c.before.before.before.if1.false c.before.if2.false c.if3.true)
+    order_any args.rows.now args.i c.before.before.before.if1.false c.before.if2.false c.if3.true)
     (λ c.
     let args = c.before.before.before.before.before.before.args in
     checking_start (carries_at args.rows.now args.i) 10)
@@ -41,7 +41,7 @@ is-ordered-at-spec =
     let c4 = c.before.before.before.before in
     let args = c4.before.before.before.before.before.before.args in
     checking_fails c.before.before.before.loop.invariant c.before.before.loop-test.true
-    (sym c.before.carries.ensures ∙ not-true _ c.if4.true) ∙ order-rest args.rows.now args.i c4.before.before.before.if1.false
+    (sym c.before.carries.ensures ∙ not-true _ c.if4.true) ∙ order_rest args.rows.now args.i c4.before.before.before.if1.false
     c4.before.if2.false c4.if3.false)
     (λ c. search rules)
     (λ c. omega (arith, c.before.before.loop-test.true))
@@ -50,5 +50,5 @@ is-ordered-at-spec =
     (sym c.before.carries.ensures ∙ not-false _ c.if4.false))
     (λ c.
     let c5 = c.before.before.before.before.before in
-    checking_end c.before.loop.invariant c.loop-test.false ∙ order-rest c5.before.before.before.args.rows.now
+    checking_end c.before.loop.invariant c.loop-test.false ∙ order_rest c5.before.before.before.args.rows.now
     c5.before.before.before.args.i c5.if1.false c.before.before.before.if2.false c.before.before.if3.false))

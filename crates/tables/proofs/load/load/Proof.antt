@@ -1,11 +1,11 @@
--- `tables::load::load` meets its contract: the tests come in the sequence of the refusals; what they test of the rows is what document 02 asks (`ordered_rows_lem`, `joined-rows`).
+-- `tables::load::load` meets its contract: the tests come in the sequence of the refusals; what they test of the rows is what document 02 asks (`ordered_rows_lem`, `joined_rows_lem`).
 -- Assumes nothing.
 use borrow.Author.Rules.{rules}
 use Rattle.tables.proofs.load.load.Statement.{statement}
 use Rattle.tables.proofs.load.load.Tie as tie
 use borrow.Author.Tests.{not-true, not-false}
 use mathlib.Core.Path.{sym, ap, ◌∙◌}
-use Rattle.tables.proofs.CallContracts.{loads_refused_length, loads-refused-byte, loads-refused-order, loads-refused-join, loads-done, rows_are}
+use Rattle.tables.proofs.CallContracts.{loads_refused_length, loads_refused_byte, loads_refused_order, loads_refused_join, loads_done, rows_are}
 use Rattle.form.specs.Outcome.{done}
 use Rattle.order.specs.Table.{packed}
 use Rattle.tables.specs.Rows.{ordered_rows, joined_rows}
@@ -19,7 +19,7 @@ load_spec =
     (λ c κs. search rules)
     (λ c.
     let table = c.before.before.before.before.args.table in
-    loads-refused-byte table.now (packed table.now) c.before.before.if1.false
+    loads_refused_byte table.now (packed table.now) c.before.before.if1.false
     (sym c.before.are-flags.ensures ∙ not-true _ c.if2.true))
     (λ c κs. (c.before.before.if1.false, omega arith, (sym c.before.are-flags.ensures ∙ not-false _ c.if2.false)))
     (λ c κs. (c.before.before.before.if1.false, omega arith, (sym c.before.before.are-flags.ensures ∙ not-false _ c.before.if2.false)))
@@ -59,7 +59,7 @@ load_spec =
     let c10 = c8.before.before in
     let c12 = c10.before.before in
     let table-now = c12.before.before.before.before.before.args.table.now in
-    loads-refused-order table-now (packed table-now) c12.before.before.before.if1.false
+    loads_refused_order table-now (packed table-now) c12.before.before.before.if1.false
     (sym c12.before.before.are-flags.ensures ∙ not-false _ c12.before.if2.false)
     (sym
     (ap ordered_rows
@@ -84,7 +84,7 @@ load_spec =
     c9.before.row6.result c9.row7.result c8.row8.result c6.before.row9.result c6.row10.result c14.before.row.ensures
     c14.row2.ensures c12.before.row3.ensures c12.row4.ensures c9.before.before.row5.ensures c9.before.row6.ensures
     c9.row7.ensures c8.row8.ensures c6.before.row9.ensures c6.row10.ensures in
-    loads-refused-join table-now (packed table-now) c17.before.if1.false
+    loads_refused_join table-now (packed table-now) c17.before.if1.false
     (sym c17.are-flags.ensures ∙ not-false _ c14.before.before.if2.false)
     (sym (ap ordered_rows rows-are1) ∙ sym c3.before.is-ordered.ensures ∙ not-false _ c3.if3.false)
     (sym (ap joined_rows rows-are1) ∙ sym c.before.is-joined.ensures ∙ not-true _ c.if4.true))
@@ -103,7 +103,7 @@ load_spec =
     c9.before.before.row6.result c9.before.row7.result c9.row8.result c7.before.row9.result c7.row10.result c16.row.ensures
     c14.before.row2.ensures c14.row3.ensures c12.before.row4.ensures c12.row5.ensures c9.before.before.row6.ensures
     c9.before.row7.ensures c9.row8.ensures c7.before.row9.ensures c7.row10.ensures in
-    ap done c.pack.ensures ∙ loads-done table-now (packed table-now) c16.before.before.before.if1.false
+    ap done c.pack.ensures ∙ loads_done table-now (packed table-now) c16.before.before.before.if1.false
     (sym c16.before.before.are-flags.ensures ∙ not-false _ c16.before.if2.false)
     (sym (ap ordered_rows rows-are1) ∙ sym c4.before.is-ordered.ensures ∙ not-false _ c4.if3.false)
     (sym (ap joined_rows rows-are1) ∙ sym c.before.before.is-joined.ensures ∙ not-false _ c.before.if4.false)))

@@ -47,7 +47,7 @@ use Rattle.form.specs.Trees.{no_fields, field}
 use Rattle.order.specs.Ascending.{AscFields}
 use Rattle.types.proofs.Pairs.{pair, pair_in, sized_in}
 use Rattle.types.proofs.SortedNames.{readable_type, fields_run, NamesGo, names_start, cut_a, cut_b, falls_a, names_left, names_done}
-use Rattle.types.proofs.SortedNames.{names-missing, names-unread, names-skip, b-more, names_apart, names-common}
+use Rattle.types.proofs.SortedNames.{names_missing, names_unread, names_skip, b_more, names_apart, names_common}
 use Rattle.types.proofs.EntryTests.{fields_tests}
 use Rattle.types.proofs.TypeConformance.{simple_pair, behind_pair, sized_part, unsized_part, no_level, no_a, no_b, no_command_lem, beyond}
 use Rattle.types.proofs.TypeConformance.{no_context, no_function, no_other, no_counts, met_table, met_null, met_any, met_simple, met_list, met_range}
@@ -238,7 +238,7 @@ conform-fields-returns-4 : (t : ℕ) →
 conform-fields-returns-4 t c =
     let c4 = c.before.before.before.before in
     let c6 = c4.before.before in
-    names-missing c6.before.loop.invariant 3 _ c6.loop-test.true
+    names_missing c6.before.loop.invariant 3 _ c6.loop-test.true
     (omega (arith, c6.before.loop.invariant, c4.before.if1.false)) c4.name-at.result
     c.before.next-name.result c4.name-at.ensures.0 c.before.before.before.if2.false
     c4.name-at.ensures.1 c.before.next-name.ensures.0 c.if5.true
@@ -275,7 +275,7 @@ conform-fields-returns-5 t c =
     let c5 = c.before.before.before.before.before in
     let c8 = c5.before.before.before in
     let c11 = c8.before.before.before in
-    names-unread c11.loop.invariant 3 _ c8.before.before.loop-test.true
+    names_unread c11.loop.invariant 3 _ c8.before.before.loop-test.true
     (omega (arith, c11.loop.invariant, c8.before.if1.false)) c8.name-at.result c5.next-name.result
     c8.name-at.ensures.0 c5.before.before.if2.false c8.name-at.ensures.1
     c5.next-name.ensures.0
@@ -319,7 +319,7 @@ conform-fields-loop-again t c =
     let c5 = c.before.before.before.before.before in
     let c8 = c5.before.before.before in
     let c11 = c8.before.before.before in
-    names-skip c11.loop.invariant 3 0 c8.before.before.loop-test.true
+    names_skip c11.loop.invariant 3 0 c8.before.before.loop-test.true
     (omega (arith, c11.loop.invariant, c8.before.if1.false)) c8.name-at.result c5.next-name.result
     c8.name-at.ensures.0 c5.before.before.if2.false c8.name-at.ensures.1
     c5.next-name.ensures.0 c.before.before.before.if6.true c.before.skip.result
@@ -336,7 +336,7 @@ conform-fields-add-q t c =
     omega (
       arith,
       (there t c2.before
-          (b-more c7.before.loop.invariant 3 0 c7.loop-test.true
+          (b_more c7.before.loop.invariant 3 0 c7.loop-test.true
           (omega (arith, c7.before.loop.invariant, c5.before.if1.false)) c5.name-at.result
           c2.next-name.result c5.name-at.ensures.0 c2.before.before.if2.false
           c5.name-at.ensures.1 c2.next-name.ensures.0 c.if6.false c.before.if5.false)),
@@ -361,7 +361,7 @@ conform-fields-add-j t c =
     let c7 = c5.before.before in
     omega (
       arith,
-      (b-more c7.before.loop.invariant 3 0 c7.loop-test.true
+      (b_more c7.before.loop.invariant 3 0 c7.loop-test.true
           (omega (arith, c7.before.loop.invariant, c5.before.if1.false)) c5.name-at.result
           c2.next-name.result c5.name-at.ensures.0 c2.before.before.if2.false
           c5.name-at.ensures.1 c2.next-name.ensures.0 c.if6.false c.before.if5.false),
@@ -376,7 +376,7 @@ conform-fields-same-simple-requires t c κs =
     let loop-inv = c5.before.before.before.loop.invariant in (
       omega (arith, loop-inv, c5.before.if1.false),
       (there t c2.before
-          (b-more loop-inv 3 0 c5.before.before.loop-test.true
+          (b_more loop-inv 3 0 c5.before.before.loop-test.true
           (omega (arith, loop-inv, c5.before.if1.false)) c5.name-at.result c2.next-name.result
           c5.name-at.ensures.0 c2.before.before.if2.false c5.name-at.ensures.1
           c2.next-name.ensures.0 c.if6.false c.before.if5.false)),
@@ -397,7 +397,7 @@ conform-fields-add-at-2 t c =
           (loop.at + name_width) args.b.now (loop.bt + name_width) c.before.same-simple.result
           c.before.same-simple.result (omega (arith, loop.invariant, c7.before.if1.false))
           (there t c4.before
-          (b-more loop.invariant 3 0 c9.loop-test.true (omega (arith, loop.invariant, c7.before.if1.false))
+          (b_more loop.invariant 3 0 c9.loop-test.true (omega (arith, loop.invariant, c7.before.if1.false))
           c7.name-at.result c4.next-name.result c7.name-at.ensures.0 c4.before.before.if2.false
           c7.name-at.ensures.1 c4.next-name.ensures.0 c.before.before.if6.false
           c.before.before.before.if5.false))
@@ -420,7 +420,7 @@ conform-fields-add-bt t c =
           (loop.at + name_width) args.b.now (loop.bt + name_width) c.before.same-simple.result
           c.before.same-simple.result (omega (arith, loop.invariant, c7.before.if1.false))
           (there t c4.before
-          (b-more loop.invariant 3 0 c9.loop-test.true (omega (arith, loop.invariant, c7.before.if1.false))
+          (b_more loop.invariant 3 0 c9.loop-test.true (omega (arith, loop.invariant, c7.before.if1.false))
           c7.name-at.result c4.next-name.result c7.name-at.ensures.0 c4.before.before.if2.false
           c7.name-at.ensures.1 c4.next-name.ensures.0 c.before.before.if6.false
           c.before.before.before.if5.false))
@@ -444,12 +444,12 @@ conform-fields-loop-again-2 t c =
     let c9 = c7.before.before in
     let c10 = c9.before in
     let args = c10.before.before.before.args in
-    names-common c10.loop.invariant 3 0 c9.loop-test.true
+    names_common c10.loop.invariant 3 0 c9.loop-test.true
     (omega (arith, c10.loop.invariant, c7.before.if1.false)) c7.name-at.result c4.next-name.result
     c7.name-at.ensures.0 c6.if2.false c7.name-at.ensures.1 c4.next-name.ensures.0
     c2.if6.false c2.before.if5.false
     (there t c4.before
-    (b-more c10.loop.invariant 3 0 c9.loop-test.true
+    (b_more c10.loop.invariant 3 0 c9.loop-test.true
     (omega (arith, c10.loop.invariant, c7.before.if1.false)) c7.name-at.result c4.next-name.result
     c7.name-at.ensures.0 c6.if2.false c7.name-at.ensures.1 c4.next-name.ensures.0
     c2.if6.false c2.before.if5.false))
@@ -483,7 +483,7 @@ conform-fields-sub-conforms-2 t c =
     omega (
       arith,
       (there t c5.before
-          (b-more c8.before.before.before.loop.invariant 3 0 c8.before.before.loop-test.true
+          (b_more c8.before.before.before.loop.invariant 3 0 c8.before.before.loop-test.true
           (omega (arith, c8.before.before.before.loop.invariant, c8.before.if1.false)) c8.name-at.result
           c5.next-name.result c8.name-at.ensures.0 c5.before.before.if2.false
           c8.name-at.ensures.1 c5.next-name.ensures.0 c3.if6.false c3.before.if5.false)),
@@ -499,7 +499,7 @@ conform-fields-part-conforms-start-2 t c =
     omega (
       arith,
       (there t c5.before
-          (b-more c8.before.before.before.loop.invariant 3 0 c8.before.before.loop-test.true
+          (b_more c8.before.before.before.loop.invariant 3 0 c8.before.before.loop-test.true
           (omega (arith, c8.before.before.before.loop.invariant, c8.before.if1.false)) c8.name-at.result
           c5.next-name.result c8.name-at.ensures.0 c5.before.before.if2.false
           c8.name-at.ensures.1 c5.next-name.ensures.0 c3.if6.false c3.before.if5.false)),
@@ -545,7 +545,7 @@ conform-fields-add-at-3 t c =
           (loop.at + name_width) args.b.now (loop.bt + name_width) conforms.result
           conforms.new.1.1.1.0 (omega (arith, loop.invariant, c12.before.if1.false))
           (there t c9.before
-          (b-more loop.invariant 3 0 c12.before.before.loop-test.true
+          (b_more loop.invariant 3 0 c12.before.before.loop-test.true
           (omega (arith, loop.invariant, c12.before.if1.false)) c12.name-at.result c9.next-name.result
           c12.name-at.ensures.0 c9.before.before.if2.false c12.name-at.ensures.1
           c9.next-name.ensures.0 c7.if6.false c7.before.if5.false))
@@ -570,7 +570,7 @@ conform-fields-add-bt-2 t c =
           (loop.at + name_width) args.b.now (loop.bt + name_width) c2.conforms.result
           c2.conforms.new.1.1.1.0 (omega (arith, loop.invariant, c13.before.if1.false))
           (there t c10.before
-          (b-more loop.invariant 3 0 c13.before.before.loop-test.true
+          (b_more loop.invariant 3 0 c13.before.before.loop-test.true
           (omega (arith, loop.invariant, c13.before.if1.false)) c13.name-at.result c10.next-name.result
           c13.name-at.ensures.0 c10.before.before.if2.false c13.name-at.ensures.1
           c10.next-name.ensures.0 c8.if6.false c8.before.if5.false))
@@ -594,12 +594,12 @@ conform-fields-loop-again-3 t c =
     let c13 = c10.before.before.before in
     let c16 = c13.before.before.before in
     let args = c16.before.before.before.args in
-    names-common c16.loop.invariant 3 0 c13.before.before.loop-test.true
+    names_common c16.loop.invariant 3 0 c13.before.before.loop-test.true
     (omega (arith, c16.loop.invariant, c13.before.if1.false)) c13.name-at.result c10.next-name.result
     c13.name-at.ensures.0 c10.before.before.if2.false c13.name-at.ensures.1
     c10.next-name.ensures.0 c8.if6.false c8.before.if5.false
     (there t c10.before
-    (b-more c16.loop.invariant 3 0 c13.before.before.loop-test.true
+    (b_more c16.loop.invariant 3 0 c13.before.before.loop-test.true
     (omega (arith, c16.loop.invariant, c13.before.if1.false)) c13.name-at.result c10.next-name.result
     c13.name-at.ensures.0 c10.before.before.if2.false c13.name-at.ensures.1
     c10.next-name.ensures.0 c8.if6.false c8.before.if5.false))

@@ -17,7 +17,7 @@ use Rattle.form.specs.Trees.{no_fields, field}
 use Rattle.order.specs.Ascending.{AscFields}
 use Rattle.types.proofs.Pairs.{pair, pair_in, sized_in}
 use Rattle.types.proofs.SortedNames.{readable_type, fields_run, NamesGo, names_start, cut_a, cut_b, falls_a, names_left, names_done}
-use Rattle.types.proofs.SortedNames.{names-missing, names-unread, names-skip, b-more, names_apart, names-common}
+use Rattle.types.proofs.SortedNames.{names_missing, names_unread, names_skip, b_more, names_apart, names_common}
 use Rattle.types.proofs.EntryTests.{fields_tests}
 use Rattle.types.proofs.TypeConformance.{sized_part, unsized_part}
 
@@ -73,7 +73,7 @@ returns-4 : tie.Need-returns-4 invariant-loop decreases-loop
 returns-4 c =
     let c4 = c.before.before.before.before in
     let c6 = c4.before.before in
-    names-missing c6.before.loop.invariant 3 _ c6.loop-test.true
+    names_missing c6.before.loop.invariant 3 _ c6.loop-test.true
     (omega (arith, c6.before.loop.invariant, c4.before.if1.false)) c4.name-at.result
     c.before.next-name.result c4.name-at.ensures.0 c.before.before.before.if2.false
     c4.name-at.ensures.1 c.before.next-name.ensures.0 c.if5.true
@@ -98,7 +98,7 @@ returns-5 c =
     let c5 = c.before.before.before.before.before in
     let c8 = c5.before.before.before in
     let c11 = c8.before.before.before in
-    names-unread c11.loop.invariant 3 _ c8.before.before.loop-test.true
+    names_unread c11.loop.invariant 3 _ c8.before.before.loop-test.true
     (omega (arith, c11.loop.invariant, c8.before.if1.false)) c8.name-at.result c5.next-name.result
     c8.name-at.ensures.0 c5.before.before.if2.false c8.name-at.ensures.1
     c5.next-name.ensures.0
@@ -132,7 +132,7 @@ loop-again c =
     let c5 = c.before.before.before.before.before in
     let c8 = c5.before.before.before in
     let c11 = c8.before.before.before in
-    names-skip c11.loop.invariant 3 0 c8.before.before.loop-test.true
+    names_skip c11.loop.invariant 3 0 c8.before.before.loop-test.true
     (omega (arith, c11.loop.invariant, c8.before.if1.false)) c8.name-at.result c5.next-name.result
     c8.name-at.ensures.0 c5.before.before.if2.false c8.name-at.ensures.1
     c5.next-name.ensures.0 c.before.before.before.if6.true c.before.skip.result
@@ -147,7 +147,7 @@ add-q c =
     omega (
       arith,
       (there c2.before
-          (b-more c7.before.loop.invariant 3 0 c7.loop-test.true
+          (b_more c7.before.loop.invariant 3 0 c7.loop-test.true
           (omega (arith, c7.before.loop.invariant, c5.before.if1.false)) c5.name-at.result
           c2.next-name.result c5.name-at.ensures.0 c2.before.before.if2.false
           c5.name-at.ensures.1 c2.next-name.ensures.0 c.if6.false c.before.if5.false)),
@@ -170,7 +170,7 @@ sub-null-or-same-2 c =
     omega (
       arith,
       (there c3.before
-          (b-more c8.before.loop.invariant 3 0 c8.loop-test.true
+          (b_more c8.before.loop.invariant 3 0 c8.loop-test.true
           (omega (arith, c8.before.loop.invariant, c6.before.if1.false)) c6.name-at.result
           c3.next-name.result c6.name-at.ensures.0 c3.before.before.if2.false
           c6.name-at.ensures.1 c3.next-name.ensures.0 c.before.if6.false
@@ -185,7 +185,7 @@ part-null-or-same-start-2 c =
     omega (
       arith,
       (there c3.before
-          (b-more c8.before.loop.invariant 3 0 c8.loop-test.true
+          (b_more c8.before.loop.invariant 3 0 c8.loop-test.true
           (omega (arith, c8.before.loop.invariant, c6.before.if1.false)) c6.name-at.result
           c3.next-name.result c6.name-at.ensures.0 c3.before.before.if2.false
           c6.name-at.ensures.1 c3.next-name.ensures.0 c.before.if6.false
@@ -225,7 +225,7 @@ add-at-2 c =
           (loop.at + name_width) args.b.now (loop.bt + name_width) c.before.null-or-same.result
           c.before.null-or-same.new.1.1.1.0 (omega (arith, loop.invariant, c10.before.if1.false))
           (there c8
-          (b-more loop.invariant 3 0 c10.before.before.loop-test.true
+          (b_more loop.invariant 3 0 c10.before.before.loop-test.true
           (omega (arith, loop.invariant, c10.before.if1.false)) c10.name-at.result c6.before.next-name.result
           c10.name-at.ensures.0 c8.before.if2.false c10.name-at.ensures.1
           c6.before.next-name.ensures.0 c5.if6.false c6.if5.false))
@@ -248,7 +248,7 @@ add-bt c =
           (loop.at + name_width) args.b.now (loop.bt + name_width) c2.null-or-same.result
           c2.null-or-same.new.1.1.1.0 (omega (arith, loop.invariant, c11.before.if1.false))
           (there c8.before
-          (b-more loop.invariant 3 0 c11.before.before.loop-test.true
+          (b_more loop.invariant 3 0 c11.before.before.loop-test.true
           (omega (arith, loop.invariant, c11.before.if1.false)) c11.name-at.result c8.next-name.result
           c11.name-at.ensures.0 c8.before.before.if2.false c11.name-at.ensures.1
           c8.next-name.ensures.0 c6.if6.false c6.before.if5.false))
@@ -270,7 +270,7 @@ add-j c =
       let c6 = c.before.before.before.before.before.before in
           let c8 = c6.before.before in
           let c11 = c8.before.before.before in
-          b-more c11.before.before.before.loop.invariant 3 0 c11.before.before.loop-test.true
+          b_more c11.before.before.before.loop.invariant 3 0 c11.before.before.loop-test.true
           (omega (arith, c11.before.before.before.loop.invariant, c11.before.if1.false))
           c11.name-at.result c8.next-name.result c11.name-at.ensures.0 c8.before.before.if2.false
           c11.name-at.ensures.1 c8.next-name.ensures.0 c6.if6.false c6.before.if5.false,
@@ -287,12 +287,12 @@ loop-again-2 c =
     let c11 = c8.before.before.before in
     let c14 = c11.before.before.before in
     let args = c14.before.before.before.args in
-    names-common c14.loop.invariant 3 0 c11.before.before.loop-test.true
+    names_common c14.loop.invariant 3 0 c11.before.before.loop-test.true
     (omega (arith, c14.loop.invariant, c11.before.if1.false)) c11.name-at.result c8.next-name.result
     c11.name-at.ensures.0 c8.before.before.if2.false c11.name-at.ensures.1
     c8.next-name.ensures.0 c6.if6.false c6.before.if5.false
     (there c8.before
-    (b-more c14.loop.invariant 3 0 c11.before.before.loop-test.true
+    (b_more c14.loop.invariant 3 0 c11.before.before.loop-test.true
     (omega (arith, c14.loop.invariant, c11.before.if1.false)) c11.name-at.result c8.next-name.result
     c11.name-at.ensures.0 c8.before.before.if2.false c11.name-at.ensures.1
     c8.next-name.ensures.0 c6.if6.false c6.before.if5.false))

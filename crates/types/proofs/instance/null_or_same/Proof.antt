@@ -8,7 +8,7 @@ use mathlib.Core.Bool.{true≢false}
 use Rattle.form.proofs.Numbers.{take_length}
 use Rattle.form.proofs.Whole.{bytes_of}
 use Rattle.order.specs.Document.{null_or_same}
-use Rattle.types.proofs.Instances.{unread, within, byte_first, null_first, same-or-null, neither-same}
+use Rattle.types.proofs.Instances.{unread, within, byte_first, null_first, same_or_null, neither_same}
 
 skip-both-requires : tie.Need-skip-both-requires
 skip-both-requires c κs = search rules
@@ -63,7 +63,7 @@ returns-3 c =
     let c7 = c.before.before.before.before.before.before.before in
     let c8 = c7.before in
     let args = c8.before.before.before.before.args in
-    same-or-null args.left args.a.now args.b.now c8.skip_both.result
+    same_or_null args.left args.a.now args.b.now c8.skip_both.result
     c8.skip_both.new.1.1.1.0 c8.skip_both.ensures c7.if1.false
     (bytes_of args.a.now c8.before.before.before.shared-slice-known.given)
     (bytes_of args.b.now c8.before.before.shared-slice-known2.given)
@@ -74,7 +74,7 @@ returns-4 c =
     let c5 = c.before.before.before.before.before in
     let c8 = c5.before.before.before in
     let args = c8.before.before.before.before.args in
-    neither-same args.left args.a.now args.b.now c8.skip_both.result
+    neither_same args.left args.a.now args.b.now c8.skip_both.result
     c8.skip_both.new.1.1.1.0 c8.skip_both.ensures c5.before.before.if1.false
     (bytes_of args.a.now c8.before.before.before.shared-slice-known.given)
     (bytes_of args.b.now c8.before.before.shared-slice-known2.given) c5.if2.false

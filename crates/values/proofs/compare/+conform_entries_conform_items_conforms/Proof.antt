@@ -36,15 +36,15 @@ use Rattle.order.specs.Values as order
 use Rattle.order.proofs.Ends.{reading_ends}
 use Rattle.types.specs.At.{type_at, fields_at}
 use Rattle.types.proofs.Pairs.{pair, pair_in, sized_in}
-use Rattle.types.proofs.SortedNames.{readable_type, NamesGo, names_start, cut_a, cut_b, falls_a, names_left, names_done, names-missing}
-use Rattle.types.proofs.SortedNames.{names-unread, names-skip, b-more, names_apart, names-common}
+use Rattle.types.proofs.SortedNames.{readable_type, NamesGo, names_start, cut_a, cut_b, falls_a, names_left, names_done, names_missing}
+use Rattle.types.proofs.SortedNames.{names_unread, names_skip, b_more, names_apart, names_common}
 use Rattle.types.proofs.TypeConformance.{sized_part}
 use Rattle.values.specs.At.{value_at, items_at, entries_at}
 use Rattle.values.specs.Held.{entries_conform, held_items, held_entries}
 use Rattle.values.proofs.ValueConformance.{readable_value, sized_value, unsized_value, leaf_pair, told_other, other_short, other_rest}
-use Rattle.values.proofs.ValueConformance.{met_any, no_level, no_type, range-apart, list_apart, context_apart, no_interval, no_fields_there}
+use Rattle.values.proofs.ValueConformance.{met_any, no_level, no_type, range_apart, list_apart, context_apart, no_interval, no_fields_there}
 use Rattle.values.proofs.ValueConformance.{met_range, met_list, met_context}
-use Rattle.values.proofs.Items.{ItemsGo, items_start, items-apart, items-fit, items-turn, items_done, items_unread, items_none}
+use Rattle.values.proofs.Items.{ItemsGo, items_start, items_apart, items_fit, items_turn, items_done, items_unread, items_none}
 use Rattle.values.proofs.Reading.{Above}
 use Rattle.values.proofs.Entries.{entries_run, entries_tests, entries_left, entries_none, entries_low}
 use borrow.Author.Rules.{rules}
@@ -235,7 +235,7 @@ conform-entries-returns-7 : (t : ℕ) →
 conform-entries-returns-7 t c =
     let c4 = c.before.before.before.before in
     let c6 = c4.before.before in
-    names-missing c6.before.loop.invariant 3 _ c6.loop-test.true
+    names_missing c6.before.loop.invariant 3 _ c6.loop-test.true
     (omega (arith, c6.before.loop.invariant, c4.before.if4.false)) c4.name-at.result
     c.before.next-name.result c4.name-at.ensures.0 c.before.before.before.if5.false
     c4.name-at.ensures.1 c.before.next-name.ensures.0 c.if8.true
@@ -288,7 +288,7 @@ conform-entries-returns-8 t c =
     let c8 = c5.before.before.before in
     let c11 = c8.before.before.before in
     let args = c11.before.before.before.before.before.args in
-    names-unread c11.loop.invariant 3 _ c8.before.before.loop-test.true
+    names_unread c11.loop.invariant 3 _ c8.before.before.loop-test.true
     (omega (arith, c11.loop.invariant, c8.before.if4.false)) c8.name-at.result c5.next-name.result
     c8.name-at.ensures.0 c5.before.before.if5.false c8.name-at.ensures.1
     c5.next-name.ensures.0
@@ -323,7 +323,7 @@ conform-entries-loop-again t c =
     let c8 = c5.before.before.before in
     let c11 = c8.before.before.before in
     let args = c11.before.before.before.before.before.args in
-    names-skip c11.loop.invariant 3 0 c8.before.before.loop-test.true
+    names_skip c11.loop.invariant 3 0 c8.before.before.loop-test.true
     (omega (arith, c11.loop.invariant, c8.before.if4.false)) c8.name-at.result c5.next-name.result
     c8.name-at.ensures.0 c5.before.before.if5.false c8.name-at.ensures.1
     c5.next-name.ensures.0 c.before.before.before.if9.true c.before.skip.result
@@ -340,7 +340,7 @@ conform-entries-add-q t c =
     omega (
       arith,
       (there t c2.before
-          (b-more c7.before.loop.invariant 3 0 c7.loop-test.true
+          (b_more c7.before.loop.invariant 3 0 c7.loop-test.true
           (omega (arith, c7.before.loop.invariant, c5.before.if4.false)) c5.name-at.result
           c2.next-name.result c5.name-at.ensures.0 c2.before.before.if5.false
           c5.name-at.ensures.1 c2.next-name.ensures.0 c.if9.false c.before.if8.false)),
@@ -355,7 +355,7 @@ conform-entries-add-j t c =
     let c7 = c5.before.before in
     omega (
       arith,
-      (b-more c7.before.loop.invariant 3 0 c7.loop-test.true
+      (b_more c7.before.loop.invariant 3 0 c7.loop-test.true
           (omega (arith, c7.before.loop.invariant, c5.before.if4.false)) c5.name-at.result
           c2.next-name.result c5.name-at.ensures.0 c2.before.before.if5.false
           c5.name-at.ensures.1 c2.next-name.ensures.0 c.if9.false c.before.if8.false),
@@ -370,7 +370,7 @@ conform-entries-leaf-requires t c κs =
     let c8 = c5.before.before.before in (
       omega (arith, c8.loop.invariant, c5.before.if4.false),
       (there t c2.before
-          (b-more c8.loop.invariant 3 0 c5.before.before.loop-test.true
+          (b_more c8.loop.invariant 3 0 c5.before.before.loop-test.true
           (omega (arith, c8.loop.invariant, c5.before.if4.false)) c5.name-at.result c2.next-name.result
           c5.name-at.ensures.0 c2.before.before.if5.false c5.name-at.ensures.1
           c2.next-name.ensures.0 c.if9.false c.before.if8.false)),
@@ -392,7 +392,7 @@ conform-entries-add-at-2 t c =
           args.v.now (loop.at + name_width) args.t.now (loop.bt + name_width)
           c.before.leaf.result 1 (omega (arith, loop.invariant, c7.before.if4.false))
           (there t c4.before
-          (b-more loop.invariant 3 0 c9.loop-test.true (omega (arith, loop.invariant, c7.before.if4.false))
+          (b_more loop.invariant 3 0 c9.loop-test.true (omega (arith, loop.invariant, c7.before.if4.false))
           c7.name-at.result c4.next-name.result c7.name-at.ensures.0 c4.before.before.if5.false
           c7.name-at.ensures.1 c4.next-name.ensures.0 c.before.before.if9.false
           c.before.before.before.if8.false))
@@ -415,7 +415,7 @@ conform-entries-add-bt t c =
           args.v.now (loop.at + name_width) args.t.now (loop.bt + name_width)
           c.before.leaf.result 1 (omega (arith, loop.invariant, c7.before.if4.false))
           (there t c4.before
-          (b-more loop.invariant 3 0 c9.loop-test.true (omega (arith, loop.invariant, c7.before.if4.false))
+          (b_more loop.invariant 3 0 c9.loop-test.true (omega (arith, loop.invariant, c7.before.if4.false))
           c7.name-at.result c4.next-name.result c7.name-at.ensures.0 c4.before.before.if5.false
           c7.name-at.ensures.1 c4.next-name.ensures.0 c.before.before.if9.false
           c.before.before.before.if8.false))
@@ -439,12 +439,12 @@ conform-entries-loop-again-2 t c =
     let c9 = c7.before.before in
     let c10 = c9.before in
     let args = c10.before.before.before.before.before.args in
-    names-common c10.loop.invariant 3 0 c9.loop-test.true
+    names_common c10.loop.invariant 3 0 c9.loop-test.true
     (omega (arith, c10.loop.invariant, c7.before.if4.false)) c7.name-at.result c4.next-name.result
     c7.name-at.ensures.0 c6.if5.false c7.name-at.ensures.1 c4.next-name.ensures.0
     c2.if9.false c2.before.if8.false
     (there t c4.before
-    (b-more c10.loop.invariant 3 0 c9.loop-test.true
+    (b_more c10.loop.invariant 3 0 c9.loop-test.true
     (omega (arith, c10.loop.invariant, c7.before.if4.false)) c7.name-at.result c4.next-name.result
     c7.name-at.ensures.0 c6.if5.false c7.name-at.ensures.1 c4.next-name.ensures.0
     c2.if9.false c2.before.if8.false))
@@ -477,7 +477,7 @@ conform-entries-sub-conforms-2 t c =
     omega (
       arith,
       (there t c5.before
-          (b-more c8.before.before.before.loop.invariant 3 0 c8.before.before.loop-test.true
+          (b_more c8.before.before.before.loop.invariant 3 0 c8.before.before.loop-test.true
           (omega (arith, c8.before.before.before.loop.invariant, c8.before.if4.false)) c8.name-at.result
           c5.next-name.result c8.name-at.ensures.0 c5.before.before.if5.false
           c8.name-at.ensures.1 c5.next-name.ensures.0 c3.if9.false c3.before.if8.false)),
@@ -493,7 +493,7 @@ conform-entries-part-conforms-start-2 t c =
     omega (
       arith,
       (there t c5.before
-          (b-more c8.before.before.before.loop.invariant 3 0 c8.before.before.loop-test.true
+          (b_more c8.before.before.before.loop.invariant 3 0 c8.before.before.loop-test.true
           (omega (arith, c8.before.before.before.loop.invariant, c8.before.if4.false)) c8.name-at.result
           c5.next-name.result c8.name-at.ensures.0 c5.before.before.if5.false
           c8.name-at.ensures.1 c5.next-name.ensures.0 c3.if9.false c3.before.if8.false)),
@@ -539,7 +539,7 @@ conform-entries-add-at-3 t c =
           args.v.now (loop.at + name_width) args.t.now (loop.bt + name_width) conforms.result
           conforms.new.1.1.1.0 (omega (arith, loop.invariant, c12.before.if4.false))
           (there t c9.before
-          (b-more loop.invariant 3 0 c12.before.before.loop-test.true
+          (b_more loop.invariant 3 0 c12.before.before.loop-test.true
           (omega (arith, loop.invariant, c12.before.if4.false)) c12.name-at.result c9.next-name.result
           c12.name-at.ensures.0 c9.before.before.if5.false c12.name-at.ensures.1
           c9.next-name.ensures.0 c7.if9.false c7.before.if8.false))
@@ -564,7 +564,7 @@ conform-entries-add-bt-2 t c =
           args.v.now (loop.at + name_width) args.t.now (loop.bt + name_width) c2.conforms.result
           c2.conforms.new.1.1.1.0 (omega (arith, loop.invariant, c13.before.if4.false))
           (there t c10.before
-          (b-more loop.invariant 3 0 c13.before.before.loop-test.true
+          (b_more loop.invariant 3 0 c13.before.before.loop-test.true
           (omega (arith, loop.invariant, c13.before.if4.false)) c13.name-at.result c10.next-name.result
           c13.name-at.ensures.0 c10.before.before.if5.false c13.name-at.ensures.1
           c10.next-name.ensures.0 c8.if9.false c8.before.if8.false))
@@ -588,12 +588,12 @@ conform-entries-loop-again-3 t c =
     let c13 = c10.before.before.before in
     let c16 = c13.before.before.before in
     let args = c16.before.before.before.before.before.args in
-    names-common c16.loop.invariant 3 0 c13.before.before.loop-test.true
+    names_common c16.loop.invariant 3 0 c13.before.before.loop-test.true
     (omega (arith, c16.loop.invariant, c13.before.if4.false)) c13.name-at.result c10.next-name.result
     c13.name-at.ensures.0 c10.before.before.if5.false c13.name-at.ensures.1
     c10.next-name.ensures.0 c8.if9.false c8.before.if8.false
     (there t c10.before
-    (b-more c16.loop.invariant 3 0 c13.before.before.loop-test.true
+    (b_more c16.loop.invariant 3 0 c13.before.before.loop-test.true
     (omega (arith, c16.loop.invariant, c13.before.if4.false)) c13.name-at.result c10.next-name.result
     c13.name-at.ensures.0 c10.before.before.if5.false c13.name-at.ensures.1
     c10.next-name.ensures.0 c8.if9.false c8.before.if8.false))
@@ -716,7 +716,7 @@ conform-items-add-at t c =
       arith,
       let c3 = c.before.before.before in
           let args = c3.before.before.before.before.args in
-          items-fit c3.loop.invariant c.before.before.loop-test.true c.before.leaf.result 1
+          items_fit c3.loop.invariant c.before.before.loop-test.true c.before.leaf.result 1
           (leaf_pair (reading_ends args.reading) (args.left - 1) args.left args.v.now c3.loop.at args.t.now 0
           c.before.leaf.result c.before.leaf.ensures c.if3.true),
     )
@@ -732,7 +732,7 @@ conform-items-loop-again : (t : ℕ) →
 conform-items-loop-again t c =
     let c3 = c.before.before.before in
     let args = c3.before.before.before.before.args in
-    items-turn c3.loop.invariant c.before.before.loop-test.true c.before.leaf.result 1
+    items_turn c3.loop.invariant c.before.before.loop-test.true c.before.leaf.result 1
     (leaf_pair (reading_ends args.reading) (args.left - 1) args.left args.v.now c3.loop.at args.t.now 0
     c.before.leaf.result c.before.leaf.ensures c.if3.true)
 
@@ -776,7 +776,7 @@ conform-items-returns-3 : (t : ℕ) →
     conform-items-Inv-loop conform-items-μ-loop
 conform-items-returns-3 t c =
     let c7 = c.before.before.before.before.before.before.before in
-    items-apart c7.before.loop.invariant c7.loop-test.true c.before.conforms.result
+    items_apart c7.before.loop.invariant c7.loop-test.true c.before.conforms.result
     c.before.conforms.new.1.1.1.0 c.before.conforms.ensures c.if4.true _
 
 conform-items-add-at-2 : (t : ℕ) →
@@ -788,7 +788,7 @@ conform-items-add-at-2 t c =
       let c7 = c.before.before.before.before.before.before.before in
           let args = c7.before.before.before.before.before.args in
           let conforms = c.before.conforms in
-          items-fit c7.before.loop.invariant c7.loop-test.true conforms.result
+          items_fit c7.before.loop.invariant c7.loop-test.true conforms.result
           conforms.new.1.1.1.0
           (pair (readable_value (args.left - 1)) (readable_type args.left) (order.conforms (order_of args.reading)) args.v.now
           c7.before.loop.at args.t.now 0 conforms.result conforms.new.1.1.1.0
@@ -807,7 +807,7 @@ conform-items-loop-again-2 t c =
     let c2 = c.before.before in
     let c8 = c2.before.before.before.before.before.before in
     let args = c8.before.before.before.before.before.args in
-    items-turn c8.before.loop.invariant c8.loop-test.true c2.conforms.result
+    items_turn c8.before.loop.invariant c8.loop-test.true c2.conforms.result
     c2.conforms.new.1.1.1.0
     (pair (readable_value (args.left - 1)) (readable_type args.left) (order.conforms (order_of args.reading)) args.v.now
     c8.before.loop.at args.t.now 0 c2.conforms.result c2.conforms.new.1.1.1.0
@@ -917,7 +917,7 @@ conforms-returns-5 : (t : ℕ) → conforms-lts.Need-returns-5 (conforms-claims 
 conforms-returns-5 t c =
     let args =
     c.before.before.before.before.before.before.before.before.before.before.args in
-    range-apart args.reading (args.left - 1) args.left args.v.now args.t.now _ c.before.match.keys1
+    range_apart args.reading (args.left - 1) args.left args.v.now args.t.now _ c.before.match.keys1
     c.before.before.before.if4.false c.if5.true
 
 conforms-shared-slice-read-if6 : (t : ℕ) →

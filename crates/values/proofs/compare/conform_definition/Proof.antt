@@ -13,8 +13,8 @@ use Rattle.types.proofs.SortedNames.{readable_type}
 use Rattle.types.proofs.Pairs.{pair}
 use Rattle.values.specs.At.{definition_at}
 use Rattle.values.specs.Held.{parameter_way, held_definition}
-use Rattle.values.proofs.Definitions.{DefinitionGo, definition_start, name_there, param-apart, param-fits, param-turn, result-apart}
-use Rattle.values.proofs.Definitions.{result_fits, result-yes}
+use Rattle.values.proofs.Definitions.{DefinitionGo, definition_start, name_there, param_apart, param_fits, param_turn, result_apart}
+use Rattle.values.proofs.Definitions.{result_fits, result_yes}
 use borrow.Author.Rules.{rules}
 
 abbrev invariant-loop : tie.invariant-loop
@@ -61,7 +61,7 @@ conform-parameter-requires c κs = search rules
 returns : tie.Need-returns invariant-loop decreases-loop
 returns c =
     let c5 = c.before.before.before.before.before in
-    param-apart c5.before.loop.invariant c5.loop-test.true c.before.conform-parameter.result
+    param_apart c5.before.loop.invariant c5.loop-test.true c.before.conform-parameter.result
     c.before.conform-parameter.new.1.1.1.0 c.before.conform-parameter.ensures c.if1.true _
 
 add_at : tie.Need-overflow-add-at invariant-loop decreases-loop
@@ -71,7 +71,7 @@ add_at c =
     let args = c6.before.before.before.before.args in
     let called = c.before.conform-parameter in
     let h =
-    param-fits c6.loop.invariant c5.loop-test.true called.result called.new.1.1.1.0
+    param_fits c6.loop.invariant c5.loop-test.true called.result called.new.1.1.1.0
     (pair (readable_type args.left) (readable_type args.left) (cmp (order_of args.reading) (parameter_way (order_of args.reading))) args.v.now
     (c6.loop.at + name_width) args.t.now c6.loop.bt called.result
     called.new.1.1.1.0 called.ensures c.if1.false) in
@@ -83,7 +83,7 @@ add-bt c =
     let c6 = c2.before.before.before.before in
     let c7 = c6.before in
     let args = c7.before.before.before.before.args in
-    let h = param-fits c7.loop.invariant c6.loop-test.true c2.conform-parameter.result
+    let h = param_fits c7.loop.invariant c6.loop-test.true c2.conform-parameter.result
     c2.conform-parameter.new.1.1.1.0
     (pair (readable_type args.left) (readable_type args.left) (cmp (order_of args.reading) (parameter_way (order_of args.reading))) args.v.now
     (c7.loop.at + name_width) args.t.now c7.loop.bt c2.conform-parameter.result
@@ -102,7 +102,7 @@ loop-again c =
     let c6 = c2.before.before.before.before in
     let c7 = c6.before in
     let args = c7.before.before.before.before.args in
-    param-turn c7.loop.invariant c6.loop-test.true c2.conform-parameter.result
+    param_turn c7.loop.invariant c6.loop-test.true c2.conform-parameter.result
     c2.conform-parameter.new.1.1.1.0
     (pair (readable_type args.left) (readable_type args.left) (cmp (order_of args.reading) (parameter_way (order_of args.reading))) args.v.now
     (c7.loop.at + name_width) args.t.now c7.loop.bt c2.conform-parameter.result
@@ -132,7 +132,7 @@ conforms-requires c κs = search rules
 returns-2 : tie.Need-returns-2 invariant-loop decreases-loop
 returns-2 c =
     let c5 = c.before.before.before.before.before in
-    result-apart c5.before.loop.invariant c5.loop-test.false c.before.conforms.result
+    result_apart c5.before.loop.invariant c5.loop-test.false c.before.conforms.result
     c.before.conforms.new.1.1.1.0 c.before.conforms.ensures c.if2.true _
 
 add-other : tie.Need-overflow-add-other invariant-loop decreases-loop
@@ -160,7 +160,7 @@ returns-3 : tie.Need-returns-3 invariant-loop decreases-loop
 returns-3 c =
     let c2 = c.before.before in
     let c6 = c2.before.before.before.before in
-    result-yes c6.before.loop.invariant c6.loop-test.false c2.conforms.result
+    result_yes c6.before.loop.invariant c6.loop-test.false c2.conforms.result
     c2.conforms.new.1.1.1.0 c2.conforms.ensures c.before.if2.false _ _ refl refl
 
 pub conform-definition-spec : {M : Type 1} → statement M

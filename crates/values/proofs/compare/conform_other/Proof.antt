@@ -17,9 +17,9 @@ use Rattle.order.specs.Order.{order_of}
 use Rattle.order.specs.Values.{conforms}
 use Rattle.order.proofs.Ends.{reading_ends}
 use Rattle.types.proofs.TypeConformance.{sized_part, unsized_part}
-use Rattle.values.proofs.ValueConformance.{sized_value, unsized_value, never, no_level, no_value, no_type, met_any, function-apart, rest-apart, no_signature_there, no_null, met_null}
-use Rattle.values.proofs.ValueConformance.{met_plain, met_table, plain-apart}
-use Rattle.values.proofs.Definitions.{definition_bytes, definition_ok, definition-counts, met-definition}
+use Rattle.values.proofs.ValueConformance.{sized_value, unsized_value, never, no_level, no_value, no_type, met_any, function_apart, rest_apart, no_signature_there, no_null, met_null}
+use Rattle.values.proofs.ValueConformance.{met_plain, met_table, plain_apart}
+use Rattle.values.proofs.Definitions.{definition_bytes, definition_ok, definition_counts, met_definition}
 
 -- in the arm of a leaf but a null: the value's command is that of one
 arm-leaf : (c : tie.At-match-branch) → is_leaf_command (get_or c.before.before.before.before.before.before.before.before.before.args.v.now 0 0) ≡ true
@@ -128,7 +128,7 @@ returns-6 c = let args =
 returns-7 : tie.Need-returns-7
 returns-7 c = let args =
     c.before.before.before.before.before.before.before.before.before.before.args in
-    function-apart args.reading (args.left - 1) args.left args.v.now args.t.now _
+    function_apart args.reading (args.left - 1) args.left args.v.now args.t.now _
     c.before.match.keys3 c.before.before.before.if4.false c.if7.true
 
 -- at `return 0;`
@@ -192,7 +192,7 @@ returns-10 c = let c4 = c.before.before.before.before in
     let sized-value1 =
     sized_value (args.left - 1) args.v.now 0 c4.skip3.result c4.skip3.ensures
     c.before.before.before.if9.false in
-    definition-counts (args.left - 1) args.left args.v.now args.t.now (omega arith)
+    definition_counts (args.left - 1) args.left args.v.now args.t.now (omega arith)
     c7.before.match.keys3 c7.if7.false (omega arith) sized-value1.x sized-value1.read (order_of args.reading)
     c.if10.true _
 
@@ -309,7 +309,7 @@ returns-12 c =
     let c2 = c.before.before in
     let c4 = c2.before.before in
     let args = c4.before.before.before.before.before.before.before.before.before.args in
-    plain-apart args.reading (args.left - 1) args.left args.v.now args.t.now _ (arm-leaf c4) (arm-not-null c4)
+    plain_apart args.reading (args.left - 1) args.left args.v.now args.t.now _ (arm-leaf c4) (arm-not-null c4)
     c4.before.before.if4.false c2.before.leaf_type.result c2.before.leaf_type.ensures c2.if12.true
     c.before.is-related.result c.before.is-related.ensures c.if13.false
 
@@ -353,7 +353,7 @@ returns-14 c = let c2 = c.before.before in
     c12.before.before.before.before.before.before.before.before.before.before.args in
     let sized-value1 = sized_value (args.left - 1) args.v.now 0 c8.before.skip3.result
     c8.before.skip3.ensures c8.if9.false in
-    met-definition (args.left - 1) args.left args.v.now args.t.now (omega arith)
+    met_definition (args.left - 1) args.left args.v.now args.t.now (omega arith)
     c12.before.match.keys3 c12.if7.false (omega arith) sized-value1.x sized-value1.read (order_of args.reading)
     c2.wide.result c2.wide.ensures.0 c2.before.before.before.if10.false _ _
     c.conform-definition.ensures
@@ -362,7 +362,7 @@ returns-14 c = let c2 = c.before.before in
 returns-15 : tie.Need-returns-15
 returns-15 c =
     let c10 = c.before.before.before.before.before.before.before.before.before.before in
-    rest-apart c10.args.reading (c10.args.left - 1) c10.args.left c10.args.v.now c10.args.t.now _ c10.requires c.before.before.before.if4.false
+    rest_apart c10.args.reading (c10.args.left - 1) c10.args.left c10.args.v.now c10.args.t.now _ c10.requires c.before.before.before.if4.false
     (leaf_high (get_or c10.args.v.now 0 0) c.if11.false c.before.match.rest.0.1) c.before.match.rest.1
 
 -- at the end

@@ -5,7 +5,7 @@ use Rattle.values.proofs.compare.conform_parameter.Statement.{statement}
 use Rattle.values.proofs.compare.conform_parameter.Tie as tie
 use mathlib.Core.Path.{sym, ◌∙◌}
 use Rattle.order.specs.Order.{order_of}
-use Rattle.values.proofs.Definitions.{parameter_plain, parameter-apart, parameter-swapped}
+use Rattle.values.proofs.Definitions.{parameter_plain, parameter_apart, parameter_swapped}
 
 is-strict-requires : tie.Need-is-strict-requires
 is-strict-requires c κs = search rules
@@ -17,7 +17,7 @@ returns : tie.Need-returns
 returns c =
     let c3 = c.before.before.before in
     let args = c3.before.before.before.before.args in
-    parameter-apart (order_of args.reading) args.left args.v.now args.t.now c.before.conforms.result
+    parameter_apart (order_of args.reading) args.left args.v.now args.t.now c.before.conforms.result
     c.before.conforms.new.1.1.1.0 (sym c3.before.is-strict.ensures ∙ c3.if1.true)
     c.before.conforms.ensures c.if2.true _
 
@@ -26,7 +26,7 @@ returns-2 c =
     let c2 = c.before.before in
     let c4 = c2.before.before in
     let args = c4.before.before.before.before.args in
-    parameter-swapped (order_of args.reading) args.left args.v.now args.t.now c2.conforms.result
+    parameter_swapped (order_of args.reading) args.left args.v.now args.t.now c2.conforms.result
     c2.conforms.new.1.1.1.0 (sym c4.before.is-strict.ensures ∙ c4.if1.true)
     c2.conforms.ensures c.before.if2.false
 

@@ -6,7 +6,7 @@ use Rattle.values.proofs.compare.leaf.Tie as tie
 use mathlib.Core.Path.{sym, ◌∙◌}
 use Prim.Native.Nat.{◌-◌}
 use native.Mathlib.Omega.{arith}
-use Rattle.values.proofs.ValueConformance.{leaf_no_type, leaf_below, leaf_above, leaf_none, leaf-is-null, leaf-to-any, leaf-to-own, leaf-to-none}
+use Rattle.values.proofs.ValueConformance.{leaf_no_type, leaf_below, leaf_above, leaf_none, leaf-is-null, leaf_to_any, leaf_to_own, leaf_to_none}
 
 -- at `return 0;`
 returns : tie.Need-returns
@@ -45,7 +45,7 @@ returns-3 : tie.Need-returns-3
 returns-3 c =
     let c4 = c.before.before.before.before in
     let c9 = c4.before.before.before.before.before in
-    leaf-to-own (c9.args.left - 1) c9.args.left c9.args.v.now c9.args.at c9.args.t.now c9.args.bt
+    leaf_to_own (c9.args.left - 1) c9.args.left c9.args.v.now c9.args.at c9.args.t.now c9.args.bt
     c4.before.leaf-size-at.result _ c4.before.leaf-size-at.ensures c4.if2.false c9.requires.2
     (omega (arith, c9.requires, c4.before.before.if1.false)) (c.if3.true ∙ c.before.leaf_type.ensures)
 
@@ -54,7 +54,7 @@ returns-4 : tie.Need-returns-4
 returns-4 c =
     let c5 = c.before.before.before.before.before in
     let c10 = c5.before.before.before.before.before in
-    leaf-to-any (c10.args.left - 1) c10.args.left c10.args.v.now c10.args.at c10.args.t.now c10.args.bt
+    leaf_to_any (c10.args.left - 1) c10.args.left c10.args.v.now c10.args.at c10.args.t.now c10.args.bt
     c5.before.leaf-size-at.result _ c5.before.leaf-size-at.ensures c5.if2.false c10.requires.2
     (omega (arith, c10.requires, c5.before.before.if1.false)) c.if4.true
 
@@ -63,7 +63,7 @@ returns-5 : tie.Need-returns-5
 returns-5 c =
     let c6 = c.before.before.before.before.before.before in
     let args = c6.before.before.before.before.before.args in
-    leaf-to-none (args.left - 1) args.left args.v.now args.at args.t.now args.bt c6.before.leaf-size-at.result _
+    leaf_to_none (args.left - 1) args.left args.v.now args.at args.t.now args.bt c6.before.leaf-size-at.result _
     c6.before.leaf-size-at.ensures c6.if2.false c.if5.true c.before.if4.false
     (λ z. c.before.before.if3.false (z ∙ sym c.before.before.before.leaf_type.ensures))
     1
