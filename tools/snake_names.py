@@ -107,7 +107,7 @@ def lent(text, crates):
     return names
 
 
-TOKEN = re.compile(r'"(?:[^"\\\n]|\\.)*"|(?:--|//)[^\n]*|' + WORD)
+TOKEN = re.compile(r'(?s:"(?:[^"\\]|\\.)*")|(?:--|//)[^\n]*|' + WORD)
 
 
 def turn(text, names, comment, after_dot=True):

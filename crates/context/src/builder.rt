@@ -7,7 +7,7 @@ ghost use Rattle.form.specs.Form.{level_v};
 ghost use Rattle.form.specs.Outcome.{fits};
 ghost use Rattle.form.specs.Answers.{Built};
 ghost use Rattle.types.specs.At.{Ok};
-ghost use Rattle.output.specs.Result.{result};
+ghost use Rattle.output.specs.Result.{result_of};
 ghost use Rattle.paths.specs.Places.{whole_at, context_at, lent_code};
 ghost use Rattle.paths.specs.Way.{Surveyed};
 ghost use Rattle.paths.specs.Calls.{context_of};
@@ -23,7 +23,7 @@ use paths::way::{Cut, Way};
 
 // Err of `apply_entries`: a name is left of so many, and the entry that goes holds no context.
 fn is_err(strict: bool, names: usize, cut: Cut) -> bool
-    ensures* { λ r. ⌜ r ≡ (strict && (ltb cut.names names && ltb 0 cut.gone)) ⌝ }
+    ensures { result ≡ (strict && (ltb cut.names names && ltb 0 cut.gone)) }
 {
     if !strict {
         return false;
@@ -49,8 +49,8 @@ fn place(
     requires small { Small c.now path.now v.now }
     requires surveyed { Surveyed path.now (whole_at value_levels c.now) way.rest way.cut }
     requires level_value { (x : Val) → whole_at value_levels v.now ≡ some x → level ≡ level_v x }
-    ensures* { λ r. ⌜ ((es : Entries) (x : Val) → context_at value_levels c.now ≡ some es → whole_at value_levels v.now ≡ some x
-        → Built (answered (length out.old) (updated strict path.now x es)) out.old out.new r) ⌝ }
+    ensures { (es : Entries) (x : Val) → context_at value_levels c.now ≡ some es → whole_at value_levels v.now ≡ some x
+        → Built (answered (length out.old) (updated strict path.now x es)) out.old out.new result }
 {
     if path.len() == 0 {
         return output::give(c, out);
@@ -73,7 +73,7 @@ fn place(
 
 // The value at the path of the context. Refusals 1 to 5 of the context, 11, 1 to 5 of the value, 12, 16, 17, 18.
 pub(crate) fn update(c: &[u8], path: &[u16], v: &[u8], strict: bool, out: &mut [u8]) -> Written
-    ensures* { λ r. ⌜ Built (update_call strict c.now path.now v.now (length out.old)) out.old out.new r ⌝ }
+    ensures { Built (update_call strict c.now path.now v.now (length out.old)) out.old out.new result }
 {
     let mut status: u8 = 0;
     let way = paths::way::read(c, path, &mut status);
@@ -99,7 +99,7 @@ pub(crate) fn update(c: &[u8], path: &[u16], v: &[u8], strict: bool, out: &mut [
 // The context of `size` bytes and that level that was built in the spare place. Refusals 17, 18.
 fn give_within(spare: &[u8], size: usize, level: usize, out: &mut [u8]) -> Written
     requires { size ≤ most_bytes → size ≤ length spare.now }
-    ensures* { λ r. ⌜ ((w : Val) → Holds spare.now size level w → Built (result (length out.old) w) out.old out.new r) ⌝ }
+    ensures { (w : Val) → Holds spare.now size level w → Built (result_of (length out.old) w) out.old out.new result }
 {
     if MOST_BYTES < size {
         return Written::Refused(refusals::RESULT);
@@ -116,8 +116,8 @@ fn join_in(all: bool, c: &[u8], o: &[u8], spare: &mut [u8], out: &mut [u8]) -> W
     requires ok_2 { Ok (context_at value_levels o.now) }
     requires c_len_bound { (length c.now ≤ most_bytes) × (length o.now ≤ most_bytes) }
     requires most_bytes_in_bounds { min (length c.now + length o.now) most_bytes ≤ length spare.old }
-    ensures* { λ r. ⌜ ((es gs : Entries) → context_at value_levels c.now ≡ some es → context_at value_levels o.now ≡ some gs
-        → Built (result (length out.old) (v_context (merged all es gs))) out.old out.new r) ⌝ }
+    ensures { (es gs : Entries) → context_at value_levels c.now ≡ some es → context_at value_levels o.now ≡ some gs
+        → Built (result_of (length out.old) (v_context (merged all es gs))) out.old out.new result }
 {
     let mut level: usize = 0;
     let n = updates::merge(all, c, o, spare, &mut level);
@@ -126,7 +126,7 @@ fn join_in(all: bool, c: &[u8], o: &[u8], spare: &mut [u8], out: &mut [u8]) -> W
 
 // Both contexts in one. Refusals 1 to 5 of each, 12, 17, 18.
 pub(crate) fn join(all: bool, c: &[u8], o: &[u8], out: &mut [u8]) -> Written
-    ensures* { λ r. ⌜ Built (joined_call all c.now o.now (length out.old)) out.old out.new r ⌝ }
+    ensures { Built (joined_call all c.now o.now (length out.old)) out.old out.new result }
 {
     if let Checked::Refused(n) = form::check_value(c) {
         return Written::Refused(n);
@@ -152,8 +152,8 @@ pub(crate) fn join(all: bool, c: &[u8], o: &[u8], out: &mut [u8]) -> Written
 
 // What an update at the name changes in the context `c`; the number of its refusal, or 0, is left in `status`. Refusals 1 to 5, 12.
 pub(crate) fn find(c: &[u8], name: u16, status: &mut u8) -> Cut
-    ensures* status_after { λ r. ⌜ status.new ≡ lent_code (context_of c.now 0) ⌝ }
-    ensures* fact { λ r. ⌜ (status.new ≡ 0 → Taken name (context_at value_levels c.now) r) ⌝ }
+    ensures status_after { status.new ≡ lent_code (context_of c.now 0) }
+    ensures fact { status.new ≡ 0 → Taken name (context_at value_levels c.now) result }
 {
     let path = [name];
     let way = paths::way::read(c, &path, status);
@@ -170,7 +170,7 @@ pub(crate) fn find(c: &[u8], name: u16, status: &mut u8) -> Cut
 // The context `c` without the entry from `at` to `to`, built in the output itself where that has room. Refusal 18.
 pub(crate) fn give_without(c: &[u8], at: usize, to: usize, count: usize, out: &mut [u8]) -> Written
     requires { (3 ≤ at) × (at ≤ to) × (to ≤ length c.now) × (count < 65536) }
-    ensures* { λ r. ⌜ Built (fits (length out.old) (closed count c.now at to)) out.old out.new r ⌝ }
+    ensures { Built (fits (length out.old) (closed count c.now at to)) out.old out.new result }
 {
     if out.len() < c.len() - (to - at) {
         return Written::Refused(refusals::OUTPUT);
@@ -193,9 +193,9 @@ pub(crate) fn move_in(
     requires small { Small c.now path.now c.now }
     requires cut_value { (x : Val) → whole_at value_levels (value_in c.now cut.at (cut.at + cut.gone)) ≡ some x → cut.old ≡ level_v x }
     requires c_in_bounds { length c.now ≤ length spare.old }
-    ensures* { λ r. ⌜ ((es : Entries) (x : Val) → context_at value_levels (closed count c.now cut.at (cut.at + cut.gone)) ≡ some es
+    ensures { (es : Entries) (x : Val) → context_at value_levels (closed count c.now cut.at (cut.at + cut.gone)) ≡ some es
         → whole_at value_levels (value_in c.now cut.at (cut.at + cut.gone)) ≡ some x
-        → Built (answered (length out.old) (updated false path.now x es)) out.old out.new r) ⌝ }
+        → Built (answered (length out.old) (updated false path.now x es)) out.old out.new result }
 {
     let to = cut.at + cut.gone;
     let k = updates::write_without(c, cut.at, to, count, spare);

@@ -30,7 +30,7 @@ const POINT: u8 = 3;
 // What was read of a line so far: the number of its question; the letters of its word, or the bytes of its arguments; how many ends of
 // arguments stand among these, and how many bytes in front of the first two: commas, or words where there is no comma; the high digit
 // of half a byte; what is wrong.
-#[derive(Drop)]
+#[derive(Clone, Copy)]
 pub struct Line {
     pub part: u8,
     pub state: u8,

@@ -5,7 +5,7 @@ use crate::line;
 
 // What is answered: yes or no; bytes at the front of the output; a number; nothing; no such type; the number of a refusal; what is wrong
 // with the line; how many arguments are wanted and how many were found, and whether there are commas; or that nothing is asked.
-#[derive(Drop)]
+#[derive(Clone, Copy)]
 pub enum Answer {
     Yes,
     No,

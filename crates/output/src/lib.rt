@@ -32,7 +32,7 @@ pub fn copy(src: &[u8], out: &mut [u8])
     requires { length src.now ≤ length out.old }
     ensures { out.new ≡ onto src.now out.old }
 {
-    bytes::copy(src, out);
+    out[..src.len()].copy_from_slice(src);
 }
 
 // The name that stands at `at`, written at `to`.

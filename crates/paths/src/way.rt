@@ -13,7 +13,7 @@ use form::{Checked, commands, refusals};
 
 // What an update at a path changes: in the context at `base`, `gone` bytes from `at` on, which are the name's entry, none where the name is new.
 // So many contexts were gone into, one for each name; none where there is no name or no context. The value that goes has the level `old`.
-#[derive(Drop)]
+#[derive(Clone, Copy)]
 pub struct Cut {
     pub base: usize,
     pub at: usize,
@@ -23,7 +23,7 @@ pub struct Cut {
 }
 
 // What the walk tells: the size of the value, 0 for a fault; its level, or the fault; the level of what an update at the path leaves of it; and what it changes.
-#[derive(Drop)]
+#[derive(Clone, Copy)]
 pub struct Way {
     pub size: usize,
     pub level: usize,

@@ -13,7 +13,7 @@ const LINES: [u8; 753] = *b"\
     Where none stands, each word is an argument, and . is no bytes:\n\
     \x20   conforms 0A0000 2A22\n\
     Where none stands and one argument is wanted, all words are that one:\n\
-    \x20   check_value_lem 0A 01 00 01 01\n\
+    \x20   check-value 0A 01 00 01 01\n\
     \n\
 ";
 
@@ -36,7 +36,7 @@ const ARGUMENTS: [u8; 707] = *b"\
 
 // The questions on types and values.
 const QUESTIONS: [u8; 1122] = *b"\
-    check_type_lem T                  a number: the level\n\
+    check-type T                  a number: the level\n\
     type-conforms A B             yes or no: A conforms to B\n\
     instance-of A B               yes or no\n\
     supertype A B                 bytes: the least type to which both conform\n\
@@ -45,22 +45,22 @@ const QUESTIONS: [u8; 1122] = *b"\
     is-simple-built-in-type T     yes or no\n\
     type-is-null T                yes or no\n\
     bif-type F                    bytes: the type of a built-in function\n\
-    check_value_lem V                 a number: the level\n\
+    check-value V                 a number: the level\n\
     conforms V T                  yes or no: V conforms to T\n\
     least V                       bytes: the least type\n\
-    type_of_lem V                     bytes: the type as the Rust infers it\n\
+    type-of V                     bytes: the type as the Rust infers it\n\
     retrieve T V                  bytes: V retrieved by T\n\
     retrieve-conformant T V       bytes: V retrieved by T where it conforms, otherwise null with trace 2\n\
     coerce V T                    bytes: V coerced to T\n\
     is-invalid-coercion V         yes or no, and so up to undefined\n\
     is-valid-range V\n\
-    is_null_lem V\n\
+    is-null V\n\
     is-true V\n\
     is-false V\n\
     is-number V\n\
-    is_string_lem V\n\
-    is_list_lem V\n\
-    is_range_lem V\n\
+    is-string V\n\
+    is-list V\n\
+    is-range V\n\
     opened I\n\
     closed I\n\
     undefined I\n\
@@ -68,24 +68,24 @@ const QUESTIONS: [u8; 1122] = *b"\
 
 // Those on contexts and texts.
 const MORE: [u8; 888] = *b"\
-    get_entry C NAME              bytes: the value, or none\n\
+    get-entry C NAME              bytes: the value, or none\n\
     search C PATH                 bytes: the value, or none\n\
     get-first C                   bytes: the value, or none\n\
     contains-entry C NAME         yes or no\n\
     contains C PATH               yes or no\n\
-    is_context_lem C NAME             yes or no\n\
+    is-context C NAME             yes or no\n\
     is-empty C                    yes or no\n\
     len C                         a number: how many entries\n\
     create C PATH V               bytes: the context after the update, and so up to set-null\n\
     apply C PATH V\n\
     zip C D\n\
     overwrite C D\n\
-    move_entry_lem C NAME PARENT\n\
-    set_entry_lem C NAME V\n\
+    move-entry C NAME PARENT\n\
+    set-entry C NAME V\n\
     remove-entry C NAME\n\
-    set_null_lem C NAME\n\
+    set-null C NAME\n\
     display T TABLE               bytes: the text of T\n\
-    from_str_lem S                    a byte: the command of the type with this name, or unknown\n\
+    from-str S                    a byte: the command of the type with this name, or unknown\n\
     is-built-in-type-name S       yes or no\n\
     name-new PARTS                bytes: the name\n\
     trim S                        bytes: S without the blanks at both ends\n\

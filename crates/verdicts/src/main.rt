@@ -19,7 +19,7 @@ const BUILT: usize = 1638400;
 const LARGE: usize = 65536;
 
 // How many lines were answered, refused and not read, and how many files could not be opened or read.
-#[derive(Drop)]
+#[derive(Clone, Copy)]
 pub(crate) struct Tally {
     pub(crate) answered: u64,
     pub(crate) refused: u64,
@@ -29,7 +29,7 @@ pub(crate) struct Tally {
 }
 
 // The line that is being read, its number, what was counted, and the output.
-#[derive(Drop)]
+#[derive(Clone, Copy)]
 struct State {
     line: Line,
     number: u64,

@@ -13,7 +13,7 @@ const PIECE: usize = 16384;
 const WORDS: usize = 128;
 
 // How many bytes the buffer holds, and whether a write failed; nothing is written from then on.
-#[derive(Drop)]
+#[derive(Clone, Copy)]
 pub struct Out {
     pub at: usize,
     pub broken: bool,

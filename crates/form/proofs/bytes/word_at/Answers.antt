@@ -1,0 +1,12 @@
+-- `form::bytes::word_at` meets its contract: the two bytes from `at` on are the number's low and high byte (`word_is`).
+-- Assumes nothing.
+use borrow.Author.Rules.{rules}
+use mathlib.Core.Path.{sym, ◌∙◌}
+use native.Mathlib.Omega.{arith}
+use Rattle.form.proofs.Numbers.{word_is}
+use Rattle.form.proofs.bytes.word_at.Goals as goal
+
+pub returns : goal.returns
+returns c =
+    let args = c.args in
+    (c.word.ensures.0 ∙ sym (word_is args.s.now args.at (omega arith)), c.word.ensures.1)
