@@ -114,10 +114,18 @@ def sources(crates):
             pre = crate + "::" + ("" if mod in ("lib", "main") else mod + "::")
             with open(path) as f:
                 text = f.read()
-            for m in re.finditer(r"(?m)^(?:pub )?(?:unsafe )?(?:extern \"C\" )?fn (\w+)\s*\(([^{]*?)\)\s*(->[^{\n]*)?\n((?:[ \t]+(?:requires|ensures|ghost)[^\n]*\n|[ \t]{5,}[^\n]*\n|\s*//[^\n]*\n|\s*\n)*)\{", text):
-                params = [p.split(":")[0].strip().removeprefix("mut ") for p in re.split(r",(?![^<(\[]*[>)\]])", m[2]) if p.strip()]
-                req = [x or None for x in re.findall(r"\brequires\*?[ \t]*(\w*)[ \t]*\{", m[4])]
-                ens = [x or None for x in re.findall(r"\bensures\*?[ \t]*(\w*)[ \t]*\{", m[4])]
+            for m in re.finditer(r"(?m)^[ \t]*(?:pub(?:\(crate\))? )?(?:unsafe )?(?:extern \"C\" )?fn (\w+)\s*\(", text):
+                end = text.find("\n{", m.end())
+                if end < 0:
+                    continue
+                head, depth, i = text[m.end() : end], 1, 0
+                while depth:
+                    depth += (head[i] in "([{") - (head[i] in ")]}")
+                    i += 1
+                params = [p.split(":")[0].strip().removeprefix("mut ") for p in re.split(r",(?![^<(\[]*[>)\]])", head[: i - 1]) if p.strip()]
+                rest = head[i:]
+                req = [x or None for x in re.findall(r"\brequires\*?[ \t]*(\w*)[ \t]*\{", rest)]
+                ens = [x or None for x in re.findall(r"\bensures\*?[ \t]*(\w*)[ \t]*\{", rest)]
                 found[pre + m[1]] = (params, req, ens)
     return found
 
@@ -126,17 +134,16 @@ def clause_path(names, fields):
     """The new fields of a citation of one of several clauses by position. Older form: .0, .1.0, .1.1.0 .. with the rest in the last; or .0 .1 .2"""
     if len(names) < 2 or not fields:
         return fields
-    nums = []
-    k = 0
-    while k < len(fields) and re.fullmatch(r"\d+", fields[k]):
-        nums.append(int(fields[k]))
-        k += 1
-    if not nums:
+    if not re.fullmatch(r"\d+", fields[0]):
         return fields
-    i = nums[0]
-    if i < len(names) and names[i]:
-        return [names[i]] + fields[1:]
-    return None
+    i, rest = 0, list(fields)
+    while i < len(names) - 1 and rest and rest[0] == "1":
+        i, rest = i + 1, rest[1:]
+    if i < len(names) - 1:
+        if not rest or rest[0] != "0":
+            return None
+        rest = rest[1:]
+    return [names[i]] + rest if names[i] else None
 
 
 PATHRE = re.compile(rf"(?<![^\s(){{}};,@\[\]])({ID})((?:\.{ID})+)?")
@@ -157,13 +164,15 @@ class Turner:
             parts = parts[1:]
         if not parts:
             return None, idx
-        if idx >= len(self.chain):
-            said(f"{self.where}: {self.goal}: too many befores: {head}{rest}")
-            return head + rest, idx
+        f = parts[0] = {"pre": "requires", "fits": "ranges", "entry_IsPlace": "entry_place"}.get(parts[0], parts[0])
+        out = None
+        # the step of that name that is nearest to the place that the older form counted to
+        same = [i for i, p in enumerate(self.chain) if p[2][0] and plain(p[2][0]) == plain(f)]
+        if same:
+            idx = min(same, key=lambda i: abs(i - idx))
+        idx = min(idx, len(self.chain) - 1)
         place = self.chain[idx]
         old, new = place[2]
-        f = parts[0]
-        out = None
         if plain(f) == plain(old) and old:
             out = [new]
             more = parts[1:]
@@ -323,8 +332,9 @@ def self_record(term, new, f, src, crate, where, goal):
         names = own[2] if own else []
     elif "-requires" in new:
         step = new.split("-requires")[0]
-        cands = [v[1] for k, v in src.items() if re.match(re.escape(k.split("::")[-1]) + r"(-|$)", step)]
-        names = max(cands, key=len) if cands else []
+        callees = {p[3] for p in f.d["places"] if p[3] and re.match(re.escape(p[3].split("::")[-1]) + r"(-|$)", step)}
+        cands = [src[k][1] for k in callees if k in src]
+        names = cands[0] if cands else []
     else:
         return term
     if len(names) < 2 or not all(names):

@@ -1,0 +1,29 @@
+-- The cycle `bounds::sizes::measure`, `measure_fields`, `measure_sig` meets its contracts; the measure is twice the level that is left, one more for the loops.
+use Prim.Native.Nat.{ℕ, ◌<◌, ◌*◌, ◌+◌, ◌-◌}
+use borrow.Author.Rules.{rules}
+use native.Mathlib.Omega.{arith}
+use Rattle.bounds.proofs.ReducedSizes.{within_ok, within_ends, within_done, some_first, some_left, simple_sizes, in_wrapped, context_three, in_context, function_at, none_sizes}
+use Rattle.bounds.proofs.ReducedSizes.{in_function, EntriesInv, entries_start, entry_name, entry_there, entry_ends, entry_next, entries_done, ParametersInv, parameters_start}
+use Rattle.bounds.proofs.ReducedSizes.{parameter_there, parameter_ends, parameter_next, result_there, result_fits, parameters_done}
+use Rattle.bounds.proofs.sizes.+measure_measure_fields_measure_sig.Given as goal
+
+abbrev pub decreases-measure : goal.decreases-measure
+decreases-measure l = 2 * l.left
+
+abbrev pub decreases-measure_fields : goal.decreases-measure_fields
+decreases-measure_fields l = 2 * l.left + 1
+
+abbrev pub decreases-measure_sig : goal.decreases-measure_sig
+decreases-measure_sig l = 2 * l.left + 1
+
+abbrev pub invariant-measure_fields-loop-i : goal.invariant-measure_fields-loop-i
+invariant-measure_fields-loop-i l = EntriesInv l.left l.s l.n l.at l.to l.i
+
+abbrev pub decreases-measure_fields-loop-i : goal.decreases-measure_fields-loop-i
+decreases-measure_fields-loop-i l = l.n - l.i
+
+abbrev pub invariant-measure_sig-loop-i : goal.invariant-measure_sig-loop-i
+invariant-measure_sig-loop-i l = ParametersInv l.left l.s l.count l.at l.to l.i
+
+abbrev pub decreases-measure_sig-loop-i : goal.decreases-measure_sig-loop-i
+decreases-measure_sig-loop-i l = l.count - l.i

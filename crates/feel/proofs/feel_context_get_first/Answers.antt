@@ -1,0 +1,17 @@
+-- `feel::feel_context_get_first` meets its contract: the call is `paths::first_place`; an accepted context is short, so the place and the length of a part have 16 bits each.
+-- Assumes nothing.
+use mathlib.Core.Path.{ap, ◌∙◌}
+use borrow.Author.Rules.{rules}
+use Rattle.form.proofs.Whole.{bytes_of}
+use Rattle.paths.specs.Places.{found}
+use Rattle.feel.specs.Numbers.{parted}
+use Rattle.feel.proofs.PartPlaces.{halves_first}
+use Rattle.feel.proofs.feel_context_get_first.Goals as goal
+
+pub found_number-requires : goal.found_number-requires
+found_number-requires c =
+    halves_first c.args.c.now (found c.first_place.result)
+    (bytes_of c.args.c.now c.shared_slice_known-1.given) c.first_place.ensures
+
+pub returns : goal.returns
+returns c = c.found_number.ensures ∙ ap parted c.first_place.ensures

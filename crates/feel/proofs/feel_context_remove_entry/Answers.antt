@@ -1,0 +1,13 @@
+-- `feel::feel_context_remove_entry` meets its contract: the call is `context::remove_entry`, which writes the output; the length or the refusal becomes its number.
+-- Assumes nothing.
+use mathlib.Core.Path.{ap, ◌∙◌}
+use borrow.Author.Rules.{rules}
+use Rattle.feel.specs.Numbers.{numbered}
+use Rattle.feel.proofs.feel_context_remove_entry.Goals as goal
+
+pub returns : goal.returns
+returns c =
+    record {
+      answer = c.written_number.ensures ∙ ap numbered c.remove_entry.ensures.answer;
+      output = c.remove_entry.ensures.output;
+    }

@@ -1,0 +1,18 @@
+-- `feel::feel_context_search_deep` meets its contract: the call is `paths::search_place`; an accepted context is short, so the place and the length of a part have 16 bits each.
+-- Assumes nothing.
+use mathlib.Core.Path.{ap, ◌∙◌}
+use borrow.Author.Rules.{rules}
+use Rattle.form.proofs.Whole.{bytes_of}
+use Rattle.paths.specs.Places.{found}
+use Rattle.feel.specs.Numbers.{parted}
+use Rattle.feel.proofs.PartPlaces.{halves_deep}
+use Rattle.feel.proofs.feel_context_search_deep.Goals as goal
+
+pub found_number-requires : goal.found_number-requires
+found_number-requires c =
+    let args = c.args in
+    halves_deep args.c.now args.path.now (found c.search_place.result)
+    (bytes_of args.c.now c.shared_slice_known-1.given) c.search_place.ensures
+
+pub returns : goal.returns
+returns c = c.found_number.ensures ∙ ap parted c.search_place.ensures

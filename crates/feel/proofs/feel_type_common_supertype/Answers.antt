@@ -1,0 +1,10 @@
+-- `feel::feel_type_common_supertype` meets its contract: the call is `bounds::common_supertype`, which writes the output; the length or the refusal becomes its number.
+-- Assumes nothing.
+use borrow.Author.Rules.{rules}
+use mathlib.Core.Path.{ap, ◌∙◌}
+use Rattle.feel.specs.Numbers.{numbered}
+use Rattle.feel.proofs.feel_type_common_supertype.Goals as goal
+
+pub returns : goal.returns
+returns c =
+    record { answer = c.written_number.ensures ∙ ap numbered c.common_supertype.ensures.answer; output = c.common_supertype.ensures.output }

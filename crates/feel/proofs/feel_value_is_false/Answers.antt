@@ -1,0 +1,9 @@
+-- `feel::feel_value_is_false` meets its contract: the call is `ranges::is_false`, and its verdict becomes its number.
+-- Assumes nothing.
+use mathlib.Core.Path.{ap, ◌∙◌}
+use borrow.Author.Rules.{rules}
+use Rattle.feel.specs.Numbers.{judged}
+use Rattle.feel.proofs.feel_value_is_false.Goals as goal
+
+pub returns : goal.returns
+returns c = c.verdict_number.ensures ∙ ap judged c.is_false.ensures

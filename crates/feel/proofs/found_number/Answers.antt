@@ -1,0 +1,30 @@
+-- `feel::found_number` meets its contract: by the answer; a place and a length below 65,536 fit one word, so the sum has room.
+-- Assumes nothing.
+use native.Mathlib.Omega.{arith}
+use mathlib.Core.Path.{sym, ap}
+use borrow.Author.Rules.{rules}
+use Rattle.paths.specs.Places.{found}
+use Rattle.paths.specs.declared.Found.{Found}
+use Rattle.feel.specs.Numbers.{parted}
+use Rattle.feel.proofs.PartPlaces.{part_halves}
+use Rattle.feel.proofs.found_number.Goals as goal
+
+pub overflow_mul-result : goal.overflow_mul-result
+overflow_mul-result c =
+    omega (
+      arith,
+      let f = c.f-1.given in
+          (part_halves c.args.f f.0.0 f.0.1.0 f.1 c.requires).0,
+    )
+
+pub overflow_add-result : goal.overflow_add-result
+overflow_add-result c =
+    let f = c.f-1.given in
+    let part-halves1 = part_halves c.args.f f.0.0 f.0.1.0 f.1 c.requires in
+    omega (arith, part-halves1.0, part-halves1.1)
+
+pub returns-in-Part : goal.returns-in-Part
+returns-in-Part c = sym (ap (λ (x : Found). parted (found x)) c.in-Part.is)
+
+pub returns-in-Refused : goal.returns-in-Refused
+returns-in-Refused c = sym (ap (λ (x : Found). parted (found x)) c.in-Refused.is)

@@ -1,0 +1,58 @@
+-- `infer::builder::keeps` meets its contract: equal types have equal bytes; otherwise the pass over both types says whether the second conforms to the first.
+-- Assumes nothing.
+use borrow.Author.Rules.{rules}
+use native.Mathlib.Omega.{arith}
+use mathlib.Core.Path.{sym}
+use Rattle.form.proofs.Numbers.{take_length}
+use Rattle.form.proofs.Whole.{bytes_of}
+use Rattle.form.proofs.Exact.{bytes_drop}
+use Rattle.infer.proofs.JoinedTypes.{both_inside, kept_equal, kept_conforms, kept_not}
+use Rattle.infer.proofs.builder.keeps.Goals as goal
+
+pub overflow_add-p : goal.overflow_add-p
+overflow_add-p c =
+    omega (
+      arith,
+      both_inside c.args.s.now c.args.n c.args.m _ c.requires,
+    )
+
+pub slice_bounds-same-end : goal.slice_bounds-same-end
+slice_bounds-same-end c =
+    sym
+    (take_length c.args.n c.args.s.now
+    (omega (arith, both_inside c.args.s.now c.args.n c.args.m _ c.requires)))
+
+pub slice_bounds-same-end-then-equal : goal.slice_bounds-same-end-then-equal
+slice_bounds-same-end-then-equal c = both_inside c.args.s.now c.args.n c.args.m _ c.requires
+
+pub returns-then-equal : goal.returns-then-equal
+returns-then-equal c =
+    let args = c.args in
+    let bytes-of1 = bytes_of args.s.now c.shared_slice_known-1.given in
+    kept_equal args.s.now args.n args.m _ c.requires bytes-of1
+    (bytes_drop args.n args.s.now bytes-of1) _ _ c.if-equal.true
+    c.same.ensures
+
+pub slice_bounds-conforms-count : goal.slice_bounds-conforms-count
+slice_bounds-conforms-count c =
+    omega (
+      arith,
+      both_inside c.args.s.now c.args.n c.args.m _ c.requires,
+    )
+
+pub slice_bounds-conforms-start : goal.slice_bounds-conforms-start
+slice_bounds-conforms-start c =
+    omega (
+      arith,
+      both_inside c.args.s.now c.args.n c.args.m _ c.requires,
+    )
+
+pub returns-then-conforms-eq0 : goal.returns-then-conforms-eq0
+returns-then-conforms-eq0 c =
+    kept_not c.args.s.now c.args.n c.args.m _ c.requires _ c.if-equal.false
+    c.conforms.result _ c.conforms.ensures c.if-conforms-eq0.true
+
+pub returns : goal.returns
+returns c =
+    kept_conforms c.args.s.now c.args.n c.args.m _ c.requires _ c.if-equal.false
+    c.conforms.result _ c.conforms.ensures c.if-conforms-eq0.false

@@ -1,0 +1,241 @@
+-- The cycle `infer::data::is_data`, `are_data`, `hold_data` meets its contracts; the measure is twice the level that is left, one more for the loops.
+-- One template for all: a value's answer is that of its run of children behind three bytes; the loops keep the answer to what is left.
+-- Assumes nothing.
+use Prim.Native.Nat.{ℕ, ◌<◌, ◌*◌, ◌+◌, ◌-◌}
+use borrow.Author.Rules.{rules}
+use Rattle.order.specs.Order.{order_of}
+use native.Mathlib.Omega.{arith}
+use mathlib.Core.Path.{refl, sym, ◌∙◌}
+use mathlib.Core.Logic.{⊎_elim}
+use lib.ListN.{get_or}
+use Rattle.form.proofs.CommandKinds.{leaf_low, leaf_decimal}
+use Rattle.infer.proofs.OnlyData.{ItemsInv, items_start, items_end, items_done, items_ok, items_no, items_fit}
+use Rattle.infer.proofs.OnlyData.{items_again, items_some, items_leaf_fit, items_leaf, EntriesInv, definition_done, definition_no}
+use Rattle.infer.proofs.OnlyData.{entries_start, entries_two, entries_done, entries_ok, entries_no, entries_fit, entries_again, entries_some, entries_leaf_fit, entries_leaf, has_byte}
+use Rattle.infer.proofs.OnlyData.{has_level, leaf_done, leaf_fits, other_done, ranges, lists, contexts, run_ok, run_fits, run_done}
+use Rattle.infer.proofs.data.+are_data_hold_data_is_data.Goals as goal
+
+pub are_data-loop-i-init : goal.are_data-loop-i-init
+are_data-loop-i-init t c = items_start _ _ _ _ c.requires
+
+pub are_data-slice_bounds-leaf-count : goal.are_data-slice_bounds-leaf-count
+are_data-slice_bounds-leaf-count t c = items_end c.loop-i.invariant
+
+pub are_data-slice_bounds-leaf-start : goal.are_data-slice_bounds-leaf-start
+are_data-slice_bounds-leaf-start t c = items_end c.loop-i.invariant
+
+pub are_data-leaf-k-requires : goal.are_data-leaf-k-requires
+are_data-leaf-k-requires t c = items_some c.loop-i.invariant c.loop-i-test.true
+
+pub are_data-overflow_add-at : goal.are_data-overflow_add-at
+are_data-overflow_add-at t c =
+    omega (
+      arith,
+      c.well_formed,
+      items_leaf_fit c.loop-i.invariant c.loop-i-test.true _ (c.leaf-k.ensures.0 (omega (arith, c.if-k-ne0.true))),
+    )
+
+pub are_data-loop-i-preserved-then-k-ne0 : goal.are_data-loop-i-preserved-then-k-ne0
+are_data-loop-i-preserved-then-k-ne0 t c =
+    items_leaf c.loop-i.invariant c.loop-i-test.true _
+    (c.leaf-k.ensures.0 (omega (arith, c.if-k-ne0.true)))
+
+pub are_data-slice_bounds-is_data-count : goal.are_data-slice_bounds-is_data-count
+are_data-slice_bounds-is_data-count t c = items_end c.loop-i.invariant
+
+pub are_data-slice_bounds-is_data-start : goal.are_data-slice_bounds-is_data-start
+are_data-slice_bounds-is_data-start t c = items_end c.loop-i.invariant
+
+pub are_data-is_data-requires : goal.are_data-is_data-requires
+are_data-is_data-requires t c = (omega (arith, c.requires-raw.0), items_ok c.loop-i.invariant c.loop-i-test.true)
+
+pub are_data-overflow_add-at-in-Yes : goal.are_data-overflow_add-at-in-Yes
+are_data-overflow_add-at-in-Yes t c =
+    omega (
+      arith,
+      items_fit c.loop-i.invariant c.loop-i-test.true _ _ c.in-Yes.is c.is_data.ensures,
+    )
+
+pub are_data-returns-in-No : goal.are_data-returns-in-No
+are_data-returns-in-No t c = items_no c.loop-i.invariant c.loop-i-test.true _ c.in-No.is c.is_data.ensures
+
+pub are_data-loop-i-preserved : goal.are_data-loop-i-preserved
+are_data-loop-i-preserved t c = items_again c.loop-i.invariant c.loop-i-test.true _ _ c.in-Yes.is c.is_data.ensures
+
+pub are_data-returns : goal.are_data-returns
+are_data-returns t c = items_done c.loop-i.invariant c.loop-i-test.false
+
+pub hold_data-loop-i-init : goal.hold_data-loop-i-init
+hold_data-loop-i-init t c = entries_start _ _ _ _ c.requires
+
+pub hold_data-overflow_add-p : goal.hold_data-overflow_add-p
+hold_data-overflow_add-p t c = omega (arith, entries_two c.loop-i.invariant c.loop-i-test.true)
+
+pub hold_data-slice_bounds-leaf-count : goal.hold_data-slice_bounds-leaf-count
+hold_data-slice_bounds-leaf-count t c = omega (arith, entries_two c.loop-i.invariant c.loop-i-test.true)
+
+pub hold_data-slice_bounds-leaf-start : goal.hold_data-slice_bounds-leaf-start
+hold_data-slice_bounds-leaf-start t c = omega (arith, entries_two c.loop-i.invariant c.loop-i-test.true)
+
+pub hold_data-leaf-k-requires : goal.hold_data-leaf-k-requires
+hold_data-leaf-k-requires t c = entries_some c.loop-i.invariant c.loop-i-test.true
+
+pub hold_data-overflow_add-at : goal.hold_data-overflow_add-at
+hold_data-overflow_add-at t c =
+    omega (
+      arith,
+      c.well_formed,
+      entries_leaf_fit c.loop-i.invariant c.loop-i-test.true _ (c.leaf-k.ensures.0 (omega (arith, c.if-k-ne0.true))),
+    )
+
+pub hold_data-loop-i-preserved-then-k-ne0 : goal.hold_data-loop-i-preserved-then-k-ne0
+hold_data-loop-i-preserved-then-k-ne0 t c =
+    entries_leaf c.loop-i.invariant c.loop-i-test.true _
+    (c.leaf-k.ensures.0 (omega (arith, c.if-k-ne0.true)))
+
+pub hold_data-slice_bounds-is_data-count : goal.hold_data-slice_bounds-is_data-count
+hold_data-slice_bounds-is_data-count t c = omega (arith, entries_two c.loop-i.invariant c.loop-i-test.true)
+
+pub hold_data-slice_bounds-is_data-start : goal.hold_data-slice_bounds-is_data-start
+hold_data-slice_bounds-is_data-start t c = omega (arith, entries_two c.loop-i.invariant c.loop-i-test.true)
+
+pub hold_data-is_data-requires : goal.hold_data-is_data-requires
+hold_data-is_data-requires t c = (omega (arith, c.requires-raw.0), entries_ok c.loop-i.invariant c.loop-i-test.true)
+
+pub hold_data-overflow_add-at-in-Yes : goal.hold_data-overflow_add-at-in-Yes
+hold_data-overflow_add-at-in-Yes t c =
+    omega (
+      arith,
+      entries_fit c.loop-i.invariant c.loop-i-test.true _ _ c.in-Yes.is c.is_data.ensures,
+    )
+
+pub hold_data-returns-in-No : goal.hold_data-returns-in-No
+hold_data-returns-in-No t c = entries_no c.loop-i.invariant c.loop-i-test.true _ c.in-No.is c.is_data.ensures
+
+pub hold_data-loop-i-preserved : goal.hold_data-loop-i-preserved
+hold_data-loop-i-preserved t c = entries_again c.loop-i.invariant c.loop-i-test.true _ _ c.in-Yes.is c.is_data.ensures
+
+pub hold_data-returns : goal.hold_data-returns
+hold_data-returns t c = entries_done c.loop-i.invariant c.loop-i-test.false
+
+pub is_data-bounds-v-0 : goal.is_data-bounds-v-0
+is_data-bounds-v-0 t c = has_byte _ _ c.requires
+
+pub is_data-slice_bounds-are_data-count : goal.is_data-slice_bounds-are_data-count
+is_data-slice_bounds-are_data-count t c = (ranges (order_of c.args.reading) _ _ c.requires c.in-9.is).three
+
+pub is_data-slice_bounds-are_data-start : goal.is_data-slice_bounds-are_data-start
+is_data-slice_bounds-are_data-start t c = (ranges (order_of c.args.reading) _ _ c.requires c.in-9.is).three
+
+pub is_data-overflow_sub-left : goal.is_data-overflow_sub-left
+is_data-overflow_sub-left t c = has_level _ _ c.requires
+
+pub is_data-are_data-requires : goal.is_data-are_data-requires
+is_data-are_data-requires t c =
+    let pre = c.requires-raw in
+    (omega (arith, pre.0, has_level _ _ pre.1), run_ok (ranges (order_of c.args.reading) _ _ pre.1 c.in-9.is))
+
+pub is_data-add_size-requires : goal.is_data-add_size-requires
+is_data-add_size-requires t c =
+    run_fits (ranges (order_of c.args.reading) _ _ c.requires
+    c.in-9.is) _ c.are_data.ensures
+
+pub is_data-slice_bounds-are_data-count-in-10 : goal.is_data-slice_bounds-are_data-count-in-10
+is_data-slice_bounds-are_data-count-in-10 t c = (lists (order_of c.args.reading) _ _ c.requires _ refl c.in-10.is).three
+
+pub is_data-slice_bounds-are_data-start-in-10 : goal.is_data-slice_bounds-are_data-start-in-10
+is_data-slice_bounds-are_data-start-in-10 t c = (lists (order_of c.args.reading) _ _ c.requires _ refl c.in-10.is).three
+
+pub is_data-word_at-requires : goal.is_data-word_at-requires
+is_data-word_at-requires t c = (lists (order_of c.args.reading) _ _ c.requires _ refl c.in-10.is).three
+
+pub is_data-overflow_sub-left-in-10 : goal.is_data-overflow_sub-left-in-10
+is_data-overflow_sub-left-in-10 t c = has_level _ _ c.requires
+
+pub is_data-are_data-requires-in-10 : goal.is_data-are_data-requires-in-10
+is_data-are_data-requires-in-10 t c =
+    let pre = c.requires-raw in
+    (omega (arith, pre.0, has_level _ _ pre.1), run_ok (lists (order_of c.args.reading) _ _ pre.1 _ c.word_at.ensures.0 c.in-10.is))
+
+pub is_data-add_size-requires-in-10 : goal.is_data-add_size-requires-in-10
+is_data-add_size-requires-in-10 t c =
+    run_fits
+    (lists (order_of c.args.reading) _ _ c.requires _ c.word_at.ensures.0
+    c.in-10.is) _
+    c.are_data-in-10.ensures
+
+pub is_data-slice_bounds-hold_data-count : goal.is_data-slice_bounds-hold_data-count
+is_data-slice_bounds-hold_data-count t c = (contexts (order_of c.args.reading) _ _ c.requires _ refl c.in-11.is).three
+
+pub is_data-slice_bounds-hold_data-start : goal.is_data-slice_bounds-hold_data-start
+is_data-slice_bounds-hold_data-start t c = (contexts (order_of c.args.reading) _ _ c.requires _ refl c.in-11.is).three
+
+pub is_data-word_at-requires-in-11 : goal.is_data-word_at-requires-in-11
+is_data-word_at-requires-in-11 t c = (contexts (order_of c.args.reading) _ _ c.requires _ refl c.in-11.is).three
+
+pub is_data-overflow_sub-left-in-11 : goal.is_data-overflow_sub-left-in-11
+is_data-overflow_sub-left-in-11 t c = has_level _ _ c.requires
+
+pub is_data-hold_data-requires : goal.is_data-hold_data-requires
+is_data-hold_data-requires t c =
+    let pre = c.requires-raw in
+    (omega (arith, pre.0, has_level _ _ pre.1), run_ok (contexts (order_of c.args.reading) _ _ pre.1 _ c.word_at-in-11.ensures.0 c.in-11.is))
+
+pub is_data-add_size-requires-in-11 : goal.is_data-add_size-requires-in-11
+is_data-add_size-requires-in-11 t c =
+    run_fits
+    (contexts (order_of c.args.reading) _ _ c.requires _
+    c.word_at-in-11.ensures.0 c.in-11.is)
+    _ c.hold_data.ensures
+
+pub is_data-returns-then-is_strict : goal.is_data-returns-then-is_strict
+is_data-returns-then-is_strict t c =
+    definition_done (order_of c.args.reading) _ _ c.requires c.in-12.is
+    (sym c.is_strict.ensures ∙ c.if-is_strict.true) _ c.skip.ensures
+
+pub is_data-overflow_add-result : goal.is_data-overflow_add-result
+is_data-overflow_add-result t c =
+    omega (
+      arith,
+      leaf_fits (order_of c.args.reading) _ _ c.requires _ c.width.ensures
+          (⊎_elim
+          (λ x. leaf_decimal (get_or c.args.v.now 0 0) x.keys1)
+          (λ x. leaf_low (get_or c.args.v.now 0 0) (omega (arith, x.1.taken)))
+          c.in-0-to-8-1.branch),
+    )
+
+pub is_data-returns-in-9 : goal.is_data-returns-in-9
+is_data-returns-in-9 t c =
+    run_done (ranges (order_of c.args.reading) _ _ c.requires
+    c.in-9.is) _ _ c.add_size.ensures
+    c.are_data.ensures
+
+pub is_data-returns-in-10 : goal.is_data-returns-in-10
+is_data-returns-in-10 t c =
+    run_done (lists (order_of c.args.reading) _ _ c.requires _ c.word_at.ensures.0 c.in-10.is) _ _
+    c.add_size-in-10.ensures
+    c.are_data-in-10.ensures
+
+pub is_data-returns-in-11 : goal.is_data-returns-in-11
+is_data-returns-in-11 t c =
+    run_done (contexts (order_of c.args.reading) _ _ c.requires _ c.word_at-in-11.ensures.0 c.in-11.is) _ _
+    c.add_size-in-11.ensures c.hold_data.ensures
+
+pub is_data-returns-else-is_strict : goal.is_data-returns-else-is_strict
+is_data-returns-else-is_strict t c =
+    definition_no (order_of c.args.reading) _ _ c.requires c.in-12.is
+    (sym c.is_strict.ensures ∙ c.if-is_strict.false)
+
+pub is_data-returns-in_default : goal.is_data-returns-in_default
+is_data-returns-in_default t c =
+    let rest = c.in_default.in_default-own.rest in
+    other_done (order_of c.args.reading) _ _ c.requires
+    (omega (arith, c.in_default.if-c-lt9-own.false, rest.1, rest.0.1, rest.0.0.1, rest.0.0.0.1)) rest.0.0.0.0.1
+
+pub is_data-returns-in-0-to-8 : goal.is_data-returns-in-0-to-8
+is_data-returns-in-0-to-8 t c =
+    leaf_done (order_of c.args.reading) _ _ c.requires _ c.width.ensures
+    (⊎_elim
+    (λ x. leaf_decimal (get_or c.args.v.now 0 0) x.keys1)
+    (λ x. leaf_low (get_or c.args.v.now 0 0) (omega (arith, x.1.taken)))
+    c.in-0-to-8-1.branch)

@@ -1,0 +1,10 @@
+-- `lines::text::encode` meets its contract: the output keeps its length. Assumes nothing.
+use borrow.Author.Rules.{rules}
+use Prim.Native.Nat.{◌≤◌, ◌-◌}
+use lib.ListN.{length, length-set}
+use mathlib.Core.Path.{◌≡◌}
+use native.Mathlib.Omega.{arith}
+use Rattle.lines.proofs.text.encode.Goals as goal
+
+pub bounds-out-k-in-loop-k : goal.bounds-out-k-in-loop-k
+bounds-out-k-in-loop-k c = simp length-set (omega arith)

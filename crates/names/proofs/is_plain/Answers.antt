@@ -1,0 +1,29 @@
+-- `names::is_plain` meets its contract: the loop keeps that all bytes are plain exactly when the largest so far and those that are left are.
+-- Assumes nothing.
+use mathlib.Core.Logic.{⊎_elim}
+use mathlib.Core.Path.{◌≡◌, refl}
+use mathlib.Core.Bool.{◌&&◌}
+use lib.ListN.{length, drop}
+use lib.Dec.{leb}
+use Prim.Native.Nat.{◌-◌}
+use Rattle.names.specs.Parts.{plain}
+use Rattle.names.proofs.Parts.{plain_ended, plain_max, plain_min}
+use borrow.Author.Rules.{rules}
+use native.Mathlib.Omega.{arith}
+use Rattle.names.proofs.is_plain.Goals as goal
+
+pub loop-i-init : goal.loop-i-init
+loop-i-init c = refl
+
+pub loop-i-smaller : goal.loop-i-smaller
+loop-i-smaller c = omega (arith, c.loop-i-test.true)
+
+pub loop-i-preserved : goal.loop-i-preserved
+loop-i-preserved c =
+    ⊎_elim
+    (λ w. plain_max c.args.s.now c.loop-i.most c.loop-i.i c.loop-i.invariant c.loop-i-test.true w.0.taken _ w.1)
+    (λ w. plain_min c.args.s.now c.loop-i.most c.loop-i.i c.loop-i.invariant c.loop-i-test.true w.0.left _ w.1)
+    c.if-most-b.branch
+
+pub returns : goal.returns
+returns c = plain_ended c.args.s.now c.loop-i.most c.loop-i.i c.loop-i.invariant c.loop-i-test.false

@@ -1,0 +1,18 @@
+-- `output::put_name` meets its contract: the low byte and the high byte are the name's bytes.
+-- Assumes nothing.
+use borrow.Author.Rules.{rules}
+use mathlib.Core.Path.{sym, ap, ◌∙◌}
+use mathlib.Core.List.{List}
+use Prim.Native.Nat.{ℕ}
+use Rattle.output.specs.Output.{puts}
+use Rattle.output.proofs.FillLaws.{two_bytes}
+use Rattle.output.proofs.put_name.Goals as goal
+
+pub returns : goal.returns
+returns c =
+    let put = c.put in record {
+      value = put.ensures.0;
+      out_after = put.ensures.1 ∙ ap
+          (λ (z : List ℕ). puts c.args.at z c.args.out.now)
+          (sym (two_bytes c.args.name _ _ c.requires.name_lt_name_end c.low.ensures c.high.ensures));
+    }

@@ -1,0 +1,22 @@
+-- `paths::len` meets its contract: the refusals first; the count in the bytes is that of the entries.
+-- Assumes nothing.
+use borrow.Author.Rules.{rules}
+use Rattle.form.proofs.Whole.{bytes_of}
+use Rattle.paths.proofs.CallContracts.{is_refused, opened, call_refused, len_done}
+use native.Mathlib.Omega.{arith}
+use Rattle.paths.proofs.len.Goals as goal
+
+pub returns-then-n-ne0 : goal.returns-then-n-ne0
+returns-then-n-ne0 c =
+    call_refused _ _ _ (is_refused c.args.c.now 0 c.refusal-n.result c.refusal-n.ensures c.if-n-ne0.true)
+
+pub word_at-requires : goal.word_at-requires
+word_at-requires c =
+    omega
+    (arith, (opened c.args.c.now 0 c.refusal-n.result c.refusal-n.ensures c.if-n-ne0.false).ctx.three)
+
+pub returns : goal.returns
+returns c =
+    let c-now = c.args.c.now in
+    len_done c-now (opened c-now 0 c.refusal-n.result c.refusal-n.ensures c.if-n-ne0.false)
+    (bytes_of c-now c.shared_slice_known-1.given) c.word_at.result c.word_at.ensures.0

@@ -1,0 +1,12 @@
+-- `ranges::opened` meets its contract: a byte over 3 is refused; the test on the byte is the definition's.
+-- Assumes nothing.
+use borrow.Author.Rules.{rules}
+use Rattle.ranges.proofs.Questions.{interval_refused, interval_done}
+use Rattle.ranges.specs.Ranges as ranges
+use Rattle.ranges.proofs.opened.Goals as goal
+
+pub returns-then-i-gt3 : goal.returns-then-i-gt3
+returns-then-i-gt3 c = interval_refused ranges.opened c.if-i-gt3.taken
+
+pub returns : goal.returns
+returns c = interval_done ranges.opened c.if-i-gt3.left c.answer.ensures

@@ -1,0 +1,213 @@
+-- `types::instance::instance_fields` meets its contract: two ascending lists of names in step, as in conformance, with Null or the equal type in place of conformance.
+-- Assumes nothing.
+use Prim.Native.Nat.{◌+◌, ◌-◌, ◌<◌, ◌≤◌}
+use borrow.Author.Rules.{rules}
+use native.Mathlib.Omega.{arith}
+use mathlib.Core.Path.{refl}
+use mathlib.Core.Logic.{⊎_elim}
+use lib.ListN.{length}
+use Rattle.form.specs.Limits.{name_width}
+use Rattle.order.specs.Document.{null_or_same}
+use Rattle.order.specs.Size.{size, size_fields}
+use Rattle.types.specs.At.{type_at, fields_at}
+use Rattle.types.specs.Conform.{conform_by, entries}
+use Rattle.form.specs.Trees.{no_fields, field}
+use Rattle.order.specs.Ascending.{AscFields}
+use Rattle.types.proofs.Pairs.{pair, pair_in, sized_in}
+use Rattle.types.proofs.SortedNames.{readable_type, fields_run, NamesGo, names_start, cut_a, cut_b, falls_a, names_left, names_done}
+use Rattle.types.proofs.SortedNames.{names_missing, names_unread, names_skip, b_more, names_apart, names_common}
+use Rattle.types.proofs.EntryTests.{fields_tests}
+use Rattle.types.proofs.TypeConformance.{sized_part, unsized_part}
+use Rattle.types.proofs.instance.instance_fields.Goals as goal
+
+there : (c : Joined-j-m) →
+    let c5 = c.before.before.before.before.before in
+    c5.loop.j < c5.before.before.before.args.m → c5.loop.bt + name_width ≤ length
+    c5.before.before.before.args.b.now
+there c h = ⊎_elim (λ w. omega (arith, w.1.left)) (λ w. absurd (omega (arith, w.left, h))) c.if3.branch
+
+pub loop-i-init : goal.loop-i-init
+loop-i-init c =
+    let args = c.args in
+    names_start (fields_run args.left) (fields_tests null_or_same) args.left args.a.now
+    args.n args.b.now args.m
+
+pub overflow_sub-a : goal.overflow_sub-a
+overflow_sub-a c = omega (arith, c.loop-i.invariant)
+
+pub returns-then-a-at-lt-NAME_WIDTH : goal.returns-then-a-at-lt-NAME_WIDTH
+returns-then-a-at-lt-NAME_WIDTH c = cut_a c.loop-i.invariant 3 _ c.loop-i-test.true c.if-a-at-lt-NAME_WIDTH.true
+
+pub returns-then-name-least : goal.returns-then-name-least
+returns-then-name-least c =
+    falls_a c.loop-i.invariant 3 _
+    c.loop-i-test.true c.name_at-name.result
+    c.name_at-name.ensures.0 c.if-name-least.true
+
+pub overflow_sub-b : goal.overflow_sub-b
+overflow_sub-b c = omega (arith, c.loop-i.invariant)
+
+pub returns-then-b-bt-lt-NAME_WIDTH : goal.returns-then-b-bt-lt-NAME_WIDTH
+returns-then-b-bt-lt-NAME_WIDTH c =
+    cut_b c.loop-i.invariant 3 _ c.if-j-m.true
+    c.if-b-bt-lt-NAME_WIDTH.true
+
+pub next_name-next-requires : goal.next_name-next-requires
+next_name-next-requires c = there (goal.at.next_name-next-requires c).Joined-j-m
+
+pub returns-then-next-name : goal.returns-then-next-name
+returns-then-next-name c =
+    names_missing c.loop-i.invariant 3 _ c.loop-i-test.true
+    (omega (arith, c.loop-i.invariant, c.if-a-at-lt-NAME_WIDTH.false)) c.name_at-name.result
+    c.next_name-next.result c.name_at-name.ensures.0 c.if-name-least.false
+    c.name_at-name.ensures.1 c.next_name-next.ensures.value c.if-next-name.true
+
+pub returns-then-k-eq0 : goal.returns-then-k-eq0
+returns-then-k-eq0 c =
+    names_unread c.loop-i.invariant 3 _ c.loop-i-test.true
+    (omega (arith, c.loop-i.invariant, c.if-a-at-lt-NAME_WIDTH.false)) c.name_at-name.result c.next_name-next.result
+    c.name_at-name.ensures.0 c.if-name-least.false c.name_at-name.ensures.1
+    c.next_name-next.ensures.value
+    (unsized_part c.args.left c.args.a.now
+    (c.loop-i.at + name_width) c.skip-k.result c.skip-k.ensures c.if-k-eq0.true)
+
+pub overflow_add-at : goal.overflow_add-at
+overflow_add-at c =
+    omega (
+      arith,
+      let args = c.args in
+          sized_in (readable_type args.left) args.a.now (c.loop-i.at + name_width)
+          c.skip-k.result (omega (arith, c.loop-i.invariant, c.if-a-at-lt-NAME_WIDTH.false))
+          (sized_part args.left args.a.now (c.loop-i.at + name_width) c.skip-k.result
+          c.skip-k.ensures c.if-k-eq0.false),
+    )
+
+pub loop-i-preserved-then-name-next : goal.loop-i-preserved-then-name-next
+loop-i-preserved-then-name-next c =
+    names_skip c.loop-i.invariant 3 0 c.loop-i-test.true
+    (omega (arith, c.loop-i.invariant, c.if-a-at-lt-NAME_WIDTH.false)) c.name_at-name.result c.next_name-next.result
+    c.name_at-name.ensures.0 c.if-name-least.false c.name_at-name.ensures.1
+    c.next_name-next.ensures.value c.if-name-next.true c.skip-k.result
+    (sized_part c.args.left c.args.a.now
+    (c.loop-i.at + name_width) c.skip-k.result c.skip-k.ensures c.if-k-eq0.false)
+
+pub overflow_add-q : goal.overflow_add-q
+overflow_add-q c =
+    omega (
+      arith,
+      (there (goal.at.overflow_add-q c).Joined-j-m
+          (b_more c.loop-i.invariant 3 0 c.loop-i-test.true
+          (omega (arith, c.loop-i.invariant, c.if-a-at-lt-NAME_WIDTH.false)) c.name_at-name.result
+          c.next_name-next.result c.name_at-name.ensures.0 c.if-name-least.false
+          c.name_at-name.ensures.1 c.next_name-next.ensures.value c.if-name-next.false c.if-next-name.false)),
+    )
+
+pub slice_bounds-null_or_same-count-in-loop-i : goal.slice_bounds-null_or_same-count-in-loop-i
+slice_bounds-null_or_same-count-in-loop-i c =
+    omega (
+      arith,
+      (there (goal.at.slice_bounds-null_or_same-count-in-loop-i c).Joined-j-m
+          (b_more c.loop-i.invariant 3 0 c.loop-i-test.true
+          (omega (arith, c.loop-i.invariant, c.if-a-at-lt-NAME_WIDTH.false)) c.name_at-name.result
+          c.next_name-next.result c.name_at-name.ensures.0 c.if-name-least.false
+          c.name_at-name.ensures.1 c.next_name-next.ensures.value c.if-name-next.false
+          c.if-next-name.false)),
+    )
+
+pub slice_bounds-null_or_same-start-in-loop-i : goal.slice_bounds-null_or_same-start-in-loop-i
+slice_bounds-null_or_same-start-in-loop-i c =
+    omega (
+      arith,
+      (there (goal.at.slice_bounds-null_or_same-start-in-loop-i c).Joined-j-m
+          (b_more c.loop-i.invariant 3 0 c.loop-i-test.true
+          (omega (arith, c.loop-i.invariant, c.if-a-at-lt-NAME_WIDTH.false)) c.name_at-name.result
+          c.next_name-next.result c.name_at-name.ensures.0 c.if-name-least.false
+          c.name_at-name.ensures.1 c.next_name-next.ensures.value c.if-name-next.false
+          c.if-next-name.false)),
+    )
+
+pub returns-then-x-eq0 : goal.returns-then-x-eq0
+returns-then-x-eq0 c =
+    names_apart c.loop-i.invariant 3 _ c.loop-i-test.true
+    (omega (arith, c.loop-i.invariant, c.if-a-at-lt-NAME_WIDTH.false)) c.name_at-name.result
+    c.next_name-next.result c.name_at-name.ensures.0 c.if-name-least.false
+    c.name_at-name.ensures.1 c.next_name-next.ensures.value c.if-name-next.false c.if-next-name.false
+    c.null_or_same-x.result c.null_or_same-x.new.other
+    c.null_or_same-x.ensures c.if-x-eq0.true
+
+pub overflow_add-at-in-loop-i : goal.overflow_add-at-in-loop-i
+overflow_add-at-in-loop-i c =
+    omega (
+      arith,
+      let args = c.args in
+          let loop = c.loop-i in
+          pair_in (readable_type args.left) (readable_type args.left) null_or_same args.a.now
+          (loop.at + name_width) args.b.now (loop.bt + name_width) c.null_or_same-x.result
+          c.null_or_same-x.new.other (omega (arith, loop.invariant, c.if-a-at-lt-NAME_WIDTH.false))
+          (there (goal.at.overflow_add-at-in-loop-i c).Joined-j-m
+          (b_more loop.invariant 3 0 c.loop-i-test.true
+          (omega (arith, loop.invariant, c.if-a-at-lt-NAME_WIDTH.false)) c.name_at-name.result c.next_name-next.result
+          c.name_at-name.ensures.0 c.if-name-least.false c.name_at-name.ensures.1
+          c.next_name-next.ensures.value c.if-name-next.false c.if-next-name.false))
+          (pair (readable_type args.left) (readable_type args.left) null_or_same args.a.now
+          (loop.at + name_width) args.b.now (loop.bt + name_width) c.null_or_same-x.result
+          c.null_or_same-x.new.other c.null_or_same-x.ensures c.if-x-eq0.false),
+    )
+
+pub overflow_add-bt : goal.overflow_add-bt
+overflow_add-bt c =
+    omega (
+      arith,
+      let args = c.args in
+          let loop = c.loop-i in
+          pair_in (readable_type args.left) (readable_type args.left) null_or_same args.a.now
+          (loop.at + name_width) args.b.now (loop.bt + name_width) c.null_or_same-x.result
+          c.null_or_same-x.new.other (omega (arith, loop.invariant, c.if-a-at-lt-NAME_WIDTH.false))
+          (there (goal.at.overflow_add-bt c).Joined-j-m
+          (b_more loop.invariant 3 0 c.loop-i-test.true
+          (omega (arith, loop.invariant, c.if-a-at-lt-NAME_WIDTH.false)) c.name_at-name.result c.next_name-next.result
+          c.name_at-name.ensures.0 c.if-name-least.false c.name_at-name.ensures.1
+          c.next_name-next.ensures.value c.if-name-next.false c.if-next-name.false))
+          (pair (readable_type args.left) (readable_type args.left) null_or_same args.a.now
+          (loop.at + name_width) args.b.now (loop.bt + name_width) c.null_or_same-x.result
+          c.null_or_same-x.new.other c.null_or_same-x.ensures c.if-x-eq0.false),
+    )
+
+pub overflow_add-j : goal.overflow_add-j
+overflow_add-j c =
+    omega (
+      arith,
+      b_more c.loop-i.invariant 3 0 c.loop-i-test.true
+          (omega (arith, c.loop-i.invariant, c.if-a-at-lt-NAME_WIDTH.false))
+          c.name_at-name.result c.next_name-next.result c.name_at-name.ensures.0 c.if-name-least.false
+          c.name_at-name.ensures.1 c.next_name-next.ensures.value c.if-name-next.false c.if-next-name.false,
+    )
+
+pub loop-i-preserved : goal.loop-i-preserved
+loop-i-preserved c =
+    let args = c.args in
+    names_common c.loop-i.invariant 3 0 c.loop-i-test.true
+    (omega (arith, c.loop-i.invariant, c.if-a-at-lt-NAME_WIDTH.false)) c.name_at-name.result c.next_name-next.result
+    c.name_at-name.ensures.0 c.if-name-least.false c.name_at-name.ensures.1
+    c.next_name-next.ensures.value c.if-name-next.false c.if-next-name.false
+    (there (goal.at.loop-i-preserved c).Joined-j-m
+    (b_more c.loop-i.invariant 3 0 c.loop-i-test.true
+    (omega (arith, c.loop-i.invariant, c.if-a-at-lt-NAME_WIDTH.false)) c.name_at-name.result c.next_name-next.result
+    c.name_at-name.ensures.0 c.if-name-least.false c.name_at-name.ensures.1
+    c.next_name-next.ensures.value c.if-name-next.false c.if-next-name.false))
+    c.null_or_same-x.result c.null_or_same-x.new.other
+    (pair (readable_type args.left) (readable_type args.left) null_or_same args.a.now
+    (c.loop-i.at + name_width) args.b.now (c.loop-i.bt + name_width) c.null_or_same-x.result
+    c.null_or_same-x.new.other c.null_or_same-x.ensures c.if-x-eq0.false)
+
+pub returns-then-j-m-2 : goal.returns-then-j-m-2
+returns-then-j-m-2 c = names_left c.loop-i.invariant 3 _ c.loop-i-test.false c.if-j-m-2.true
+
+pub overflow_add-other : goal.overflow_add-other
+overflow_add-other c = omega (arith, c.loop-i.invariant, c.requires)
+
+pub overflow_add-result : goal.overflow_add-result
+overflow_add-result c = omega (arith, c.loop-i.invariant, c.requires)
+
+pub returns : goal.returns
+returns c = names_done c.loop-i.invariant 3 _ c.loop-i-test.false c.if-j-m-2.false _ refl refl

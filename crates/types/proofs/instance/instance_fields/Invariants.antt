@@ -1,0 +1,29 @@
+-- `types::instance::instance_fields` meets its contract: two ascending lists of names in step, as in conformance, with Null or the equal type in place of conformance.
+use Prim.Native.Nat.{◌+◌, ◌-◌, ◌<◌, ◌≤◌}
+use borrow.Author.Rules.{rules}
+use native.Mathlib.Omega.{arith}
+use mathlib.Core.Path.{refl}
+use mathlib.Core.Logic.{⊎_elim}
+use lib.ListN.{length}
+use Rattle.form.specs.Limits.{name_width}
+use Rattle.order.specs.Document.{null_or_same}
+use Rattle.order.specs.Size.{size, size_fields}
+use Rattle.types.specs.At.{type_at, fields_at}
+use Rattle.types.specs.Conform.{conform_by, entries}
+use Rattle.form.specs.Trees.{no_fields, field}
+use Rattle.order.specs.Ascending.{AscFields}
+use Rattle.types.proofs.Pairs.{pair, pair_in, sized_in}
+use Rattle.types.proofs.SortedNames.{readable_type, fields_run, NamesGo, names_start, cut_a, cut_b, falls_a, names_left, names_done}
+use Rattle.types.proofs.SortedNames.{names_missing, names_unread, names_skip, b_more, names_apart, names_common}
+use Rattle.types.proofs.EntryTests.{fields_tests}
+use Rattle.types.proofs.TypeConformance.{sized_part, unsized_part}
+use Rattle.types.proofs.instance.instance_fields.Given as goal
+
+abbrev pub invariant-loop-i : goal.invariant-loop-i
+invariant-loop-i l = NamesGo size size_fields (type_at l.left) (fields_at l.left) no_fields field AscFields null_or_same
+    (entries null_or_same) l.left
+    (conform_by size_fields size_fields (entries null_or_same) (fields_at l.left l.n 0 l.a) (fields_at l.left l.m 0 l.b))
+    l.a l.n l.b l.m l.at l.least l.i l.bt l.j
+
+abbrev pub decreases-loop-i : goal.decreases-loop-i
+decreases-loop-i l = l.n - l.i

@@ -1,0 +1,21 @@
+-- `types::instance_of` meets its contract: a yes of the walk is the answer; without it the readers give the refusals, and then the answer is no.
+-- Assumes nothing.
+use borrow.Author.Rules.{rules}
+use mathlib.Core.Path.{sym, ◌∙◌}
+use Rattle.form.specs.Read.{read_type}
+use Rattle.order.specs.Document.{is_instance_of}
+use Rattle.types.proofs.TwoArguments.{asked_yes, not_yes}
+use Rattle.types.specs.Calls.{instance_of, read_then_no}
+use Rattle.types.proofs.instance_of.Goals as goal
+
+pub returns-then-is_instance : goal.returns-then-is_instance
+returns-then-is_instance c =
+    let args = c.args in
+    asked_yes (instance_of args.a.now args.b.now) (sym c.if-is_instance.true ∙ c.is_instance.ensures)
+
+pub returns : goal.returns
+unfolding instance_of read_then_no
+returns c =
+    let args = c.args in
+    c.refuse.ensures
+    ∙ not_yes is_instance_of (read_type args.a.now) (read_type args.b.now) (sym c.if-is_instance.false ∙ c.is_instance.ensures)

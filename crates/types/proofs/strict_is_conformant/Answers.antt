@@ -1,0 +1,22 @@
+-- `types::strict_is_conformant` meets its contract: a yes of the walk is the answer; without it the readers give the refusals, and then the answer is no.
+-- Assumes nothing.
+use borrow.Author.Rules.{rules}
+use mathlib.Core.Path.{sym, ◌∙◌}
+use Rattle.form.specs.Read.{read_type}
+use Rattle.order.specs.Order.{strict_order}
+use Rattle.order.specs.Types.{le}
+use Rattle.types.proofs.TwoArguments.{asked_yes, not_yes}
+use Rattle.types.specs.Calls.{is_conformant_by, read_then_no}
+use Rattle.types.proofs.strict_is_conformant.Goals as goal
+
+pub returns-then-passes : goal.returns-then-passes
+returns-then-passes c =
+    let args = c.args in
+    asked_yes (is_conformant_by strict_order args.a.now args.b.now) (sym c.if-passes.true ∙ c.passes.ensures)
+
+pub returns : goal.returns
+unfolding is_conformant_by read_then_no
+returns c =
+    let args = c.args in
+    c.refuse.ensures
+    ∙ not_yes (le strict_order) (read_type args.a.now) (read_type args.b.now) (sym c.if-passes.false ∙ c.passes.ensures)
