@@ -48,6 +48,7 @@ and_both true b p q = q
 and_both false b p q = p
 
 all_at : (f : Simple → Bool) (s : Simple) (xs : List Simple) → In s xs → all_of f xs ≡ true → f s ≡ true
+all_at f s [] x'' e = elim x'' [ ]
 all_at f s (x ∷ xs) here e = and_left (f s) (all_of f xs) e
 all_at f s (x ∷ xs) (there i) e = all_at f s xs i (and_right (f x) (all_of f xs) e)
 
@@ -68,6 +69,7 @@ first_finds f (s ∷ xs) e = step (f s) refl (λ h. first_finds f xs h) e
     step false h ih p = ih p
 
 any_from_lem : (f : Simple → Bool) (s : Simple) (xs : List Simple) → In s xs → f s ≡ true → any_of f xs ≡ true
+any_from_lem f s [] x'' e = elim x'' [ ]
 any_from_lem f s (x ∷ xs) here e = ap (λ q. q || any_of f xs) e
 any_from_lem f s (x ∷ xs) (there i) e = step (f x) (any_from_lem f s xs i e)
   where

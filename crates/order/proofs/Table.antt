@@ -119,6 +119,7 @@ module _ (r : Simple → Simple → Bool) (o : is_ordered r ≡ true) (j : has_j
 
   gather_above : (s t c : Simple) → r c s && r c t ≡ true → (xs : List Simple) → In c xs → r c (gather r s t xs) ≡ true
   unfolding gather
+  gather_above s t c h [] x' = elim x' [ ]
   gather_above s t c h (x ∷ xs) here =
       subst (λ q. r c (cond q (join r c (gather r s t xs)) (gather r s t xs)) ≡ true) (sym h)
       (join_left r c (gather r s t xs) (join r c (gather r s t xs)) (join_found c (gather r s t xs)))

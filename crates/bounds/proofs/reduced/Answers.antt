@@ -3,7 +3,6 @@
 use borrow.Author.Rules.{rules}
 use Rattle.bounds.proofs.CallContracts.{fine, reduced_refused, reduced_there, reduced_short, reduced_ready, reduced_done}
 use Rattle.form.specs.Answers.{checked}
-use borrow.Author.Tests.{not-true, not-false}
 use mathlib.Core.Path.{refl, sym, ap, ◌∙◌}
 use Rattle.bounds.proofs.reduced.Goals as goal
 
@@ -20,7 +19,7 @@ returns-then-not-has_room c =
     reduced_short args.t.now args.out.now
     (fine args.t.now c.in-Accepted.level c.check_type.ensures.bytes
     (sym c.check_type.ensures.result_value ∙ ap checked c.in-Accepted.is))
-    _ c.has_room.ensures (not-true _ c.if-not-has_room.true)
+    _ c.has_room.ensures c.if-not-has_room.true
 
 pub same_super-e-requires : goal.same_super-e-requires
 same_super-e-requires c =
@@ -28,7 +27,7 @@ same_super-e-requires c =
       ready = reduced_ready args.t.now args.out.now
           (fine args.t.now c.in-Accepted.level c.check_type.ensures.bytes
           (sym c.check_type.ensures.result_value ∙ ap checked c.in-Accepted.is))
-          _ c.has_room.ensures (not-false _ c.if-not-has_room.false);
+          _ c.has_room.ensures c.if-not-has_room.false;
       a_value = refl;
     }
 
@@ -43,4 +42,4 @@ returns-else-not-has_room c =
     reduced_done args.t.now args.out.now
     (fine args.t.now c.in-Accepted.level c.check_type.ensures.bytes
     (sym c.check_type.ensures.result_value ∙ ap checked c.in-Accepted.is))
-    _ c.has_room.ensures (not-false _ c.if-not-has_room.false) _ _ _ _ c.same_super-e.ensures
+    _ c.has_room.ensures c.if-not-has_room.false _ _ _ _ c.same_super-e.ensures

@@ -1,6 +1,5 @@
 -- `tables::load::is_joined_at` meets its contract: what is left of the types before it decides (`Checking`).
 -- Assumes nothing.
-use borrow.Author.Tests.{not-true, not-false}
 use mathlib.Core.Path.{sym, ◌∙◌}
 use Rattle.tables.proofs.Loops.{Checking, checking_start, checking_fails, checking_next, checking_end}
 use Prim.Native.Nat.{◌-◌}
@@ -19,7 +18,7 @@ loop-j-init c =
 pub returns-then-not-is_row : goal.returns-then-not-is_row
 returns-then-not-is_row c =
     checking_fails c.loop-j.invariant c.loop-j-test.true
-    (sym c.is_row.ensures ∙ not-true _ c.if-not-is_row.true)
+    (sym c.is_row.ensures ∙ c.if-not-is_row.true)
 
 pub loop-j-smaller : goal.loop-j-smaller
 loop-j-smaller c = omega (arith, c.loop-j-test.true)
@@ -27,7 +26,7 @@ loop-j-smaller c = omega (arith, c.loop-j-test.true)
 pub loop-j-preserved : goal.loop-j-preserved
 loop-j-preserved c =
     checking_next c.loop-j.invariant c.loop-j-test.true
-    (sym c.is_row.ensures ∙ not-false _ c.if-not-is_row.false)
+    (sym c.is_row.ensures ∙ c.if-not-is_row.false)
 
 pub returns : goal.returns
 returns c = checking_end c.loop-j.invariant c.loop-j-test.false

@@ -1,6 +1,5 @@
 -- `tables::load::is_ordered_at` meets its contract: three bits, then the loop over the ten types (`Checking`).
 -- Assumes nothing.
-use borrow.Author.Tests.{not-true, not-false}
 use mathlib.Core.Path.{sym, ◌∙◌}
 use Rattle.tables.proofs.Loops.{Checking, checking_start, checking_fails, checking_next, checking_end}
 use Rattle.tables.proofs.CallContracts.{order_own, order_null, order_any, order_rest}
@@ -32,7 +31,7 @@ pub returns-then-not-carries : goal.returns-then-not-carries
 returns-then-not-carries c =
     let args = c.args in
     checking_fails c.loop-j.invariant c.loop-j-test.true
-    (sym c.carries.ensures ∙ not-true _ c.if-not-carries.true) ∙ order_rest args.rows.now args.i c.if-own-i-ne1.false
+    (sym c.carries.ensures ∙ c.if-not-carries.true) ∙ order_rest args.rows.now args.i c.if-own-i-ne1.false
     c.if-rows-i-ne1.false c.if-own-ne1.false
 
 pub loop-j-smaller : goal.loop-j-smaller
@@ -41,7 +40,7 @@ loop-j-smaller c = omega (arith, c.loop-j-test.true)
 pub loop-j-preserved : goal.loop-j-preserved
 loop-j-preserved c =
     checking_next c.loop-j.invariant c.loop-j-test.true
-    (sym c.carries.ensures ∙ not-false _ c.if-not-carries.false)
+    (sym c.carries.ensures ∙ c.if-not-carries.false)
 
 pub returns : goal.returns
 returns c =

@@ -4,7 +4,6 @@ use borrow.Author.Rules.{rules}
 use Prim.Native.Nat.{◌-◌}
 use mathlib.Core.Path.{sym, ap, ◌∙◌}
 use mathlib.Core.Bool.{◌&&◌}
-use borrow.Author.Tests.{not-true, not-false}
 use Rattle.order.specs.Order.{toward, below_in}
 use Rattle.tables.proofs.readings.is_closer.Goals as goal
 
@@ -17,7 +16,7 @@ returns-then-not-is_below c =
     q &&
     (below_in args.reading (toward args.up) (args.d - 32) (args.u - 32) && below_in args.reading (toward args.up) (args.u - 32)
     (args.best - 32)))
-    (sym c.is_below.ensures ∙ not-true _ c.if-not-is_below.true))
+    (sym c.is_below.ensures ∙ c.if-not-is_below.true))
 
 pub returns-then-not-is_below-2 : goal.returns-then-not-is_below-2
 returns-then-not-is_below-2 c =
@@ -28,9 +27,9 @@ returns-then-not-is_below-2 c =
     q &&
     (below_in args.reading (toward args.up) (args.d - 32) (args.u - 32) && below_in args.reading (toward args.up) (args.u - 32)
     (args.best - 32)))
-    (sym c.is_below.ensures ∙ not-false _ c.if-not-is_below.false) ∙ ap
+    (sym c.is_below.ensures ∙ c.if-not-is_below.false) ∙ ap
     (λ q. q && below_in args.reading (toward args.up) (args.u - 32) (args.best - 32))
-    (sym c.is_below-2.ensures ∙ not-true _ c.if-not-is_below-2.true))
+    (sym c.is_below-2.ensures ∙ c.if-not-is_below-2.true))
 
 pub returns : goal.returns
 returns c =
@@ -41,6 +40,6 @@ returns c =
     q &&
     (below_in args.reading (toward args.up) (args.d - 32) (args.u - 32) && below_in args.reading (toward args.up) (args.u - 32)
     (args.best - 32)))
-    (sym c.is_below.ensures ∙ not-false _ c.if-not-is_below.false) ∙ ap
+    (sym c.is_below.ensures ∙ c.if-not-is_below.false) ∙ ap
     (λ q. q && below_in args.reading (toward args.up) (args.u - 32) (args.best - 32))
-    (sym c.is_below-2.ensures ∙ not-false _ c.if-not-is_below-2.false))
+    (sym c.is_below-2.ensures ∙ c.if-not-is_below-2.false))

@@ -4,7 +4,6 @@
 -- Assumes nothing.
 use Prim.Native.Nat.{ℕ, ◌<◌, ◌+◌, ◌*◌, ◌-◌, ◌≤◌}
 use borrow.Author.Rules.{rules}
-use borrow.Author.Tests.{not-true, not-false}
 use native.Mathlib.Omega.{arith}
 use mathlib.Core.Path.{◌≡◌, refl, sym, ◌∙◌}
 use mathlib.Core.Bool.{false}
@@ -40,7 +39,7 @@ there t c h = ⊎_elim (λ w. omega (arith, w.1.left)) (λ w. absurd (omega (ari
 
 looked_at : (t : ℕ) (c : Joined-count-eq0)
     → ignores_at (order_of c.before.before.before.args.reading) c.before.before.before.args.count ≡ false
-looked_at t c = ⊎_elim (λ w. compared_strict (order_of c.before.before.before.args.reading) c.before.before.before.args.count (sym w.1.ensures ∙ not-false _ w.2.left))
+looked_at t c = ⊎_elim (λ w. compared_strict (order_of c.before.before.before.args.reading) c.before.before.before.args.count (sym w.1.ensures ∙ w.2.left))
     (λ w. compared_some (order_of c.before.before.before.args.reading) c.before.before.before.args.count w.left) c.if1.branch
 
 pub conform_fields-loop-i-init : goal.conform_fields-loop-i-init
@@ -372,7 +371,7 @@ pub conform_sig-returns-then-x-eq0 : goal.conform_sig-returns-then-x-eq0
 conform_sig-returns-then-x-eq0 t c =
     let args = c.args in
     passed_over (order_of args.reading) args.left args.a.now args.b.now args.count c.if-count-eq0.true
-    (sym c.is_strict.ensures ∙ not-true _ c.if-not-is_strict.true) 0 _
+    (sym c.is_strict.ensures ∙ c.if-not-is_strict.true) 0 _
     (behind_no any_two args.left args.a.now args.b.now 2 c.skip_both-x.result
     c.skip_both-x.new.other c.skip_both-x.ensures c.if-x-eq0.true _)
 
@@ -406,7 +405,7 @@ pub conform_sig-returns-then-not-is_strict : goal.conform_sig-returns-then-not-i
 conform_sig-returns-then-not-is_strict t c =
     let args = c.args in
     passed_over (order_of args.reading) args.left args.a.now args.b.now args.count c.if-count-eq0.true
-    (sym c.is_strict.ensures ∙ not-true _ c.if-not-is_strict.true) _ _
+    (sym c.is_strict.ensures ∙ c.if-not-is_strict.true) _ _
     (behind_yes any_two args.left args.a.now args.b.now 2 c.skip_both-x.result
     c.skip_both-x.new.other c.skip_both-x.ensures c.if-x-eq0.false _ _ refl refl)
 
