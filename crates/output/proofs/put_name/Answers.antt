@@ -11,8 +11,8 @@ use Rattle.output.proofs.put_name.Goals as goal
 pub returns : goal.returns
 returns c =
     let put = c.put in record {
-      value = put.ensures.0;
-      out_after = put.ensures.1 ∙ ap
+      value = put.ensures.value;
+      out_after = put.ensures.out_after ∙ ap
           (λ (z : List ℕ). puts c.args.at z c.args.out.now)
           (sym (two_bytes c.args.name _ _ c.requires.name_lt_name_end c.low.ensures c.high.ensures));
     }

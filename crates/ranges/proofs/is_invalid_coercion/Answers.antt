@@ -10,12 +10,12 @@ bounds-v-0 c = some_byte (fine c.in-Accepted.is c.check_value.ensures.result_val
 
 pub returns-then-v-ne-NULL : goal.returns-then-v-ne-NULL
 returns-then-v-ne-NULL c =
-    lead_no 1 (null_leads 1) (fine c.in-Accepted.is c.check_value.ensures.result_value) c.if-v-ne-NULL.taken
+    lead_no 1 (null_leads 1) (fine c.in-Accepted.is c.check_value.ensures.result_value) c.if-v-ne-NULL.true
 
 pub bounds-v-1 : goal.bounds-v-1
 bounds-v-1 c =
     lead_byte 1 (null_leads 1)
-    (fine c.in-Accepted.is c.check_value.ensures.result_value) c.if-v-ne-NULL.left
+    (fine c.in-Accepted.is c.check_value.ensures.result_value) c.if-v-ne-NULL.false
 
 pub returns-in-Refused : goal.returns-in-Refused
 returns-in-Refused c =
@@ -24,5 +24,5 @@ returns-in-Refused c =
 
 pub returns-else-v-ne-NULL : goal.returns-else-v-ne-NULL
 returns-else-v-ne-NULL c =
-    lead_done 1 (null_leads 1) (fine c.in-Accepted.is c.check_value.ensures.result_value) c.if-v-ne-NULL.left
+    lead_done 1 (null_leads 1) (fine c.in-Accepted.is c.check_value.ensures.result_value) c.if-v-ne-NULL.false
     c.answer.ensures

@@ -11,12 +11,12 @@ bounds-v-0 c = some_byte (fine c.in-Accepted.is c.check_value.ensures.result_val
 
 pub returns-then-v-ne-BOOLEAN : goal.returns-then-v-ne-BOOLEAN
 returns-then-v-ne-BOOLEAN c =
-    lead_no 1 (boolean_leads true) (fine c.in-Accepted.is c.check_value.ensures.result_value) c.if-v-ne-BOOLEAN.taken
+    lead_no 1 (boolean_leads true) (fine c.in-Accepted.is c.check_value.ensures.result_value) c.if-v-ne-BOOLEAN.true
 
 pub bounds-v-1 : goal.bounds-v-1
 bounds-v-1 c =
     lead_byte 1 (boolean_leads true)
-    (fine c.in-Accepted.is c.check_value.ensures.result_value) c.if-v-ne-BOOLEAN.left
+    (fine c.in-Accepted.is c.check_value.ensures.result_value) c.if-v-ne-BOOLEAN.false
 
 pub returns-in-Refused : goal.returns-in-Refused
 returns-in-Refused c =
@@ -25,5 +25,5 @@ returns-in-Refused c =
 
 pub returns-else-v-ne-BOOLEAN : goal.returns-else-v-ne-BOOLEAN
 returns-else-v-ne-BOOLEAN c =
-    lead_done 1 (boolean_leads true) (fine c.in-Accepted.is c.check_value.ensures.result_value) c.if-v-ne-BOOLEAN.left
+    lead_done 1 (boolean_leads true) (fine c.in-Accepted.is c.check_value.ensures.result_value) c.if-v-ne-BOOLEAN.false
     c.answer.ensures

@@ -9,10 +9,10 @@ pub bounds-v-0 : goal.bounds-v-0
 bounds-v-0 c = some_byte (fine c.in-Accepted.is c.check_value.ensures.result_value)
 
 pub returns-then-v-ne-RANGE : goal.returns-then-v-ne-RANGE
-returns-then-v-ne-RANGE c = range_no (fine c.in-Accepted.is c.check_value.ensures.result_value) c.if-v-ne-RANGE.taken
+returns-then-v-ne-RANGE c = range_no (fine c.in-Accepted.is c.check_value.ensures.result_value) c.if-v-ne-RANGE.true
 
 pub in_order-requires : goal.in_order-requires
-in_order-requires c = ranged (fine c.in-Accepted.is c.check_value.ensures.result_value) c.if-v-ne-RANGE.left
+in_order-requires c = ranged (fine c.in-Accepted.is c.check_value.ensures.result_value) c.if-v-ne-RANGE.false
 
 pub returns-in-Refused : goal.returns-in-Refused
 returns-in-Refused c =

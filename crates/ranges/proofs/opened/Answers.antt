@@ -6,7 +6,7 @@ use Rattle.ranges.specs.Ranges as ranges
 use Rattle.ranges.proofs.opened.Goals as goal
 
 pub returns-then-i-gt3 : goal.returns-then-i-gt3
-returns-then-i-gt3 c = interval_refused ranges.opened c.if-i-gt3.taken
+returns-then-i-gt3 c = interval_refused ranges.opened c.if-i-gt3.true
 
 pub returns : goal.returns
-returns c = interval_done ranges.opened c.if-i-gt3.left c.answer.ensures
+returns c = interval_done ranges.opened c.if-i-gt3.false c.answer.ensures

@@ -7,9 +7,8 @@ use Rattle.types.proofs.is_null.Goals as goal
 
 pub returns-in-Refused : goal.returns-in-Refused
 returns-in-Refused c =
-    let n = c.n-1.given in
-    null_refused c.args.t.now n.0.0
-    (was_refused c.args.t.now c.check_type.result n.0.0 n.1 c.check_type.ensures.result_value)
+    null_refused c.args.t.now c.in-Refused.n
+    (was_refused c.args.t.now c.check_type.result c.in-Refused.n c.in-Refused.is c.check_type.ensures.result_value)
 
 pub bounds-t-0 : goal.bounds-t-0
 bounds-t-0 c =

@@ -6,14 +6,14 @@ use Rattle.ranges.proofs.Numbers.{exponent_inside, decimal_exponent, whole_expon
 use Rattle.ranges.proofs.compare.exponent_at.Goals as goal
 
 pub bounds-v-at-then-v-at-eq-DECIMAL : goal.bounds-v-at-then-v-at-eq-DECIMAL
-bounds-v-at-then-v-at-eq-DECIMAL c = exponent_inside c.requires c.if-v-at-eq-DECIMAL.taken
+bounds-v-at-then-v-at-eq-DECIMAL c = exponent_inside c.requires c.if-v-at-eq-DECIMAL.true
 
 pub returns-then-v-at-eq-DECIMAL : goal.returns-then-v-at-eq-DECIMAL
 returns-then-v-at-eq-DECIMAL c =
-    let e = decimal_exponent c.args.v.now c.args.at c.if-v-at-eq-DECIMAL.taken in
+    let e = decimal_exponent c.args.v.now c.args.at c.if-v-at-eq-DECIMAL.true in
     (e, omega (arith, c.requires.exponent))
 
 pub returns : goal.returns
 returns c =
-    let e = whole_exponent c.args.v.now c.args.at c.if-v-at-eq-DECIMAL.left in
+    let e = whole_exponent c.args.v.now c.args.at c.if-v-at-eq-DECIMAL.false in
     (e, omega arith)

@@ -14,7 +14,7 @@ nonzero_div-y c = omega (arith, c.power-t.ensures, ten_pos c.args.q)
 pub returns-then-x-y : goal.returns-then-x-y
 returns-then-x-y c =
     let args = c.args in
-    ratio_apart args.m args.p args.n args.q c.power-s.ensures c.power-t.ensures c.if-x-y.taken
+    ratio_apart args.m args.p args.n args.q c.power-s.ensures c.power-t.ensures c.if-x-y.true
 
 pub nonzero_rem-result : goal.nonzero_rem-result
 nonzero_rem-result c = omega (arith, c.power-s.ensures, ten_pos c.args.p)
@@ -34,4 +34,4 @@ pub returns : goal.returns
 returns c =
     let args = c.args in
     ratio_same args.m args.p args.n args.q c.requires.0 c.requires.1 c.power-s.ensures c.power-t.ensures c.power.ensures
-    c.power-2.ensures c.if-x-y.left
+    c.power-2.ensures c.if-x-y.false

@@ -28,19 +28,22 @@ use Rattle.types.proofs.TypeConformance.{no_context, no_function, no_other, no_c
 use Rattle.types.proofs.TypeConformance.{met_context, met_function, behind_yes, behind_no, passed_over, SigGo, sig_start, sig_turn}
 use Rattle.types.proofs.TypeConformance.{sig_apart, sig_done, sig_last_apart, compared_strict, compared_some}
 use Rattle.types.proofs.compare.+conform_fields_conform_inner_conform_sig_conforms.Goals as goal
+use Rattle.types.proofs.compare.+conform_fields_conform_inner_conform_sig_conforms.Goals.{conform_fields-Joined-j-m, conform_fields-then-j-m+else-b-bt-lt-NAME_WIDTH, conform_fields-else-j-m, conform_sig-Joined-count-eq0, conform_sig-then-count-eq0+else-not-is_strict, conform_sig-else-count-eq0}
 
-there : (t : ℕ)
-    (c : Joined-j-m)
-    →
-    let c5 = c.before.before.before.before.before in
-    c5.loop.j < c5.before.before.before.args.m → c5.loop.bt + name_width ≤ length
-    c5.before.before.before.args.b.now
-there t c h = ⊎_elim (λ w. omega (arith, w.1.left)) (λ w. absurd (omega (arith, w.left, h))) c.if3.branch
+there : (t : ℕ) (c : conform_fields-Joined-j-m t) → c.loop-i.j < c.args.m → c.loop-i.bt + name_width ≤ length c.args.b.now
+there t c h =
+    elim c.if-j-m.branch [
+      conform_fields-then-j-m+else-b-bt-lt-NAME_WIDTH w ↦ omega (arith, w.if-b-bt-lt-NAME_WIDTH.false, h)
+    | conform_fields-else-j-m w ↦ absurd (omega (arith, w.if-j-m.false, h))
+    ]
 
-looked_at : (t : ℕ) (c : Joined-count-eq0)
-    → ignores_at (order_of c.before.before.before.args.reading) c.before.before.before.args.count ≡ false
-looked_at t c = ⊎_elim (λ w. compared_strict (order_of c.before.before.before.args.reading) c.before.before.before.args.count (sym w.1.ensures ∙ w.2.left))
-    (λ w. compared_some (order_of c.before.before.before.args.reading) c.before.before.before.args.count w.left) c.if1.branch
+looked_at : (t : ℕ) (c : conform_sig-Joined-count-eq0 t) → ignores_at (order_of c.args.reading) c.args.count ≡ false
+looked_at t c =
+    elim c.if-count-eq0.branch [
+      conform_sig-then-count-eq0+else-not-is_strict w ↦
+        compared_strict (order_of c.args.reading) c.args.count (sym w.is_strict.ensures ∙ w.if-not-is_strict.false)
+    | conform_sig-else-count-eq0 w ↦ compared_some (order_of c.args.reading) c.args.count w.if-count-eq0.false
+    ]
 
 pub conform_fields-loop-i-init : goal.conform_fields-loop-i-init
 conform_fields-loop-i-init t c =
@@ -232,7 +235,7 @@ conform_fields-overflow_add-at-in-loop-i t c =
           let conforms = c.conforms-x in
           pair_in (readable_type args.left) (readable_type args.left) (le (order_of args.reading)) args.a.now
           (loop.at + name_width) args.b.now (loop.bt + name_width) conforms.result
-          conforms.new.1.1.1.0 (omega (arith, loop.invariant, c.if-a-at-lt-NAME_WIDTH.false))
+          conforms.new.other (omega (arith, loop.invariant, c.if-a-at-lt-NAME_WIDTH.false))
           (there t (goal.at.conform_fields-overflow_add-at-in-loop-i t c).Joined-j-m
           (b_more loop.invariant 3 0 c.loop-i-test.true
           (omega (arith, loop.invariant, c.if-a-at-lt-NAME_WIDTH.false)) c.name_at-name.result c.next_name-next.result
@@ -240,7 +243,7 @@ conform_fields-overflow_add-at-in-loop-i t c =
           c.next_name-next.ensures.value c.if-name-next.false c.if-next-name.false))
           (pair (readable_type args.left) (readable_type args.left) (le (order_of args.reading)) args.a.now
           (loop.at + name_width) args.b.now (loop.bt + name_width) conforms.result
-          conforms.new.1.1.1.0 conforms.ensures c.if-x-eq0.false),
+          conforms.new.other conforms.ensures c.if-x-eq0.false),
     )
 
 pub conform_fields-overflow_add-bt-in-loop-i : goal.conform_fields-overflow_add-bt-in-loop-i
@@ -473,10 +476,10 @@ conform_sig-overflow_add-bt-in-loop-i t c =
       let args = c.args in
           let conforms = c.conforms-y in
           pair_in (readable_type args.left) (readable_type args.left) (le (order_of args.reading)) args.b.now
-          c.loop-i.bt args.a.now c.loop-i.at conforms.result conforms.new.1.1.1.0
+          c.loop-i.bt args.a.now c.loop-i.at conforms.result conforms.new.other
           c.loop-i.invariant.in_b c.loop-i.invariant.in_a
           (pair (readable_type args.left) (readable_type args.left) (le (order_of args.reading)) args.b.now
-          c.loop-i.bt args.a.now c.loop-i.at conforms.result conforms.new.1.1.1.0
+          c.loop-i.bt args.a.now c.loop-i.at conforms.result conforms.new.other
           conforms.ensures c.if-y-eq0.false),
     )
 

@@ -19,12 +19,14 @@ use Rattle.types.proofs.SortedNames.{names_missing, names_unread, names_skip, b_
 use Rattle.types.proofs.EntryTests.{fields_tests}
 use Rattle.types.proofs.TypeConformance.{sized_part, unsized_part}
 use Rattle.types.proofs.instance.instance_fields.Goals as goal
+use Rattle.types.proofs.instance.instance_fields.Goals.{Joined-j-m, then-j-m+else-b-bt-lt-NAME_WIDTH, else-j-m}
 
-there : (c : Joined-j-m) →
-    let c5 = c.before.before.before.before.before in
-    c5.loop.j < c5.before.before.before.args.m → c5.loop.bt + name_width ≤ length
-    c5.before.before.before.args.b.now
-there c h = ⊎_elim (λ w. omega (arith, w.1.left)) (λ w. absurd (omega (arith, w.left, h))) c.if3.branch
+there : (c : Joined-j-m) → c.loop-i.j < c.args.m → c.loop-i.bt + name_width ≤ length c.args.b.now
+there c h =
+    elim c.if-j-m.branch [
+      then-j-m+else-b-bt-lt-NAME_WIDTH w ↦ omega (arith, w.if-b-bt-lt-NAME_WIDTH.false, h)
+    | else-j-m w ↦ absurd (omega (arith, w.if-j-m.false, h))
+    ]
 
 pub loop-i-init : goal.loop-i-init
 loop-i-init c =
