@@ -52,7 +52,7 @@ use Rattle.ranges.specs.Ranges.{bif_type}
 use Rattle.coercion.specs.Coerce.{failed, single, unchanged, sole_item_conforms, item_conforms, first_item, inner_conforms, to_single, converted, coerced}
 use Rattle.coercion.specs.Calls.{coerced_call, Ready, wrapped, Says, SaysAt, BifSays}
 use Rattle.coercion.proofs.Theorems.{same_if}
-use Rattle.output.specs.Result.{result_of}
+use Rattle.output.specs.Result.{checked_result}
 use Rattle.values.proofs.Reading.{IsVal, is_null_lem, is_boolean_lem, is_number, is_string_lem, is_temporal_lem, is_range_lem, is_list_lem, is_context_lem, is_definition_lem, is_built_in_lem, is_type_lem, is_irrelevant_lem, is_decimal_lem}
 use Rattle.values.proofs.Reading.{is_val, as_list, as_definition, as_built_in}
 
@@ -138,7 +138,7 @@ module _ (t : List ℕ) (q : Ok (type_at type_levels t)) where
       ∙ ap (λ x. conforms_to (cond x number_to_number (leaf any)) U.0) (sym (ap₂ ◌||◌ (ne_eqb b 0 h) (ne_eqb b 67 k))))
 
 -- a one-item list: three bytes in front, and one level on top
-single_result : (room : ℕ) (w : Val) (s : List ℕ) (lv : ℕ) → s ≡ enc_v w → lv ≡ level_v w → result_of room (single w) ≡ wrapped s lv room
+single_result : (room : ℕ) (w : Val) (s : List ℕ) (lv : ℕ) → s ≡ enc_v w → lv ≡ level_v w → checked_result room (single w) ≡ wrapped s lv room
 single_result room w s lv e l =
     let b : enc_v (single w) ≡ 0x0A ∷ 1 ∷ 0 ∷ s = single_bytes w ∙ ap (λ x. 0x0A ∷ 1 ∷ 0 ∷ x) (sym e) in
     let n : length (enc_v (single w)) ≡ length s + 3 = ap length b ∙ omega arith in
@@ -319,11 +319,11 @@ module _ (t v : List ℕ) (A : Accepted t v) where
   accepted_value : (v ≡ enc_v A.value) × (level_v A.value ≤ value_levels) × (length v ≤ most_bytes)
   accepted_value = let C = value_accepted v A.bytes_v A.value A.read_v_lem in (C.bytes, C.low, C.short)
 
-  call_is : (room : ℕ) → coerced_call v t room ≡ result_of room (coerced A.value A.type)
+  call_is : (room : ℕ) → coerced_call v t room ≡ checked_result room (coerced A.value A.type)
   unfolding coerced_call ◌>>=◌ ◌>>◌
   call_is room = rw (A.read_v_lem, A.read_t_lem)
 
-  small_result : (room : ℕ) (w : Val) (s : List ℕ) → s ≡ enc_v w → length s ≤ most_bytes → level_v w ≤ value_levels → result_of room w ≡ fits room s
+  small_result : (room : ℕ) (w : Val) (s : List ℕ) → s ≡ enc_v w → length s ≤ most_bytes → level_v w ≤ value_levels → checked_result room w ≡ fits room s
   unfolding ◌>>◌
   small_result room w s e l h =
       let n : length (enc_v w) ≤ most_bytes = omega (arith, ap length e) in
@@ -333,7 +333,7 @@ module _ (t v : List ℕ) (A : Accepted t v) where
   coerced_is q e = ap (λ b. cond b A.value (converted A.value A.type)) e
 
   give_unchanged : unchanged A.value A.type ≡ true → (room : ℕ) → fits room v ≡ coerced_call v t room
-  give_unchanged e room = sym (call_is room ∙ ap (result_of room) (coerced_is true e) ∙ small_result room A.value v accepted_value.0 accepted_value.2 accepted_value.1)
+  give_unchanged e room = sym (call_is room ∙ ap (checked_result room) (coerced_is true e) ∙ small_result room A.value v accepted_value.0 accepted_value.2 accepted_value.1)
 
   pub give_conformant : value_conforms_to A.value A.type ≡ true → (room : ℕ) → fits room v ≡ coerced_call v t room
   give_conformant h = give_unchanged (same_if A.value A.type h)
@@ -341,7 +341,7 @@ module _ (t v : List ℕ) (A : Accepted t v) where
   pub give_same : (r : Bool) → SaysAt unchanged v t r → r ≡ true → (room : ℕ) → fits room v ≡ coerced_call v t room
   give_same r h e = give_unchanged (sym (was unchanged r h) ∙ e)
 
-  failed_is : (room : ℕ) → result_of room failed ≡ fits room (0 ∷ 1 ∷ [])
+  failed_is : (room : ℕ) → checked_result room failed ≡ fits room (0 ∷ 1 ∷ [])
   unfolding ◌>>◌ enc_v enc_leaf level_v
   failed_is room = refl
 
@@ -358,14 +358,14 @@ module _ (t v : List ℕ) (A : Accepted t v) where
         let z : converted A.value A.type ≡ I.x = ap (λ x. converted x A.type) I.is ∙ ap (λ b. cond b I.x failed) (sym (ap (λ x. item_conforms x A.type) I.is) ∙ y) in
         let low : level_v I.x ≤ value_levels = omega (arith, accepted_value.1, ap level_v I.is) in
         let short : length (drop 3 v) ≤ most_bytes = simp length-drop (omega (arith, accepted_value.2)) in
-        ap (fits room) (rest v 3) ∙ sym (call_is room ∙ ap (result_of room) (changed ∙ z) ∙ small_result room I.x (drop 3 v) I.bytes short low)
+        ap (fits room) (rest v 3) ∙ sym (call_is room ∙ ap (checked_result room) (changed ∙ z) ∙ small_result room I.x (drop 3 v) I.bytes short low)
 
     pub give_no_item : get_or v 0 0 ≡ 0x0A → (q : Bool) → SaysAt item_conforms v t q → q ≡ false → (room : ℕ) → fits room (0 ∷ 1 ∷ []) ≡ coerced_call v t room
     give_no_item c q g f room =
         let L = listed c in
         let y : sole_item_conforms L.vs A.type ≡ false = sym (ap (λ x. item_conforms x A.type) L.is) ∙ sym (was item_conforms q g) ∙ f in
         let z : converted A.value A.type ≡ failed = ap (λ x. converted x A.type) L.is ∙ ap (λ b. cond b (first_item L.vs) failed) y in
-        sym (call_is room ∙ ap (result_of room) (changed ∙ z) ∙ failed_is room)
+        sym (call_is room ∙ ap (checked_result room) (changed ∙ z) ∙ failed_is room)
 
     -- no list
     other_is : (get_or v 0 0 ≡ 0x0A → ⊥) → converted A.value A.type ≡ to_single A.value A.type
@@ -390,12 +390,12 @@ module _ (t v : List ℕ) (A : Accepted t v) where
       pub give_failed : q ≡ false → (room : ℕ) → fits room (0 ∷ 1 ∷ []) ≡ coerced_call v t room
       give_failed f room =
           let z : to_single A.value A.type ≡ failed = ap (λ b. cond b (single A.value) failed) (sym (was inner_conforms q g) ∙ f) in
-          sym (call_is room ∙ ap (result_of room) (changed ∙ other_is c ∙ z) ∙ failed_is room)
+          sym (call_is room ∙ ap (checked_result room) (changed ∙ other_is c ∙ z) ∙ failed_is room)
 
       pub give_single : q ≡ true → (lv : ℕ) → lv ≡ level_v A.value → (room : ℕ) → wrapped v lv room ≡ coerced_call v t room
       give_single f lv l room =
           let z : to_single A.value A.type ≡ single A.value = ap (λ b. cond b (single A.value) failed) (sym (was inner_conforms q g) ∙ f) in
-          sym (call_is room ∙ ap (result_of room) (changed ∙ other_is c ∙ z) ∙ single_result room A.value v lv accepted_value.0 l)
+          sym (call_is room ∙ ap (checked_result room) (changed ∙ other_is c ∙ z) ∙ single_result room A.value v lv accepted_value.0 l)
 
   pub long_value : length v ≤ most_bytes
   long_value = accepted_value.2

@@ -13,7 +13,7 @@ use Rattle.types.specs.At.{type_at}
 use Rattle.values.specs.At.{value_at}
 use Rattle.ranges.specs.Ranges.{bif_type}
 use Rattle.coercion.specs.Coerce.{coerced}
-use Rattle.output.specs.Result.{result_of}
+use Rattle.output.specs.Result.{checked_result}
 use Rattle.values.specs.Calls.{Accepted}
 
 -- Value::coerced: self, then the target; 17 and 18 of the result
@@ -21,7 +21,7 @@ unfoldable pub coerced_call : List ℕ → List ℕ → ℕ → Outcome (List �
 coerced_call v t room = do
   w ← read_value v
   u ← read_type t
-  result_of room (coerced w u)
+  checked_result room (coerced w u)
 
 -- ---- for the helpers behind the readers
 -- both arguments were accepted, and the value has this level

@@ -62,33 +62,33 @@ use Rattle.updates.proofs.ContextFront.{length_begun}
 use Rattle.updates.proofs.PathSteps.{count_less, text_remove}
 use Rattle.form.specs.Options.{WhereRead}
 use Rattle.output.specs.Output.{fill}
-use Rattle.output.specs.Result.{small, result_of}
+use Rattle.output.specs.Result.{small, checked_result}
 use Rattle.values.proofs.EntriesAt.{size_context}
 use Rattle.form.proofs.Options.{some_same}
 
 -- ---- 17 and 18
-pub result_small : (room : ℕ) (w : Val) → length (enc_v w) ≤ most_bytes → level_v w ≤ value_levels → fits room (enc_v w) ≡ result_of room w
+pub result_small : (room : ℕ) (w : Val) → length (enc_v w) ≤ most_bytes → level_v w ≤ value_levels → fits room (enc_v w) ≡ checked_result room w
 unfolding ◌>>◌
 result_small room w k l = let e : small w ≡ true = ap₂ ◌&&◌ (le-leb (length (enc_v w)) most_bytes k) (le-leb (level_v w) value_levels l) in rw e
 
-pub result_long : (room : ℕ) (w : Val) → most_bytes < length (enc_v w) → result_of room w ≡ refused 17
+pub result_long : (room : ℕ) (w : Val) → most_bytes < length (enc_v w) → checked_result room w ≡ refused 17
 unfolding ◌>>◌
 result_long room w k = let e : small w ≡ false = ap (λ q. q && leb (level_v w) value_levels) (lt-leb (length (enc_v w)) most_bytes k) in rw e
 
-pub result_deep : (room : ℕ) (w : Val) → length (enc_v w) ≤ most_bytes → value_levels < level_v w → result_of room w ≡ refused 17
+pub result_deep : (room : ℕ) (w : Val) → length (enc_v w) ≤ most_bytes → value_levels < level_v w → checked_result room w ≡ refused 17
 unfolding ◌>>◌
 result_deep room w k l = let e : small w ≡ false = ap₂ ◌&&◌ (le-leb (length (enc_v w)) most_bytes k) (lt-leb (level_v w) value_levels l) in rw e
 
 -- ---- `give_within`
 module _ (spare : List ℕ) (n d : ℕ) (w : Val) (H : Holds spare n d w) (old : List ℕ) where
-  pub within_long : most_bytes < n → Built (result_of (length old) w) old old (written_is.Refused 17)
-  within_long h = built_refused (result_of (length old) w) 17 old (result_long (length old) w (omega (arith, H.long)))
+  pub within_long : most_bytes < n → Built (checked_result (length old) w) old old (written_is.Refused 17)
+  within_long h = built_refused (checked_result (length old) w) 17 old (result_long (length old) w (omega (arith, H.long)))
 
   module _ (k : n ≤ most_bytes) where
-    pub within_deep : value_levels < d → Built (result_of (length old) w) old old (written_is.Refused 17)
-    within_deep h = built_refused (result_of (length old) w) 17 old (result_deep (length old) w (omega (arith, H.long)) (omega (arith, H.deep)))
+    pub within_deep : value_levels < d → Built (checked_result (length old) w) old old (written_is.Refused 17)
+    within_deep h = built_refused (checked_result (length old) w) 17 old (result_deep (length old) w (omega (arith, H.long)) (omega (arith, H.deep)))
 
-    pub within_done : d ≤ value_levels → (new : List ℕ) (a : Written) → Built (fits (length old) (take n spare)) old new a → Built (result_of (length old) w) old new a
+    pub within_done : d ≤ value_levels → (new : List ℕ) (a : Written) → Built (fits (length old) (take n spare)) old new a → Built (checked_result (length old) w) old new a
     within_done l new a B =
         subst (λ o. Built o old new a)
         (ap (fits (length old)) (H.text k) ∙ result_small (length old) w (omega (arith, H.long)) (omega (arith, H.deep))) B
@@ -111,7 +111,7 @@ pub all_room : (g n : ℕ) → most_bytes ≡ n → min g most_bytes ≤ n
 all_room g n e = omega arith
 
 -- a copy of an accepted context
-pub copied_is : (c : List ℕ) (es : Entries) (room : ℕ) → context_at value_levels c ≡ some es → Bytes c → length c ≤ most_bytes → fits room c ≡ result_of room (v_context es)
+pub copied_is : (c : List ℕ) (es : Entries) (room : ℕ) → context_at value_levels c ≡ some es → Bytes c → length c ≤ most_bytes → fits room c ≡ checked_result room (v_context es)
 copied_is c es room ec bc kc =
     let text = text_context value_levels c es bc (ctx_of value_levels c es ec) in
     ap (fits room) text ∙ result_small room (v_context es) (omega (arith, ap length text)) (context_low c es ec bc)
@@ -179,7 +179,7 @@ module _ (strict : Bool) (c p v old : List ℕ) (es : Entries) (x : Val) (ec : c
           go true q = apply_cut ∙ ap (λ b. cond b none (some (create p x es))) q
           go false q = refl
 
-      given : (new : List ℕ) (a : Written) → Built (result_of (length old) new_is) old new a → Built (answered (length old) (updated strict p x es)) old new a
+      given : (new : List ℕ) (a : Written) → Built (checked_result (length old) new_is) old new a → Built (answered (length old) (updated strict p x es)) old new a
       unfolding ◌>>=◌
       given new a B = subst (λ o. Built (answered (length old) o) old new a) (sym updated_is) B
 
@@ -192,15 +192,15 @@ module _ (strict : Bool) (c p v old : List ℕ) (es : Entries) (x : Val) (ec : c
         level_is = created_level p x es whole named ∙ ap₂ max (sym er) (ap (λ (z : ℕ). length p + z) (sym ed)) ∙ sym el
 
         pub place_long : most_bytes < m → Built (answered (length old) (updated strict p x es)) old old (written_is.Refused 17)
-        place_long h = given old (written_is.Refused 17) (built_refused (result_of (length old) new_is) 17 old (result_long (length old) new_is (omega (arith, size_is))))
+        place_long h = given old (written_is.Refused 17) (built_refused (checked_result (length old) new_is) 17 old (result_long (length old) new_is (omega (arith, size_is))))
 
         module _ (s : m ≤ most_bytes) where
           pub place-deep : value_levels < l → Built (answered (length old) (updated strict p x es)) old old (written_is.Refused 17)
           place-deep h =
-              given old (written_is.Refused 17) (built_refused (result_of (length old) new_is) 17 old (result_deep (length old) new_is (omega (arith, size_is)) (omega (arith, level_is))))
+              given old (written_is.Refused 17) (built_refused (checked_result (length old) new_is) 17 old (result_deep (length old) new_is (omega (arith, size_is)) (omega (arith, level_is))))
 
           module _ (t : l ≤ value_levels) where
-            fits_is : fits (length old) (enc_v new_is) ≡ result_of (length old) new_is
+            fits_is : fits (length old) (enc_v new_is) ≡ checked_result (length old) new_is
             fits_is = result_small (length old) new_is (omega (arith, size_is)) (omega (arith, level_is))
 
             pub place_short : length old < m → Built (answered (length old) (updated strict p x es)) old old (written_is.Refused 18)
@@ -262,8 +262,8 @@ module _ (strict : Bool) (c p v old : List ℕ) where
   update_refused n e = go strict
     where
       go : (t : Bool) → Built (update_call t c p v (length old)) old old (written_is.Refused n)
-      go true = call_refused (given_of c (length p) v) (λ g. do new ← or_refuse 16 (apply p g.value g.entries); result_of (length old) (v_context new)) n old e
-      go false = call_refused (given_of c (length p) v) (λ g. result_of (length old) (v_context (create p g.value g.entries))) n old e
+      go true = call_refused (given_of c (length p) v) (λ g. do new ← or_refuse 16 (apply p g.value g.entries); checked_result (length old) (v_context new)) n old e
+      go false = call_refused (given_of c (length p) v) (λ g. checked_result (length old) (v_context (create p g.value g.entries))) n old e
 
   pub update_first : (n : ℕ) → read_value c ≡ refused n → Built (update_call strict c p v (length old)) old old (written_is.Refused n)
   unfolding given_of ◌>>=◌
@@ -328,7 +328,7 @@ pair x o = do
   es ← o
   done (record { entries = es; value = x })
 
-null_two : (o : Outcome Entries) (n room : ℕ) → (do g ← pair (nothing 0) o; result_of room (v_context (set_entry n g.value g.entries))) ≡ (do es ← o; result_of room (v_context (set_null n es)))
+null_two : (o : Outcome Entries) (n room : ℕ) → (do g ← pair (nothing 0) o; checked_result room (v_context (set_entry n g.value g.entries))) ≡ (do es ← o; checked_result room (v_context (set_null n es)))
 unfolding ◌>>=◌
 null_two (done es) n room = refl
 null_two (refused m) n room = refl
@@ -344,7 +344,7 @@ null_given c = go (read_value c)
     go (done self) = rw null_read
 
 pub null_is : (c : List ℕ) (n : ℕ) (room : ℕ) → set_entry_call c n (0 ∷ 0 ∷ []) room ≡ set_null_call c n room
-null_is c n room = ap (λ o. do g ← o; result_of room (v_context (set_entry n g.value g.entries))) (null_given c) ∙ null_two (context_of c 0) n room
+null_is c n room = ap (λ o. do g ← o; checked_result room (v_context (set_entry n g.value g.entries))) (null_given c) ∙ null_two (context_of c 0) n room
 
 module _ (c old new : List ℕ) (n : ℕ) (a : Written) where
   pub set_built : (v : List ℕ) → Built (create_entries_call c (n ∷ []) v (length old)) old new a → Built (set_entry_call c n v (length old)) old new a
@@ -354,14 +354,14 @@ module _ (c old new : List ℕ) (n : ℕ) (a : Written) where
   null_built B = subst (λ o. Built o old new a) (null_is c n (length old)) B
 
 -- ---- zip and overwrite
-joined_is : (all : Bool) (c o : List ℕ) (room : ℕ) (t : Two) → two_of c o ≡ done t → result_of room (v_context (merged all t.entries t.others)) ≡ joined_call all c o room
+joined_is : (all : Bool) (c o : List ℕ) (room : ℕ) (t : Two) → two_of c o ≡ done t → checked_result room (v_context (merged all t.entries t.others)) ≡ joined_call all c o room
 unfolding ◌>>=◌
 joined_is true c o room t e = rw e
 joined_is false c o room t e = rw e
 
 joined_refused : (all : Bool) (c o : List ℕ) (n : ℕ) (old : List ℕ) → two_of c o ≡ refused n → Built (joined_call all c o (length old)) old old (written_is.Refused n)
-joined_refused true c o n old e = call_refused (two_of c o) (λ t. result_of (length old) (v_context (zip t.entries t.others))) n old e
-joined_refused false c o n old e = call_refused (two_of c o) (λ t. result_of (length old) (v_context (overwrite t.entries t.others))) n old e
+joined_refused true c o n old e = call_refused (two_of c o) (λ t. checked_result (length old) (v_context (zip t.entries t.others))) n old e
+joined_refused false c o n old e = call_refused (two_of c o) (λ t. checked_result (length old) (v_context (overwrite t.entries t.others))) n old e
 
 first_refused : (c o : List ℕ) (n : ℕ) → read_value c ≡ refused n → two_of c o ≡ refused n
 unfolding two_of ◌>>=◌
@@ -430,7 +430,7 @@ module _ (all : Bool) (c o old : List ℕ) where
             join-small = (short-c, short-o)
 
             pub join-done : (new : List ℕ) (a : Written)
-                → ((es gs : Entries) → context_at value_levels c ≡ some es → context_at value_levels o ≡ some gs → Built (result_of (length old) (v_context (merged all es gs))) old new a)
+                → ((es gs : Entries) → context_at value_levels c ≡ some es → context_at value_levels o ≡ some gs → Built (checked_result (length old) (v_context (merged all es gs))) old new a)
                 → Built (joined_call all c o (length old)) old new a
             join-done new a F =
                 subst (λ q. Built q old new a)
@@ -552,7 +552,7 @@ module _ (count : ℕ) (c : List ℕ) (at to : ℕ) (old : List ℕ) (l : 3 ≤ 
       let z : length (closed count c at to) ≤ length old = omega (arith, length_closed count c at to l h k) in
       built_wrote (fits (length old) (closed count c at to)) (closed count c at to) old new n refl e z (f ∙ ap (λ (b : List ℕ). onto b old) (take_all (length old) (closed count c at to) z))
 
-changed : (c : List ℕ) (f : Entries → Entries) (room : ℕ) (es : Entries) → context_of c 0 ≡ done es → (do x ← context_of c 0; result_of room (v_context (f x))) ≡ result_of room (v_context (f es))
+changed : (c : List ℕ) (f : Entries → Entries) (room : ℕ) (es : Entries) → context_of c 0 ≡ done es → (do x ← context_of c 0; checked_result room (v_context (f x))) ≡ checked_result room (v_context (f es))
 unfolding ◌>>=◌
 changed c f room es e = rw e
 
@@ -571,13 +571,13 @@ module _ (c old : List ℕ) (n : ℕ) (O : Opened c 0) (bc : Bytes c) where
   remove_copy at M new a B =
       let z : remove n O.es ≡ O.es = remove_absent n O.es (ap (value_of n) (ctx_same value_levels c O.es M.es O.ctx M.ctx) ∙ M.value) in
       subst (λ o. Built o old new a)
-      (copied_is c O.es (length old) O.ctx.read bc short ∙ ap (λ x. result_of (length old) (v_context x)) (sym z) ∙ sym (changed c (remove_entry n) (length old) O.es O.is)) B
+      (copied_is c O.es (length old) O.ctx.read bc short ∙ ap (λ x. checked_result (length old) (v_context x)) (sym z) ∙ sym (changed c (remove_entry n) (length old) O.es O.is)) B
 
   pub move_copy : (parent at : ℕ) → Miss value_levels c n at → (new : List ℕ) (a : Written) → Built (fits (length old) c) old new a → Built (move_entry_call c n parent (length old)) old new a
   move_copy parent at M new a B =
       let v : value_of n O.es ≡ none = ap (value_of n) (ctx_same value_levels c O.es M.es O.ctx M.ctx) ∙ M.value in
       subst (λ o. Built o old new a)
-      (copied_is c O.es (length old) O.ctx.read bc short ∙ ap (λ x. result_of (length old) (v_context (moved n parent O.es x))) (sym v)
+      (copied_is c O.es (length old) O.ctx.read bc short ∙ ap (λ x. checked_result (length old) (v_context (moved n parent O.es x))) (sym v)
       ∙ sym (changed c (move_entry n parent) (length old) O.es O.is))
       B
 
@@ -609,7 +609,7 @@ module _ (c old : List ℕ) (n : ℕ) (O : Opened c 0) (bc : Bytes c) where
         subst (λ o. Built o old new a)
         (ap (fits (length old)) text
         ∙ result_small (length old) (v_context left) (omega (arith, closed_short, short, ap length text)) rest_level
-        ∙ ap (λ x. result_of (length old) (v_context (remove n x))) (sym same_es)
+        ∙ ap (λ x. checked_result (length old) (v_context (remove n x))) (sym same_es)
         ∙ sym (changed c (remove_entry n) (length old) O.es O.is)) B
 
     -- ---- the rest of the context, and the value
@@ -641,8 +641,8 @@ module _ (c old : List ℕ) (n : ℕ) (O : Opened c 0) (bc : Bytes c) where
     unfolding ◌>>=◌
     move_done parent new a F =
         subst (λ o. Built o old new a)
-        (sym (ap (λ x. result_of (length old) (v_context (moved n parent H.es x))) H.value)
-        ∙ ap (λ x. result_of (length old) (v_context (move_entry n parent x))) (sym same_es)
+        (sym (ap (λ x. checked_result (length old) (v_context (moved n parent H.es x))) H.value)
+        ∙ ap (λ x. checked_result (length old) (v_context (move_entry n parent x))) (sym same_es)
         ∙ sym (changed c (move_entry n parent) (length old) O.es O.is)) (F left H.x rest_read part_read)
 
 -- `move_in`: the rest of the context in a spare place
@@ -673,14 +673,14 @@ pub some_entry : {l : ℕ} {c : List ℕ} {n at to : ℕ} (H : Hit l c n at to) 
 some_entry {l} {c} {n} H b = omega (arith, count_context l c H.es b H.ctx, count_less n 0 H.es (well_entries l c H.es b H.ctx) H.x H.value)
 
 -- ---- `is_err`
-pub not_strict : (strict : Bool) (n names gone : ℕ) → not strict ≡ true → false ≡ (strict && (ltb n names && ltb 0 gone))
-not_strict true n names gone e = absurd (let z : ◌≡◌ {A = ℕ} 0 1 = ap (λ b. cond b 1 0) e in omega arith)
+pub not_strict : (strict : Bool) (n names gone : ℕ) → strict ≡ false → false ≡ (strict && (ltb n names && ltb 0 gone))
+not_strict true n names gone e = cc
 not_strict false n names gone e = refl
 
 pub no_name_left : (strict : Bool) (n names gone : ℕ) → names ≤ n → false ≡ (strict && (ltb n names && ltb 0 gone))
 no_name_left true n names gone h = sym (ap (λ q. q && ltb 0 gone) (le-ltb n names h))
 no_name_left false n names gone h = refl
 
-pub one_name_left : (strict : Bool) (n names gone : ℕ) → not strict ≡ false → n < names → ltb 0 gone ≡ (strict && (ltb n names && ltb 0 gone))
+pub one_name_left : (strict : Bool) (n names gone : ℕ) → strict ≡ true → n < names → ltb 0 gone ≡ (strict && (ltb n names && ltb 0 gone))
 one_name_left true n names gone e h = sym (ap (λ q. q && ltb 0 gone) (lt-ltb n names h))
-one_name_left false n names gone e h = absurd (let z : ◌≡◌ {A = ℕ} 1 0 = ap (λ b. cond b 1 0) e in omega arith)
+one_name_left false n names gone e h = cc

@@ -20,7 +20,7 @@ use Rattle.updates.specs.Update as update
 use Rattle.context.specs.Calls.{given_of, create_entries_call, apply_entries_call}
 use Rattle.context.specs.Example12.{self, path, created, Accepted, Within, Example12}
 use Rattle.context.proofs.CallContracts.{result_small, result_long, result_deep}
-use Rattle.output.specs.Result.{result_of}
+use Rattle.output.specs.Result.{checked_result}
 
 -- {1: true}, as a tree and read
 one_true : Entries
@@ -47,7 +47,7 @@ module _ (v : List ℕ) (a : Accepted v) (room : ℕ) where
   text : enc_v (nested a.value) ≡ created v
   text = nested_text a.value ∙ ap created (sym (value_accepted v a.are_bytes a.value a.read).bytes)
 
-  create_is : create_entries_call self path v room ≡ result_of room (nested a.value)
+  create_is : create_entries_call self path v room ≡ checked_result room (nested a.value)
   unfolding given_of ◌>>=◌ ◌>>◌ one_true nested value_of update.create update.insert
   create_is = rw (self_read, a.read)
 

@@ -9,7 +9,7 @@ use Rattle.form.specs.Options.{WhereRead}
 use Rattle.form.specs.Outcome.{Outcome, ◌>>=◌, or_refuse}
 use Rattle.paths.specs.Way.{cut_of}
 use Rattle.paths.specs.declared.way.Cut.{Cut}
-use Rattle.output.specs.Result.{result_of}
+use Rattle.output.specs.Result.{checked_result}
 
 -- A context is built in a spare place and given where it fits:
 -- the first n bytes of the spare place are w's, where w is not over 16,384 bytes, and its level is that
@@ -22,7 +22,7 @@ pub record Holds (spare : List ℕ) (n level : ℕ) (w : Val) : Type 0 where
 abbrev pub answered : ℕ → Option Entries → Outcome (List ℕ)
 answered room o = do
   es ← or_refuse 16 o
-  result_of room (v_context es)
+  checked_result room (v_context es)
 
 -- the cut of the entry of a name, in a context that was read
 unfoldable pub Taken : ℕ → Option Entries → Cut → Type 0

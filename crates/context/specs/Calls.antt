@@ -8,7 +8,7 @@ use Rattle.form.specs.Read.{read_value}
 use Rattle.paths.specs.Paths.{entries_of}
 use Rattle.paths.specs.Calls.{context_of}
 use Rattle.updates.specs.Update.{create, apply, zip, overwrite, move_entry, set_entry, set_null, remove_entry}
-use Rattle.output.specs.Result.{result_of}
+use Rattle.output.specs.Result.{checked_result}
 
 -- ---- the arguments
 pub record Given : Type 0 where
@@ -42,14 +42,14 @@ two_of c o = do
 abbrev pub create_entries_call : List ℕ → List ℕ → List ℕ → ℕ → Outcome (List ℕ)
 create_entries_call c p v room = do
   g ← given_of c (length p) v
-  result_of room (v_context (create p g.value g.entries))
+  checked_result room (v_context (create p g.value g.entries))
 
 -- FeelContext::apply_entries; 16: Err
 abbrev pub apply_entries_call : List ℕ → List ℕ → List ℕ → ℕ → Outcome (List ℕ)
 apply_entries_call c p v room = do
   g ← given_of c (length p) v
   new ← or_refuse 16 (apply p g.value g.entries)
-  result_of room (v_context new)
+  checked_result room (v_context new)
 
 -- one of the two, told apart by whether a value on the way that is no context is Err
 abbrev pub update_call : Bool → List ℕ → List ℕ → List ℕ → ℕ → Outcome (List ℕ)
@@ -60,18 +60,18 @@ update_call false c p v room = create_entries_call c p v room
 abbrev pub set_entry_call : List ℕ → ℕ → List ℕ → ℕ → Outcome (List ℕ)
 set_entry_call c n v room = do
   g ← given_of c 0 v
-  result_of room (v_context (set_entry n g.value g.entries))
+  checked_result room (v_context (set_entry n g.value g.entries))
 
 -- FeelContext::zip, overwrite: self, then the other
 abbrev pub zip_call : List ℕ → List ℕ → ℕ → Outcome (List ℕ)
 zip_call c o room = do
   two ← two_of c o
-  result_of room (v_context (zip two.entries two.others))
+  checked_result room (v_context (zip two.entries two.others))
 
 abbrev pub overwrite_call : List ℕ → List ℕ → ℕ → Outcome (List ℕ)
 overwrite_call c o room = do
   two ← two_of c o
-  result_of room (v_context (overwrite two.entries two.others))
+  checked_result room (v_context (overwrite two.entries two.others))
 
 -- one of the two
 abbrev pub joined_call : Bool → List ℕ → List ℕ → ℕ → Outcome (List ℕ)
@@ -82,14 +82,14 @@ joined_call false c o room = overwrite_call c o room
 abbrev pub move_entry_call : List ℕ → ℕ → ℕ → ℕ → Outcome (List ℕ)
 move_entry_call c n parent room = do
   es ← context_of c 0
-  result_of room (v_context (move_entry n parent es))
+  checked_result room (v_context (move_entry n parent es))
 
 abbrev pub remove_entry_call : List ℕ → ℕ → ℕ → Outcome (List ℕ)
 remove_entry_call c n room = do
   es ← context_of c 0
-  result_of room (v_context (remove_entry n es))
+  checked_result room (v_context (remove_entry n es))
 
 abbrev pub set_null_call : List ℕ → ℕ → ℕ → Outcome (List ℕ)
 set_null_call c n room = do
   es ← context_of c 0
-  result_of room (v_context (set_null n es))
+  checked_result room (v_context (set_null n es))

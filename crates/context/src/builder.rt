@@ -7,7 +7,7 @@ ghost use Rattle.form.specs.Form.{level_v};
 ghost use Rattle.form.specs.Outcome.{fits};
 ghost use Rattle.form.specs.Answers.{Built};
 ghost use Rattle.types.specs.At.{Ok};
-ghost use Rattle.output.specs.Result.{result_of};
+ghost use Rattle.output.specs.Result.{checked_result};
 ghost use Rattle.paths.specs.Places.{whole_at, context_at, lent_code};
 ghost use Rattle.paths.specs.Way.{Surveyed};
 ghost use Rattle.paths.specs.Calls.{context_of};
@@ -99,7 +99,7 @@ pub(crate) fn update(c: &[u8], path: &[u16], v: &[u8], strict: bool, out: &mut [
 // The context of `size` bytes and that level that was built in the spare place. Refusals 17, 18.
 fn give_within(spare: &[u8], size: usize, level: usize, out: &mut [u8]) -> Written
     requires { size ≤ most_bytes → size ≤ length spare.now }
-    ensures { (w : Val) → Holds spare.now size level w → Built (result_of (length out.old) w) out.old out.new result }
+    ensures { (w : Val) → Holds spare.now size level w → Built (checked_result (length out.old) w) out.old out.new result }
 {
     if MOST_BYTES < size {
         return Written::Refused(refusals::RESULT);
@@ -117,7 +117,7 @@ fn join_in(all: bool, c: &[u8], o: &[u8], spare: &mut [u8], out: &mut [u8]) -> W
     requires c_len_bound { (length c.now ≤ most_bytes) × (length o.now ≤ most_bytes) }
     requires most_bytes_in_bounds { min (length c.now + length o.now) most_bytes ≤ length spare.old }
     ensures { (es gs : Entries) → context_at value_levels c.now ≡ some es → context_at value_levels o.now ≡ some gs
-        → Built (result_of (length out.old) (v_context (merged all es gs))) out.old out.new result }
+        → Built (checked_result (length out.old) (v_context (merged all es gs))) out.old out.new result }
 {
     let mut level: usize = 0;
     let n = updates::merge(all, c, o, spare, &mut level);

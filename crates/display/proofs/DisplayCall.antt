@@ -10,7 +10,6 @@ use mathlib.Core.Option.{Option, none, some}
 use mathlib.Core.List.{List}
 use lib.ListN.{length, take}
 use lib.Seq.{take_all}
-use borrow.Author.Tests.{not-true, not-false}
 use Rattle.form.specs.Limits.{most_bytes, type_levels, type_refusals}
 use Rattle.form.specs.Trees.{Ty}
 use Rattle.form.specs.Form.{Bytes}
@@ -111,8 +110,8 @@ module _ (t table old : List ℕ) where
 
   module _ (b : Bytes t) (u : Ty) (e : read_type t ≡ done u) (q : Bool) (eq : q ≡ is_read (read_table table)) where
     -- the table is refused
-    pub display_second : not q ≡ true → Built (display_call t table (length old)) old old (written_is.Refused 19)
-    display_second h = built_refused (display_call t table (length old)) 19 old (display_unread t table u (length old) e (unread (read_table table) (sym eq ∙ not-true q h)))
+    pub display_second : q ≡ false → Built (display_call t table (length old)) old old (written_is.Refused 19)
+    display_second h = built_refused (display_call t table (length old)) 19 old (display_unread t table u (length old) e (unread (read_table table) (sym eq ∙ h)))
 
-    pub display_accepted : not q ≡ false → Accepted t table
-    display_accepted h = let R = read_some (read_table table) (sym eq ∙ not-false q h) in record { bytes = b; type = u; texts = R.0; read_t_lem = e; read_table_lem = R.1 }
+    pub display_accepted : q ≡ true → Accepted t table
+    display_accepted h = let R = read_some (read_table table) (sym eq ∙ h) in record { bytes = b; type = u; texts = R.0; read_t_lem = e; read_table_lem = R.1 }

@@ -1,7 +1,7 @@
 -- The loop that shows the entries of a context type: what is left of them, and what was written of their text.
 -- Idea: what was written and the text of what is left make the whole text.
--- Index: `FieldsInv`, `fields_start`, `fields_kept`, `fields_done` (the loop); `name_there`, `name_missing`, `name_inside`, `name_room` (a name); `type_there`, `type-missing`, `type-kept`,
--- `field-ends`, `field_next` (its type).
+-- Index: `FieldsInv`, `fields_start`, `fields_kept`, `fields_done` (the loop); `name_there`, `name_missing`, `name_inside`, `name_room` (a name); `type_there`, `type_missing`, `type_kept`,
+-- `field_ends`, `field_next` (its type).
 -- Assumes nothing.
 use Prim.Native.Nat.{ℕ, suc, ◌+◌, ◌-◌, ◌*◌, ◌<◌, ◌≤◌, ◌^◌, min}
 use mathlib.Core.Path.{◌≡◌, refl, sym, ap, subst, ◌∙◌}
@@ -144,14 +144,14 @@ module _ {l : ℕ} {s : List ℕ} {count : ℕ} {tab old out : List ℕ} {at to 
             gave : Gave of_types Q.ts A.x (behind p one) ys x
             gave = shows_is of_types (type_at l (behind (at + name_width) s)) (read_table tab) A.x Q.ts (behind p one) ys x (entry_behind A) Q.tabled T
 
-            pub type-kept : length (put_mid p (length one - p) one ys) ≡ length old
-            type-kept = back_length p one ys (gave_length of_types Q.ts A.x (behind p one) ys x gave) ∙ ap length one_is ∙ length_fill (Q.done ++ label i name) old
+            pub type_kept : length (put_mid p (length one - p) one ys) ≡ length old
+            type_kept = back_length p one ys (gave_length of_types Q.ts A.x (behind p one) ys x gave) ∙ ap length one_is ∙ length_fill (Q.done ++ label i name) old
 
-            pub type-missing : x ≡ No → Shows of_fields (fields_at l count 0 s) (read_table tab) old (put_mid p (length one - p) one ys) No
-            type-missing ex =
+            pub type_missing : x ≡ No → Shows of_fields (fields_at l count 0 s) (read_table tab) old (put_mid p (length one - p) one ys) No
+            type_missing ex =
                 failed (put_mid p (length one - p) one ys)
                 (ap (fields_from i Q.ts) A.is ∙ no_type i Q.ts A.name A.x A.more (gave_no of_types Q.ts A.x (behind p one) ys x gave ex))
-                type-kept
+                type_kept
 
             module _ (a c : ℕ) (ex : x ≡ Yes a c) where
               G : Got of_types Q.ts A.x (behind p one) ys a c
@@ -160,8 +160,8 @@ module _ {l : ℕ} {s : List ℕ} {count : ℕ} {tab old out : List ℕ} {at to 
               most : c + 2 ≤ most_bytes * a
               most = omega (arith, G.size, G.long, text_most Q.ts (table_named tab Q.ts Q.tabled) A.x G.bs G.is)
 
-              pub field-ends : (at + name_width + a ≤ length s) × (k + c ≤ most_bytes * (at + name_width + a))
-              field-ends = (omega (arith, G.size, A.fits), omega (arith, most, labelled))
+              pub field_ends : (at + name_width + a ≤ length s) × (k + c ≤ most_bytes * (at + name_width + a))
+              field_ends = (omega (arith, G.size, A.fits), omega (arith, most, labelled))
 
               pub field_next : p ≡ min k (length one) → FieldsInv l s count tab old (put_mid p (length one - p) one ys) (at + name_width + a) (k + c) (i + 1)
               field_next ep =
@@ -176,8 +176,8 @@ module _ {l : ℕ} {s : List ℕ} {count : ℕ} {tab old out : List ℕ} {at to 
                     tabled = Q.tabled;
                     short = Q.short;
                     below = omega arith;
-                    in_s = field-ends.0;
-                    low = field-ends.1;
+                    in_s = field_ends.0;
+                    low = field_ends.1;
                     read = ap (λ (z : ℕ). fields_at l (count - (i + 1)) (suc A.name) (drop (at + name_width + z) s)) G.size ∙ A.second;
                     sizes = omega (arith, Q.sizes, A.sized, G.size);
                     goes =

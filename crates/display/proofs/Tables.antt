@@ -12,7 +12,7 @@ use mathlib.Core.List.{List, [], ◌∷◌}
 use lib.ListN.{length, take, drop, get_or, drop_of_length-le}
 use lib.Seq.{drop-cons}
 use lib.Dec.{leb, ltb, eqb}
-use borrow.Author.Tests.{le-leb, lt-leb, eq-eqb, ne_eqb, not-true, not-false}
+use borrow.Author.Tests.{le-leb, lt-leb, eq-eqb, ne_eqb}
 use Rattle.form.specs.Form.{num_at}
 use Rattle.form.specs.Limits.{most_bytes}
 use Rattle.form.proofs.Numbers.{word_is}
@@ -51,12 +51,12 @@ module _ (s : List ℕ) (i : ℕ) (e : printable s ≡ printable (drop i s)) (h 
 
 -- ---- neither first nor last a space
 module _ (s : List ℕ) (p : Bool) (e : p ≡ printable s) where
-  pub untidy : not p ≡ true → false ≡ tidy s
-  untidy h = sym (ap (λ q. q && (not (eqb (first s) 0x20) && not (eqb (last s) 0x20))) (sym e ∙ not-true p h))
+  pub untidy : p ≡ false → false ≡ tidy s
+  untidy h = sym (ap (λ q. q && (not (eqb (first s) 0x20) && not (eqb (last s) 0x20))) (sym e ∙ h))
 
-  module _ (h : not p ≡ false) where
+  module _ (h : p ≡ true) where
     printed : (not (eqb (first s) 0x20) && not (eqb (last s) 0x20)) ≡ tidy s
-    printed = sym (ap (λ q. q && (not (eqb (first s) 0x20) && not (eqb (last s) 0x20))) (sym e ∙ not-false p h))
+    printed = sym (ap (λ q. q && (not (eqb (first s) 0x20) && not (eqb (last s) 0x20))) (sym e ∙ h))
 
     pub tidy_empty : length s ≡ 0 → true ≡ tidy s
     tidy_empty z = go s z ∙ printed
@@ -154,12 +154,12 @@ module _ {s : List ℕ} {count b at i : ℕ} (Q : Tabled s count b at i) (h : i 
   tidy_is : p ≡ tidy this
   tidy_is = e ∙ ap tidy (cut_is s at n)
 
-  pub table_untidy : not p ≡ true → false ≡ is_read (read_table s)
-  table_untidy r = left_bad Q.left h k n en l (ap (λ q. q && above (before_at i b at s) this) (sym tidy_is ∙ not-true p r))
+  pub table_untidy : p ≡ false → false ≡ is_read (read_table s)
+  table_untidy r = left_bad Q.left h k n en l (ap (λ q. q && above (before_at i b at s) this) (sym tidy_is ∙ r))
 
-  module _ (r : not p ≡ false) where
+  module _ (r : p ≡ true) where
     ruled : in_table (before_at i b at s) this ≡ above (before_at i b at s) this
-    ruled = ap (λ q. q && above (before_at i b at s) this) (sym tidy_is ∙ not-false p r)
+    ruled = ap (λ q. q && above (before_at i b at s) this) (sym tidy_is ∙ r)
 
     next : above (before_at i b at s) this ≡ true → Tabled s count (at + 1) (at + 1 + n) (i + 1)
     next a =
@@ -180,8 +180,8 @@ module _ {s : List ℕ} {count b at i : ℕ} (Q : Tabled s count b at i) (h : i 
           let y : i ≡ suc (i - 1) = omega arith in
           ap (λ (j : ℕ). above (before_at j b at s) this) y ∙ sym (f ∙ ap (less_text (take (at - b) (drop b s))) (cut_is s at n))
 
-      pub table_descends : not q ≡ true → false ≡ is_read (read_table s)
-      table_descends t = left_bad Q.left h k n en l (ruled ∙ above_is ∙ not-true q t)
+      pub table_descends : q ≡ false → false ≡ is_read (read_table s)
+      table_descends t = left_bad Q.left h k n en l (ruled ∙ above_is ∙ t)
 
-      pub table_ascends : not q ≡ false → Tabled s count (at + 1) (at + 1 + n) (i + 1)
-      table_ascends t = next (above_is ∙ not-false q t)
+      pub table_ascends : q ≡ true → Tabled s count (at + 1) (at + 1 + n) (i + 1)
+      table_ascends t = next (above_is ∙ t)

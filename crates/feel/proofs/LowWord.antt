@@ -47,7 +47,7 @@ use Rattle.updates.proofs.Formed.{count_size}
 use Rattle.feel.specs.Numbers.{high, Halves}
 use Rattle.feel.specs.LowWord.{Low, Short, Near, LowWord}
 use Rattle.feel.proofs.PartPlaces.{halves_deep, halves_entry, halves_first}
-use Rattle.output.specs.Result.{small, result_of}
+use Rattle.output.specs.Result.{small, checked_result}
 use Rattle.form.proofs.Options.{map_is}
 use Rattle.names.specs.BuiltInNames.{command, from_str}
 use Rattle.names.specs.Reader.{read_texts}
@@ -94,7 +94,7 @@ given_some n none x e = absurd (refused_done e)
 given_some n (some y) x e = let z : y ≡ x = cc in ap some z
 
 -- 17
-resulted : (room : ℕ) (v : Val) → Written (result_of room v)
+resulted : (room : ℕ) (v : Val) → Written (checked_result room v)
 unfolding ◌>>◌
 resulted room v = go (small v) refl
   where

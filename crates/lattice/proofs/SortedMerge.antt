@@ -1,6 +1,6 @@
 -- The loops that write the entries of two contexts, their names taken in step.
 -- Idea: what was written and the bytes of the answer to what is left make the bytes of the whole answer (`FieldsInv`).
--- Index: `FieldsInv`, `Peeked`, `fields_start`, `fields_done`, `more_a`, `more_b` (start and end); `both_ready`, `both_ends`, `both_next` (a common name); `skip_a`, `skip_b`
+-- Index: `FieldsInv`, `Peeked`, `peeked`, `fields_start`, `fields_done`, `more_a`, `more_b` (start and end); `both_ready`, `both_ends`, `both_next` (a common name); `skip_a`, `skip_b`
 -- (supertype: a name of one side is passed over); `a_ready`, `a_next`, `b_ready`, `b_next` (subtype: it is written); `entry_ready`, `written` (an entry of either).
 -- Assumes nothing.
 use Prim.Native.Nat.{ℕ, suc, ◌+◌, ◌-◌, ◌<◌, ◌≤◌}
@@ -71,6 +71,12 @@ pub record Peeked (a : List ℕ) (n : ℕ) (b : List ℕ) (m at i bt j x y : ℕ
   pub second : y ≡ cond (ltb j m) (num_at name_width bt b) name_end
   pub low : x ≤ name_end
   pub low2 : y ≤ name_end
+
+pub peeked : {a : List ℕ} {n : ℕ} {b : List ℕ} {m at i bt j x y : ℕ}
+    → record { value : x ≡ cond (ltb i n) (num_at name_width at a) name_end; upper_bound : (x ≤ name_end) × (i < n → x < name_end) }
+    → record { value : y ≡ cond (ltb j m) (num_at name_width bt b) name_end; upper_bound : (y ≤ name_end) × (j < m → y < name_end) }
+    → Peeked a n b m at i bt j x y
+peeked p q = record { first = p.value; second = q.value; low = p.upper_bound.0; low2 = q.upper_bound.0 }
 
 pub fields_start : {O : Order} → Ends O → (d : Dir) (l : ℕ) (a : List ℕ) (n : ℕ) (b : List ℕ) (m : ℕ) (old : List ℕ) → Ready (of_fields O d) (fields_at l n 0 a) (fields_at l m 0 b) (length old)
     → FieldsInv O d l a n b m old old 0 0 0 0 0 0

@@ -12,7 +12,7 @@ use mathlib.Core.List.{List, [], ◌∷◌, ◌++◌}
 use lib.ListN.{length, take, drop, get_or, length-append, length-drop}
 use lib.Seq.{drop-drop, length-take-le}
 use lib.Dec.{leb}
-use borrow.Author.Tests.{leb-true, not-true, not-false}
+use borrow.Author.Tests.{leb-true}
 use Rattle.form.specs.Limits.{most_bytes}
 use Rattle.form.specs.Outcome.{refused, ◌>>=◌, fits}
 use Rattle.form.specs.Answers.{Built}
@@ -228,12 +228,12 @@ unfolding name_new_call ◌>>=◌
 call_some parts ps room e = rw e
 
 module _ (parts : List ℕ) (q : Bool) (eq : q ≡ is_read (read_parts parts)) where
-  pub parts_refused : not q ≡ true → (old : List ℕ) → Built (name_new_call parts (length old)) old old (written_is.Refused 19)
-  parts_refused t old = built_refused (name_new_call parts (length old)) 19 old (call_none parts (length old) (unread (read_parts parts) (sym eq ∙ not-true q t)))
+  pub parts_refused : q ≡ false → (old : List ℕ) → Built (name_new_call parts (length old)) old old (written_is.Refused 19)
+  parts_refused t old = built_refused (name_new_call parts (length old)) 19 old (call_none parts (length old) (unread (read_parts parts) (sym eq ∙ t)))
 
-  module _ (t : not q ≡ false) where
+  module _ (t : q ≡ true) where
     abbrev G : (ps : List (List ℕ)) × (read_parts parts ≡ some ps)
-    G = read_some (read_parts parts) (sym eq ∙ not-false q t)
+    G = read_some (read_parts parts) (sym eq ∙ t)
 
     pub parts_ok : Ok (read_parts parts)
     parts_ok = is_ok (read_parts parts) G.0 G.1

@@ -12,7 +12,7 @@ use mathlib.Core.List.{List, [], ◌∷◌}
 use lib.ListN.{length, take, drop, get_or, drop_of_length-le}
 use lib.Seq.{drop-cons}
 use lib.Dec.{leb}
-use borrow.Author.Tests.{le-leb, lt-leb, not-true, not-false, leb-true}
+use borrow.Author.Tests.{le-leb, lt-leb, leb-true}
 use Rattle.form.specs.Limits.{most_bytes}
 use Rattle.order.proofs.Bools.{and_false, and_true}
 use Rattle.names.specs.Reader.{provided, read_texts, is_read}
@@ -85,10 +85,10 @@ parts_any before (suc c) (n ∷ s) = refl
 
 module _ {s : List ℕ} {count at i : ℕ} (Q : Left in_parts (read_parts s) none s count at i) (h : i < count) (k : at < length s)
     (n : ℕ) (en : n ≡ get_or s at 0) (l : n ≤ length s - (at + 1)) (p : Bool) (e : p ≡ plain (take (at + 1 + n - (at + 1)) (drop (at + 1) s))) where
-  pub parts_bad : not p ≡ true → false ≡ is_read (read_parts s)
-  parts_bad r = left_bad Q h k n en l (sym (e ∙ ap plain (cut_is s at n)) ∙ not-true p r)
+  pub parts_bad : p ≡ false → false ≡ is_read (read_parts s)
+  parts_bad r = left_bad Q h k n en l (sym (e ∙ ap plain (cut_is s at n)) ∙ r)
 
-  pub parts_next : not p ≡ false → Left in_parts (read_parts s) none s count (at + 1 + n) (i + 1)
+  pub parts_next : p ≡ true → Left in_parts (read_parts s) none s count (at + 1 + n) (i + 1)
   parts_next r =
-      let N = left_next Q h k n en l (sym (e ∙ ap plain (cut_is s at n)) ∙ not-false p r) in
+      let N = left_next Q h k n en l (sym (e ∙ ap plain (cut_is s at n)) ∙ r) in
       record { upto = N.upto; inside = N.inside; read = N.read ∙ ap is_read (parts_any (some (take n (drop (at + 1) s))) (count - (i + 1)) (drop (at + 1 + n) s)) }

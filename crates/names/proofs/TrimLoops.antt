@@ -13,7 +13,7 @@ use lib.ListN.{length, take, drop, get_or, drop_of_length-le, length-drop}
 use lib.Seq.{take_all, take-suc, drop-cons, length-take-le}
 use lib.Dec.{eqb}
 use denote.Ref.{Bor}
-use borrow.Author.Tests.{le-leb, lt-leb, ne_eqb, lt-ltb, eqb-true, eqb-false, not-true, not-false}
+use borrow.Author.Tests.{le-leb, lt-leb, ne_eqb, lt-ltb, eqb-true, eqb-false}
 use Rattle.form.specs.Limits.{most_bytes}
 use Rattle.form.specs.Outcome.{refused, ◌>>◌, fits}
 use Rattle.form.specs.Answers.{Built}
@@ -65,14 +65,14 @@ module _ {s : List ℕ} {i : ℕ} (Q : Starting s i) where
       (Q.inside, e ∙ sym start_nil ∙ ap trim_start (sym e) ∙ Q.same)
 
   module _ (h : i < length s) (q : Bool) (eq : q ≡ blank (get_or s i 0)) where
-    pub starting_next : not q ≡ false → Starting s (i + 1)
+    pub starting_next : q ≡ true → Starting s (i + 1)
     starting_next b = record {
       inside = omega arith;
-      same = ap (λ (k : ℕ). trim_start (drop k s)) (add-one i) ∙ sym (start_more (get_or s i 0) (drop (suc i) s) (sym eq ∙ not-false q b)) ∙ ap trim_start (sym (drop-cons s i 0 h)) ∙ Q.same;
+      same = ap (λ (k : ℕ). trim_start (drop k s)) (add-one i) ∙ sym (start_more (get_or s i 0) (drop (suc i) s) (sym eq ∙ b)) ∙ ap trim_start (sym (drop-cons s i 0 h)) ∙ Q.same;
     }
 
-    pub starting_done : not q ≡ true → (i ≤ length s) × (drop i s ≡ trim_start s)
-    starting_done b = (Q.inside, drop-cons s i 0 h ∙ sym (start_kept (get_or s i 0) (drop (suc i) s) (sym eq ∙ not-true q b)) ∙ ap trim_start (sym (drop-cons s i 0 h)) ∙ Q.same)
+    pub starting_done : q ≡ false → (i ≤ length s) × (drop i s ≡ trim_start s)
+    starting_done b = (Q.inside, drop-cons s i 0 h ∙ sym (start_kept (get_or s i 0) (drop (suc i) s) (sym eq ∙ b)) ∙ ap trim_start (sym (drop-cons s i 0 h)) ∙ Q.same)
 
 -- ---- at the end
 end_more : (s : List ℕ) (b : ℕ) → blank b ≡ true → trim_end (s ++ (b ∷ [])) ≡ trim_end s
@@ -112,14 +112,14 @@ module _ {s : List ℕ} {i : ℕ} (Q : Ending s i) where
     last_byte = let z : i ≡ suc (i - 1) = omega arith in ap (λ (k : ℕ). take k s) z ∙ take-suc s (i - 1) 0 ending_read
 
     module _ (q : Bool) (eq : q ≡ blank (get_or s (i - 1) 0)) where
-      pub ending_next : not q ≡ false → Ending s (i - 1)
+      pub ending_next : q ≡ true → Ending s (i - 1)
       ending_next b = record {
         inside = omega (arith, Q.inside);
-        same = sym (end_more (take (i - 1) s) (get_or s (i - 1) 0) (sym eq ∙ not-false q b)) ∙ ap trim_end (sym last_byte) ∙ Q.same;
+        same = sym (end_more (take (i - 1) s) (get_or s (i - 1) 0) (sym eq ∙ b)) ∙ ap trim_end (sym last_byte) ∙ Q.same;
       }
 
-      pub ending_done : not q ≡ true → (i ≤ length s) × (take i s ≡ trim_end s)
-      ending_done b = (Q.inside, last_byte ∙ sym (end_kept (take (i - 1) s) (get_or s (i - 1) 0) (sym eq ∙ not-true q b)) ∙ ap trim_end (sym last_byte) ∙ Q.same)
+      pub ending_done : q ≡ false → (i ≤ length s) × (take i s ≡ trim_end s)
+      ending_done b = (Q.inside, last_byte ∙ sym (end_kept (take (i - 1) s) (get_or s (i - 1) 0) (sym eq ∙ b)) ∙ ap trim_end (sym last_byte) ∙ Q.same)
 
 -- ---- both
 module _ (s : List ℕ) (from to : ℕ) (f : (from ≤ length s) × (drop from s ≡ trim_start s)) (t : (to ≤ length (take (length s - from) (drop from s))) ×

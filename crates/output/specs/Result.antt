@@ -11,7 +11,7 @@ abbrev pub small : Val → Bool
 small v = leb (length (enc_v v)) most_bytes && leb (level_v v) value_levels
 
 -- 17: a value over 16,384 bytes or level 31; 18: no room for the answer
-abbrev pub result_of : ℕ → Val → Outcome (List ℕ)
-result_of room v = do
+abbrev pub checked_result : ℕ → Val → Outcome (List ℕ)
+checked_result room v = do
   check 17 (small v)
   fits room (enc_v v)

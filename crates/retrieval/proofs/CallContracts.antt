@@ -43,10 +43,10 @@ use Rattle.output.proofs.FillLaws.{handed}
 use Rattle.retrieval.proofs.Theorems.{less_val, there, conformant_value}
 use Rattle.form.specs.Options.{map}
 use Rattle.output.specs.Output.{fill, Filled}
-use Rattle.output.specs.Result.{small, result_of}
+use Rattle.output.specs.Result.{small, checked_result}
 use Rattle.values.proofs.CallContracts.{not_held}
 
-small_result : (room : ℕ) (w : Val) → small w ≡ true → fits room (enc_v w) ≡ result_of room w
+small_result : (room : ℕ) (w : Val) → small w ≡ true → fits room (enc_v w) ≡ checked_result room w
 unfolding ◌>>◌
 small_result room w h = rw h
 
@@ -150,7 +150,7 @@ module _ (t v : List ℕ) (A : Accepted t v) where
       call_done new q d = handed (get_value_checked_call t v (length old)) (enc_v F.w) spare was old new n q (checked_is (length old) F.w F.is) F.out F.long within d
 
   -- ---- `get_conformant_value`
-  pub conformant_is : (room : ℕ) → get_conformant_value_call t v room ≡ result_of room (get_conformant_value A.type A.value)
+  pub conformant_is : (room : ℕ) → get_conformant_value_call t v room ≡ checked_result room (get_conformant_value A.type A.value)
   unfolding get_conformant_value_call ◌>>=◌ ◌>>◌
   conformant_is room = rw (A.read_t_lem, A.read_v_lem)
 
@@ -178,26 +178,26 @@ module _ (t v : List ℕ) (A : Accepted t v) where
       go (built (function ps r)) h = refl
 
   -- null with a trace is small
-  pub nothing_is : (room n : ℕ) → result_of room (nothing n) ≡ fits room (0 ∷ n ∷ [])
+  pub nothing_is : (room n : ℕ) → checked_result room (nothing n) ≡ fits room (0 ∷ n ∷ [])
   unfolding ◌>>◌ enc_v enc_leaf level_v
   nothing_is room n = refl
 
   pub null_target : get_or t 0 0 ≡ 0x29 → (room : ℕ) → fits room (0 ∷ 0 ∷ []) ≡ get_conformant_value_call t v room
-  null_target e room = sym (conformant_is room ∙ ap (λ q. result_of room (cond q (nothing 0) (cond (value_conforms_to A.value A.type) (or_nothing (retrieve A.value A.type)) (nothing 2))))
+  null_target e room = sym (conformant_is room ∙ ap (λ q. checked_result room (cond q (nothing 0) (cond (value_conforms_to A.value A.type) (or_nothing (retrieve A.value A.type)) (nothing 2))))
       (null_type_lem e) ∙ nothing_is room 0)
 
   pub not_conformant : (get_or t 0 0 ≡ 0x29 → ⊥) → false ≡ is_yes (is_conformant v t) → (room : ℕ) → fits room (0 ∷ 2 ∷ []) ≡ get_conformant_value_call t v room
   not_conformant d e room =
       sym (conformant_is room
-      ∙ ap (λ q. result_of room (cond q (nothing 0) (cond (value_conforms_to A.value A.type) (or_nothing (retrieve A.value A.type)) (nothing 2)))) (other_type d)
-      ∙ ap (λ q. result_of room (cond q (or_nothing (retrieve A.value A.type)) (nothing 2))) (not_held t v A e) ∙ nothing_is room 2)
+      ∙ ap (λ q. checked_result room (cond q (nothing 0) (cond (value_conforms_to A.value A.type) (or_nothing (retrieve A.value A.type)) (nothing 2)))) (other_type d)
+      ∙ ap (λ q. checked_result room (cond q (or_nothing (retrieve A.value A.type)) (nothing 2))) (not_held t v A e) ∙ nothing_is room 2)
 
   pub is_conformant_lem : value_conforms_to A.value A.type ≡ true → (room : ℕ) → get_value_checked_call t v room ≡ get_conformant_value_call t v room
   is_conformant_lem h room =
       let T = there A.value A.type well (asc_of A.type (type_accepted t A.bytes_t A.type A.read_t_lem).well) h in
       checked_is room T.w T.is
       ∙ small_result room T.w (retrieved_small T.w T.is)
-      ∙ sym (conformant_is room ∙ ap (result_of room) (conformant_value A.value A.type h ∙ ap or_nothing T.is))
+      ∙ sym (conformant_is room ∙ ap (checked_result room) (conformant_value A.value A.type h ∙ ap or_nothing T.is))
 
 -- ---- arguments that are refused
 pub checked_refused_t : (t v : List ℕ) (n k : ℕ) → read_type t ≡ refused n → get_value_checked_call t v k ≡ refused n

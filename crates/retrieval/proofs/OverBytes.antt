@@ -29,7 +29,7 @@ use Rattle.retrieval.specs.Calls.{get_value_checked_call, get_conformant_value_c
 use Rattle.retrieval.specs.OverBytes.{Conformant, RetrievedBytes, result_of, OverBytes}
 use Rattle.retrieval.proofs.Theorems.{less_val, there}
 use Rattle.retrieval.proofs.ByNames.{by_names}
-use Rattle.output.specs.Result.{result_of}
+use Rattle.output.specs.Result.{checked_result}
 use Rattle.retrieval.proofs.CallContracts.{well, checked_is, checked_err, retrieved_within, value_short, conformant_is, nothing_is, null_type_lem, null_target, not_conformant, is_conformant_lem}
 
 -- an answer or 18
@@ -104,13 +104,13 @@ module _ (t v : List ℕ) (A : Accepted t v) where
       go (built x) h = absurd (let z : ◌≡◌ {A = ℕ} 0 1 = cc in omega arith)
 
   by_tests : (room : ℕ) (p q : Bool) → is_null_type A.type ≡ p → value_conforms_to A.value A.type ≡ q
-      → get_conformant_value_call t v room ≡ result_of room (cond p (nothing 0) (cond q (or_nothing (retrieve A.value A.type)) (nothing 2)))
+      → get_conformant_value_call t v room ≡ checked_result room (cond p (nothing 0) (cond q (or_nothing (retrieve A.value A.type)) (nothing 2)))
   by_tests room p q f g = conformant_is t v A room ∙ rw (f, g)
 
   refuses : (room n : ℕ) → get_conformant_value_call t v room ≡ refused n → n ≡ 18
   refuses room n e = go (is_null_type A.type) (value_conforms_to A.value A.type) refl refl
     where
-      of_nothing : (k : ℕ) → get_conformant_value_call t v room ≡ result_of room (nothing k) → n ≡ 18
+      of_nothing : (k : ℕ) → get_conformant_value_call t v room ≡ checked_result room (nothing k) → n ≡ 18
       of_nothing k g = fits_refused room (0 ∷ k ∷ []) n (sym (nothing_is t v A room k) ∙ sym g ∙ e)
 
       go : (p q : Bool) → is_null_type A.type ≡ p → value_conforms_to A.value A.type ≡ q → n ≡ 18

@@ -8,7 +8,7 @@ use Rattle.form.specs.Outcome.{Outcome, done, refused, ◌>>=◌, or_refuse, fit
 use Rattle.values.specs.Calls as values
 use Rattle.retrieval.specs.ByNames.{retrieve_by_names}
 use Rattle.retrieval.specs.Calls.{get_value_checked_call, get_conformant_value_call}
-use Rattle.output.specs.Result.{result_of}
+use Rattle.output.specs.Result.{checked_result}
 use Rattle.values.specs.Calls.{Accepted}
 
 -- an accepted type, an accepted value, and the call for conformance says yes
@@ -28,7 +28,7 @@ pub record RetrievedBytes (t v : List ℕ) : Type 0 where
 abbrev pub result_of : ℕ → Option Val → Outcome (List ℕ)
 result_of room o = do
   x ← or_refuse 15 o
-  result_of room x
+  checked_result room x
 
 pub record OverBytes : Type 0 where
   -- `get_value_checked` is retrieval over the type's names, as document 01 says it: 15 is its Err

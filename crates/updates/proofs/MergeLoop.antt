@@ -56,15 +56,18 @@ left_starts l s n es C e =
 
 -- the next name, or the end
 abbrev pub Seen : List ℕ → ℕ → ℕ → ℕ → ℕ → Type 0
-Seen s n at i x = (x ≡ cond (ltb i n) (num_at name_width at s) name_end) × ((x ≤ name_end) × (i < n → x < name_end))
+Seen s n at i x = record {
+  value : x ≡ cond (ltb i n) (num_at name_width at s) name_end;
+  upper_bound : (x ≤ name_end) × (i < n → x < name_end);
+}
 
 module _ {l : ℕ} {s : List ℕ} {n at i : ℕ} {es : Entries} (L : Left l s n at i es) where
   module _ {x : ℕ} (X : Seen s n at i x) where
     left_above : (y : ℕ) → y < x → From (suc y) es
-    left_above y h = above (l - 1) i n at L.least s es L.read x y X.0 h
+    left_above y h = above (l - 1) i n at L.least s es L.read x y X.value h
 
     left_ended : x ≡ name_end → es ≡ no_entries
-    left_ended e = none_left (l - 1) i n at L.least s es (at_end_lem i n x X.1.1 e) L.read
+    left_ended e = none_left (l - 1) i n at L.least s es (at_end_lem i n x X.upper_bound.1 e) L.read
 
   module _ (h : i < n) where
     abbrev A : This (l - 1) (n - (i + 1)) at L.least s es
@@ -74,7 +77,7 @@ module _ {l : ℕ} {s : List ℕ} {n at i : ℕ} {es : Entries} (L : Left l s n 
     name_in = A.two
 
     left_name : {x : ℕ} → Seen s n at i x → x < name_end → x ≡ A.name
-    left_name {x} X b = (next_is i n (num_at name_width at s) x X.0 b).1 ∙ sym A.named
+    left_name {x} X b = (next_is i n (num_at name_width at s) x X.value b).1 ∙ sym A.named
 
     module _ (z : ℕ) (e : z ≡ size_at_v (value_at (l - 1) (behind (at + name_width) s))) where
       skipped : z ≡ size_val A.x
@@ -266,7 +269,7 @@ module _ {all : Bool} {l : ℕ} {c o : List ℕ} {n m : ℕ} {mid out : List ℕ
     -- ---- a name that the other lacks
     module _ (h : x < y) where
       pub own_more : i < n
-      own_more = (next_is i n (num_at name_width at c) x X.0 (omega (arith, Y.1.0))).0
+      own_more = (next_is i n (num_at name_width at c) x X.value (omega (arith, Y.upper_bound.0))).0
 
       pub own_next : (z v : ℕ) (T : Passes l c at z v) → Bytes c → (new : List ℕ) (t d : ℕ)
           → t ≡ to + length (entry_bytes Q.left_c own_more z (passed l c at T)) → new ≡ puts to (entry_bytes Q.left_c own_more z (passed l c at T)) out → d ≡ max deep v
@@ -274,7 +277,7 @@ module _ {all : Bool} {l : ℕ} {c o : List ℕ} {n m : ℕ} {mid out : List ℕ
       own_next z v T =
           let L = Q.left_c in
           let E = A L own_more in
-          let named : x ≡ E.name = left_name L own_more X (omega (arith, Y.1.0)) in
+          let named : x ≡ E.name = left_name L own_more X (omega (arith, Y.upper_bound.0)) in
           let f : From (suc E.name) Q.gs = subst (λ (q : ℕ). From (suc q) Q.gs) named (left_above Q.left_o Y x h) in
           entry_joined L own_more z v T (left_next L own_more z (passed l c at T)) Q.left_o (omega arith)
           (ap (λ q. merged all q Q.gs) E.is ∙ merged_own all E.name E.x E.more Q.gs f)
@@ -282,14 +285,14 @@ module _ {all : Bool} {l : ℕ} {c o : List ℕ} {n m : ℕ} {mid out : List ℕ
     -- ---- a name that only the other has
     module _ (h : y < x) where
       pub new_more : j < m
-      new_more = (next_is j m (num_at name_width bt o) y Y.0 (omega (arith, X.1.0))).0
+      new_more = (next_is j m (num_at name_width bt o) y Y.value (omega (arith, X.upper_bound.0))).0
 
       abbrev O : This (l - 1) (m - (j + 1)) bt Q.left_o.least o Q.gs
       O = A Q.left_o new_more
 
       own_above : From (suc O.name) Q.es
       own_above =
-          let named : y ≡ O.name = left_name Q.left_o new_more Y (omega (arith, X.1.0)) in
+          let named : y ≡ O.name = left_name Q.left_o new_more Y (omega (arith, X.upper_bound.0)) in
           subst (λ (q : ℕ). From (suc q) Q.es) named (left_above Q.left_c X y h)
 
       module _ (z v : ℕ) (T : Passes l o bt z v) where
@@ -323,13 +326,13 @@ module _ {all : Bool} {l : ℕ} {c o : List ℕ} {n m : ℕ} {mid out : List ℕ
       -- ---- a common name
       module _ (d : x ≡ name_end → ⊥) where
         below_end : x < name_end
-        below_end = omega (arith, X.1.0)
+        below_end = omega (arith, X.upper_bound.0)
 
         pub both_c : i < n
-        both_c = (next_is i n (num_at name_width at c) x X.0 below_end).0
+        both_c = (next_is i n (num_at name_width at c) x X.value below_end).0
 
         pub both_o : j < m
-        both_o = (next_is j m (num_at name_width bt o) y Y.0 (omega (arith, below_end))).0
+        both_o = (next_is j m (num_at name_width bt o) y Y.value (omega (arith, below_end))).0
 
         pub both_next : (u : ℕ) → u ≡ size_at_v (value_at (l - 1) (behind (at + name_width) c)) → (z v : ℕ) (T : Passes l o bt z v) → Bytes o → (new : List ℕ) (t d : ℕ)
             → t ≡ to + length (entry_bytes Q.left_o both_o z (passed l o bt T)) → new ≡ puts to (entry_bytes Q.left_o both_o z (passed l o bt T)) out → d ≡ max deep v

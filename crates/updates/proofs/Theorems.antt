@@ -61,6 +61,8 @@ created_beside n m q (k ∷ ks) x es d = search_beside n q m (v_context (create 
 
 created_deeper : (n : ℕ) (q p : List ℕ) (x : Val) (es : Entries) → Apart q p → ((fs : Entries) → search q (create p x fs) ≡ search q fs) → search (n ∷ q) (create (n ∷ p) x es) ≡ search (n ∷ q) es
 unfolding search create
+created_deeper n [] p x es a ih = elim a [ ]
+created_deeper n (k ∷ ks) [] x es a ih = elim a [ ]
 created_deeper n (k ∷ ks) (m ∷ ms) x es a ih =
     let fs = or_empty (context_under n es) in
     search_under n k ks (v_context (create (m ∷ ms) x fs)) es ∙ ih fs ∙ search_or_empty (k ∷ ks) (context_under n es)

@@ -1,5 +1,5 @@
 // How to ask.
-use libc::STDOUT_FILENO;
+use std::io::Result;
 
 // How lines are read.
 const LINES: [u8; 753] = *b"\
@@ -120,12 +120,12 @@ const ANSWERS: [u8; 367] = *b"\
 ";
 
 // Writes it.
-pub(crate) fn print() {
-    io::write_all(STDOUT_FILENO, &LINES);
-    io::write_all(STDOUT_FILENO, &ARGUMENTS);
-    io::write_all(STDOUT_FILENO, &QUESTIONS);
-    io::write_all(STDOUT_FILENO, &MORE);
-    io::write_all(STDOUT_FILENO, &STRICT);
-    io::write_all(STDOUT_FILENO, &OVER);
-    io::write_all(STDOUT_FILENO, &ANSWERS);
+pub(crate) fn print(rt: HostRuntime) -> Result<()> {
+    rt.write_all(&LINES)?;
+    rt.write_all(&ARGUMENTS)?;
+    rt.write_all(&QUESTIONS)?;
+    rt.write_all(&MORE)?;
+    rt.write_all(&STRICT)?;
+    rt.write_all(&OVER)?;
+    rt.write_all(&ANSWERS)
 }

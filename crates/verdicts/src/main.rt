@@ -1,16 +1,21 @@
 // Answers questions: each line of the input asks one of the calls with its arguments in hexadecimal, and gets one line of answer.
 // `verdicts --help` tells how to ask.
-ghost use Rattle.std.specs.Prelude.{◌≡◌, ◌<◌, ◌≤◌, length};
+#![tactic(auto)]
+
+ghost use Rattle.std.specs.Prelude.{◌≡◌, ◌<◌, ◌≤◌, IfOk, length};
 
 mod help;
 mod say;
 
-use libc::STDIN_FILENO;
 use lines::line;
 use lines::line::Line;
 use lines::text::Answer;
 use questions::ask;
 use say::Out;
+use std::env::{Env, FillError};
+use std::fs::File;
+use std::io::{Read, Result, Stdin};
+use std::str;
 
 // Room for the longest answer: the text of a type has fewer than 100 bytes for each byte of the type.
 const BUILT: usize = 1638400;
@@ -43,7 +48,7 @@ fn more(n: u64) -> u64 {
 }
 
 // Nothing is read yet.
-fn begin() -> State {
+fn begin(rt: HostRuntime) -> State {
     let tally = Tally {
         answered: 0,
         refused: 0,
@@ -54,6 +59,7 @@ fn begin() -> State {
     let out = Out {
         at: 0,
         broken: false,
+        rt,
     };
     let line = line::fresh();
     State {
@@ -154,6 +160,23 @@ fn walk(
     r
 }
 
+// What is read from.
+#[derive(Drop)]
+enum Source {
+    Input(Stdin),
+    Opened(File),
+}
+
+// Reads once: how many bytes came, 0 at the end.
+fn read_once(source: &mut Source, chunk: &mut [u8]) -> Result<usize>
+    ensures { IfOk result (λ n. n ≤ length chunk.new) }
+{
+    match source {
+        Source::Input(input) => input.read(chunk),
+        Source::Opened(file) => file.read(chunk),
+    }
+}
+
 // What a read left, and whether to go on.
 #[derive(Drop)]
 struct Turn {
@@ -164,21 +187,19 @@ struct Turn {
 // Reads once, and answers what came. At the end of the file the last line is whole, also without a line end.
 fn read_some(
     s: State,
-    fd: i32,
+    source: &mut Source,
     name: &[u8],
     data: &mut [u8; LARGE],
     built: &mut [u8; BUILT],
     buf: &mut [u8; LARGE],
 ) -> Turn {
     let mut chunk = io::large_buffer();
-    let got = libc::read(fd, &mut chunk);
-    if got < 0 {
+    let Ok(n) = read_once(source, &mut chunk) else {
         return last_turn(unreadable(s, name, buf));
-    }
-    if got == 0 {
+    };
+    if n == 0 {
         return last_turn(end_line(s, name, data, built, buf));
     }
-    let n = io::count(got, &chunk);
     turn_of(walk(s, &chunk[..n], name, data, built, buf))
 }
 
@@ -217,7 +238,7 @@ fn turns_left(turns: u64, more: bool) -> u64
 // Reads a file to its end.
 fn read_file(
     s: State,
-    fd: i32,
+    source: &mut Source,
     name: &[u8],
     data: &mut [u8; LARGE],
     built: &mut [u8; BUILT],
@@ -226,7 +247,7 @@ fn read_file(
     let mut r = first_line(s);
     let mut turns = u64::MAX;
     while turns > 0 {
-        let t = read_some(r, fd, name, data, built, buf);
+        let t = read_some(r, source, name, data, built, buf);
         r = t.state;
         turns = turns_left(turns, t.more);
     }
@@ -244,21 +265,17 @@ fn first_line(s: State) -> State {
 
 // ---- the files
 
-// The file with this name; `-` is standard input, and so is no argument at all.
-fn open(name: &[u8], none: bool) -> i32 {
+// The file with this name; `-` is standard input, and so is no argument at all. A name that is not UTF-8 opens nothing.
+fn open(rt: HostRuntime, name: &[u8], none: bool) -> Option<Source> {
     if none {
-        return STDIN_FILENO;
+        return Some(Source::Input(rt.stdin()));
     }
     if check::same(name, b"-") {
-        return STDIN_FILENO;
+        return Some(Source::Input(rt.stdin()));
     }
-    os::open_read(name)
-}
-
-fn shut(fd: i32) {
-    if fd != STDIN_FILENO {
-        libc::close(fd);
-    }
+    let path = str::from_utf8(name).ok()?;
+    let file = File::open(&rt, path).ok()?;
+    Some(Source::Opened(file))
 }
 
 // The file cannot be opened. A name that is too long to be kept is not repeated.
@@ -272,8 +289,16 @@ fn unopened(s: State, name: &[u8], buf: &mut [u8; LARGE]) -> State {
     r
 }
 
+// Puts an argument at the front of `text`; answers its length, 0 where it is missing or longer than `text`.
+fn argument(rt: HostRuntime, i: usize, text: &mut [u8]) -> usize
+    ensures { result ≤ length text.new }
+{
+    rt.arg(i, text).unwrap_or(0)
+}
+
 // Reads the file that an argument names, or standard input where there is none.
 fn read_named(
+    rt: HostRuntime,
     s: State,
     i: usize,
     none: bool,
@@ -282,15 +307,31 @@ fn read_named(
     buf: &mut [u8; LARGE],
 ) -> State {
     let mut path = io::buffer();
-    let n = os::arg(i, &mut path);
+    let n = argument(rt, i, &mut path);
     let name = &path[..n];
-    let fd = open(name, none);
-    if fd < 0 {
+    let Some(mut source) = open(rt, name, none) else {
         return unopened(s, name, buf);
+    };
+    read_file(s, &mut source, name, data, built, buf)
+}
+
+// Whether there is an argument with this number.
+fn is_argument(rt: HostRuntime, i: usize) -> bool {
+    let mut first = [0u8; 8];
+    match rt.arg(i, &mut first) {
+        Ok(_) | Err(FillError::TooLong) => true,
+        Err(FillError::NotPresent) => false,
     }
-    let r = read_file(s, fd, name, data, built, buf);
-    shut(fd);
-    r
+}
+
+// How many arguments the program was started with, its own name among them.
+fn arg_count(rt: HostRuntime) -> usize {
+    for i in 0..usize::MAX {
+        if !is_argument(rt, i) {
+            return i;
+        }
+    }
+    usize::MAX
 }
 
 // How far the arguments go that name a file; without any, one names standard input.
@@ -299,23 +340,28 @@ fn files_end(count: usize) -> usize {
 }
 
 // Reads all there is to read: the files that the arguments name, from the first on.
-fn read_files(data: &mut [u8; LARGE], built: &mut [u8; BUILT], buf: &mut [u8; LARGE]) -> State {
-    let count = os::arg_count();
+fn read_files(
+    rt: HostRuntime,
+    data: &mut [u8; LARGE],
+    built: &mut [u8; BUILT],
+    buf: &mut [u8; LARGE],
+) -> State {
+    let count = arg_count(rt);
     let end = files_end(count);
-    let mut r = begin();
+    let mut r = begin(rt);
     let mut i = 1;
     while i < end {
         let next = i + 1;
-        r = read_named(r, i, count < 2, data, built, buf);
+        r = read_named(rt, r, i, count < 2, data, built, buf);
         i = next;
     }
     r
 }
 
 // Whether the first argument asks for help.
-fn wants_help() -> bool {
+fn wants_help(rt: HostRuntime) -> bool {
     let mut first = [0u8; 8];
-    let n = os::arg(1, &mut first);
+    let n = argument(rt, 1, &mut first);
     if check::same(&first[..n], b"--help") {
         return true;
     }
@@ -329,14 +375,14 @@ fn built_room() -> [u8; BUILT]
     [0; BUILT]
 }
 
-fn main() {
-    if wants_help() {
-        help::print();
-        return;
+fn main(rt: HostRuntime) -> Result<()> {
+    if wants_help(rt) {
+        return help::print(rt);
     }
     let mut data = io::large_buffer();
     let mut built = built_room();
     let mut buf = io::large_buffer();
-    let s = read_files(&mut data, &mut built, &mut buf);
+    let s = read_files(rt, &mut data, &mut built, &mut buf);
     say::total(s.out, s.tally, &mut buf);
+    Ok(())
 }

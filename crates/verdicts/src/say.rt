@@ -2,7 +2,6 @@
 ghost use Rattle.std.specs.Prelude.{◌<◌, ◌≤◌, length};
 
 use crate::Tally;
-use libc::STDOUT_FILENO;
 use lines::text;
 use lines::text::Answer;
 
@@ -12,38 +11,42 @@ const PIECE: usize = 16384;
 // Room for the words of any answer.
 const WORDS: usize = 128;
 
-// How many bytes the buffer holds, and whether a write failed; nothing is written from then on.
+// How many bytes the buffer holds, whether a write failed, from when on nothing is written, and what writes.
 #[derive(Clone, Copy)]
 pub struct Out {
     pub at: usize,
     pub broken: bool,
+    pub rt: HostRuntime,
 }
 
 // ---- the buffer
 
+// Writes all of a text; answers whether it could, and says on standard error where it could not.
+fn write(rt: HostRuntime, text: &[u8]) -> bool {
+    match rt.write_all(text) {
+        Ok(()) => true,
+        Err(e) => {
+            let _ = eprintln!(rt; "standard output: {e}");
+            false
+        }
+    }
+}
+
 // Writes what the buffer holds.
 pub(crate) fn flush(o: Out, buf: &[u8]) -> Out {
+    let mut r = o;
     let n = o.at;
+    r.at = 0;
     if o.broken {
-        return Out {
-            at: 0,
-            broken: true,
-        };
+        return r;
     }
     if buf.len() < n {
-        return Out {
-            at: 0,
-            broken: true,
-        };
+        r.broken = true;
+        return r;
     }
-    let good = io::write_all(STDOUT_FILENO, &buf[0..n]);
-    if !good {
-        os::fail(b"standard output");
-    }
-    Out {
-        at: 0,
-        broken: !good,
-    }
+    let good = write(o.rt, &buf[0..n]);
+    r.broken = !good;
+    r
 }
 
 // Makes room for `n` bytes.
@@ -70,6 +73,7 @@ pub(crate) fn put(o: Out, text: &[u8], buf: &mut [u8]) -> Out {
     Out {
         at: at + text.len(),
         broken: r.broken,
+        rt: r.rt,
     }
 }
 
@@ -84,6 +88,7 @@ fn put_piece(o: Out, bytes: &[u8], buf: &mut [u8]) -> Out {
     Out {
         at: at + n,
         broken: r.broken,
+        rt: r.rt,
     }
 }
 

@@ -30,7 +30,7 @@ use Rattle.coercion.proofs.Theorems.{coercion}
 use Rattle.vote.specs.Vote.{AcceptedValue, DataValue, AcceptedType}
 use Rattle.vote.specs.Agreement.{TypeOfAnswered, Agreement}
 use Rattle.vote.proofs.Vote.{accepted_value, short, wf_any, wf_accepted, long_value, as_value, held_call}
-use Rattle.output.specs.Result.{result_of}
+use Rattle.output.specs.Result.{checked_result}
 
 -- what `instance_of` answered
 instance_answered : (a b : AcceptedType) → types.instance_of a.bytes b.bytes ≡ done true → is_instance_of a.type b.type ≡ true
@@ -65,9 +65,9 @@ inferred v =
 own : (v : DataValue) → value_conforms_to v.value (type_of v.value) ≡ true
 own v = type_of_conforms v.value (accepted_value (as_value v)).well v.data_only
 
-converts : (v : DataValue) (t : AcceptedType) (room : ℕ) → coerced_call v.bytes t.bytes room ≡ result_of room (dmn_coerced v.value t.type)
+converts : (v : DataValue) (t : AcceptedType) (room : ℕ) → coerced_call v.bytes t.bytes room ≡ checked_result room (dmn_coerced v.value t.type)
 unfolding coerced_call ◌>>=◌
-converts v t room = rw (v.accepted, t.accepted) (ap (result_of room) (coercion.data_is_dmn_coercion v.value t.type v.data_only))
+converts v t room = rw (v.accepted, t.accepted) (ap (checked_result room) (coercion.data_is_dmn_coercion v.value t.type v.data_only))
 
 pub agreement : Agreement
 agreement =

@@ -20,7 +20,7 @@ use Rattle.infer.specs.Calls.{type_of_call}
 use Rattle.coercion.specs.Dmn.{dmn_coerced}
 use Rattle.coercion.specs.Calls.{coerced_call}
 use Rattle.vote.specs.Vote.{DataValue, AcceptedType, AnyType}
-use Rattle.output.specs.Result.{result_of}
+use Rattle.output.specs.Result.{checked_result}
 
 -- what `type_of` answered, with some scratch and some room
 pub record TypeOfAnswered (v answer : List ℕ) : Type 0 where
@@ -51,8 +51,8 @@ pub record Agreement : Type 0 where
   -- It conforms to its own `type_of`, and the calls say so.
   pub own_type : (v : DataValue) → value_conforms_to v.value (type_of v.value) ≡ true
   pub own_answer : (v : DataValue) (a : List ℕ) → TypeOfAnswered v.bytes a → values.is_conformant v.bytes a ≡ done true
-  -- Implicit conversion: what `coerced` answers of a data value is DMN's, by types, with the refusals 17 and 18 of the result.
-  pub conversion : (v : DataValue) (t : AcceptedType) (room : ℕ) → coerced_call v.bytes t.bytes room ≡ result_of room (dmn_coerced v.value t.type)
+  -- Implicit conversion: what `coerced` answers of a data value is DMN's, by types, with the refusals 17 and 18 of the checked_result.
+  pub conversion : (v : DataValue) (t : AcceptedType) (room : ℕ) → coerced_call v.bytes t.bytes room ≡ checked_result room (dmn_coerced v.value t.type)
   -- FUNCTION DEFINITIONS, by their function type
   -- To a type, of any size, that is no function type: the two agree.
   pub definition_other : (ps : Params) (b : ℕ) (r : Ty) (t : AnyType) → ((qs : Tys) (s : Ty) → t.type ≡ built (function qs s) → ⊥)

@@ -19,7 +19,7 @@ returns-then-cut-eq0 c =
     let args = c.args in
     let opened1 = opened args.c.now 0 _ c.find-cut.ensures.status_after c.if-status-ne0.false in
     move_copy args.c.now args.out.now args.name opened1
-    (bytes_of args.c.now c.shared_slice_known-1.given) args.parent _
+    (bytes_of args.c.now c.type_inv.c) args.parent _
     (taken_none args.c.now args.name c.find-cut.result opened1 (c.find-cut.ensures.fact c.if-status-ne0.false) c.if-cut-eq0.true) _ _
     c.give.ensures
 
@@ -29,7 +29,7 @@ word_at-count-requires c =
     let hit = (taken_some c-now c.args.name c.find-cut.result (opened c-now 0 _ c.find-cut.ensures.status_after c.if-status-ne0.false)
     (c.find-cut.ensures.fact c.if-status-ne0.false) c.if-cut-eq0.false).hit in
     omega
-    (arith, hit.start, hit_start hit (bytes_of c-now c.shared_slice_known-1.given), hit_inside hit (bytes_of c-now c.shared_slice_known-1.given))
+    (arith, hit.start, hit_start hit (bytes_of c-now c.type_inv.c), hit_inside hit (bytes_of c-now c.type_inv.c))
 
 pub overflow_sub-count : goal.overflow_sub-count
 overflow_sub-count c =
@@ -40,7 +40,7 @@ overflow_sub-count c =
           some_entry
           (taken_some c-now c.args.name c.find-cut.result (opened c-now 0 _ c.find-cut.ensures.status_after c.if-status-ne0.false)
           (c.find-cut.ensures.fact c.if-status-ne0.false) c.if-cut-eq0.false).hit
-          (bytes_of c-now c.shared_slice_known-1.given),
+          (bytes_of c-now c.type_inv.c),
     )
 
 pub move_in-requires : goal.move_in-requires
@@ -50,7 +50,7 @@ move_in-requires c =
     let opened1 = opened c-now 0 _ c.find-cut.ensures.status_after c.if-status-ne0.false in
     let taken-some1 =
     taken_some c-now args.name c.find-cut.result opened1 (c.find-cut.ensures.fact c.if-status-ne0.false) c.if-cut-eq0.false in
-    let bytes-of1 = bytes_of c-now c.shared_slice_known-1.given in
+    let bytes-of1 = bytes_of c-now c.type_inv.c in
     let hit = taken-some1.hit in record {
       le_at = (omega (arith, hit.start), omega (arith, hit_start hit bytes-of1), hit_inside hit bytes-of1, omega (arith, c.word_at-count.ensures.1));
       ok = rest_ok c-now args.out.now args.name opened1 bytes-of1 _ _ hit (c.word_at-count.result - 1)
@@ -66,19 +66,19 @@ move_in-requires c =
 pub returns-then-c-le512 : goal.returns-then-c-le512
 returns-then-c-le512 c =
     let args = c.args in
-    let bytes-of1 = bytes_of args.c.now c.shared_slice_known-1.given in
+    let bytes-of1 = bytes_of args.c.now c.type_inv.c in
     let opened1 = opened args.c.now 0 _ c.find-cut.ensures.status_after c.if-status-ne0.false in
     let hit =
     (taken_some args.c.now args.name c.find-cut.result opened1 (c.find-cut.ensures.fact c.if-status-ne0.false) c.if-cut-eq0.false).hit in
     move_done args.c.now args.out.now args.name opened1 bytes-of1 _ _ hit (c.word_at-count.result - 1)
-    (omega (arith, c.word_at-count.ensures.0, some_entry hit bytes-of1)) args.parent _ _ c.Move-in.ensures
+    (omega (arith, c.word_at-count.ensures.0, some_entry hit bytes-of1)) args.parent _ _ c.move_in.ensures
 
 pub move_in-requires-2 : goal.move_in-requires-2
 move_in-requires-2 c =
     let args = c.args in
     let c-now = args.c.now in
     let opened1 = opened c-now 0 _ c.find-cut.ensures.status_after c.if-status-ne0.false in
-    let bytes-of1 = bytes_of c-now c.shared_slice_known-1.given in
+    let bytes-of1 = bytes_of c-now c.type_inv.c in
     let name = args.name in
     let taken-some1 = taken_some c-now name c.find-cut.result opened1 (c.find-cut.ensures.fact c.if-status-ne0.false) c.if-cut-eq0.false in
     let hit = taken-some1.hit in record {
@@ -96,7 +96,7 @@ move_in-requires-2 c =
 pub returns : goal.returns
 returns c =
     let args = c.args in
-    let bytes-of1 = bytes_of args.c.now c.shared_slice_known-1.given in
+    let bytes-of1 = bytes_of args.c.now c.type_inv.c in
     let opened1 = opened args.c.now 0 _ c.find-cut.ensures.status_after c.if-status-ne0.false in
     let hit =
     (taken_some args.c.now args.name c.find-cut.result opened1 (c.find-cut.ensures.fact c.if-status-ne0.false) c.if-cut-eq0.false).hit in

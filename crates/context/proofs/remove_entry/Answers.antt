@@ -17,7 +17,7 @@ returns-then-cut-eq0 c =
     let args = c.args in
     let opened1 = opened args.c.now 0 _ c.find-cut.ensures.status_after c.if-status-ne0.false in
     remove_copy args.c.now args.out.now args.name opened1
-    (bytes_of args.c.now c.shared_slice_known-1.given) _
+    (bytes_of args.c.now c.type_inv.c) _
     (taken_none args.c.now args.name c.find-cut.result opened1 (c.find-cut.ensures.fact c.if-status-ne0.false) c.if-cut-eq0.true) _ _
     c.give.ensures
 
@@ -27,7 +27,7 @@ word_at-count-requires c =
     let hit = (taken_some c-now c.args.name c.find-cut.result (opened c-now 0 _ c.find-cut.ensures.status_after c.if-status-ne0.false)
     (c.find-cut.ensures.fact c.if-status-ne0.false) c.if-cut-eq0.false).hit in
     omega
-    (arith, hit.start, hit_start hit (bytes_of c-now c.shared_slice_known-1.given), hit_inside hit (bytes_of c-now c.shared_slice_known-1.given))
+    (arith, hit.start, hit_start hit (bytes_of c-now c.type_inv.c), hit_inside hit (bytes_of c-now c.type_inv.c))
 
 pub overflow_sub-count : goal.overflow_sub-count
 overflow_sub-count c =
@@ -38,7 +38,7 @@ overflow_sub-count c =
           some_entry
           (taken_some c-now c.args.name c.find-cut.result (opened c-now 0 _ c.find-cut.ensures.status_after c.if-status-ne0.false)
           (c.find-cut.ensures.fact c.if-status-ne0.false) c.if-cut-eq0.false).hit
-          (bytes_of c-now c.shared_slice_known-1.given),
+          (bytes_of c-now c.type_inv.c),
     )
 
 pub overflow_add-cut : goal.overflow_add-cut
@@ -50,8 +50,8 @@ overflow_add-cut c =
       arith,
       hit_inside
           (taken_some c-now args.name c.find-cut.result opened1 (c.find-cut.ensures.fact c.if-status-ne0.false) c.if-cut-eq0.false).hit
-          (bytes_of c-now c.shared_slice_known-1.given),
-      short c-now args.out.now args.name opened1 (bytes_of c-now c.shared_slice_known-1.given),
+          (bytes_of c-now c.type_inv.c),
+      short c-now args.out.now args.name opened1 (bytes_of c-now c.type_inv.c),
     )
 
 pub give_without-requires : goal.give_without-requires
@@ -62,14 +62,14 @@ give_without-requires c =
     (c.find-cut.ensures.fact c.if-status-ne0.false) c.if-cut-eq0.false).hit in (
       omega (arith, hit.start),
       omega arith,
-      hit_inside hit (bytes_of args.c.now c.shared_slice_known-1.given),
+      hit_inside hit (bytes_of args.c.now c.type_inv.c),
       omega (arith, c.word_at-count.ensures.1),
     )
 
 pub returns : goal.returns
 returns c =
     let args = c.args in
-    let bytes-of1 = bytes_of args.c.now c.shared_slice_known-1.given in
+    let bytes-of1 = bytes_of args.c.now c.type_inv.c in
     let opened1 = opened args.c.now 0 _ c.find-cut.ensures.status_after c.if-status-ne0.false in
     let hit =
     (taken_some args.c.now args.name c.find-cut.result opened1 (c.find-cut.ensures.fact c.if-status-ne0.false) c.if-cut-eq0.false).hit in

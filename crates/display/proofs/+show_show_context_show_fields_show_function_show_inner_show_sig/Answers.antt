@@ -7,24 +7,23 @@ use Rattle.display.proofs.ShowContract.{behind_short, wrap_ok, wrap_no, wrap_end
 use Rattle.display.proofs.ShowNodes.{first_byte, a_level, first_low, simple_done, list_ok, range_ok, list_done, range_done}
 use Rattle.display.proofs.ShowNodes.{last_is, in_inner, context_three, in_context, function_two, in_function}
 use Rattle.display.proofs.ShowFields.{FieldsInv, fields_start, fields_kept, name_there, type_there, name_missing, name_inside, name_room}
-use Rattle.display.proofs.ShowFields.{type-kept, type-missing, field-ends, field_next, fields_done}
+use Rattle.display.proofs.ShowFields.{type_kept, type_missing, field_ends, field_next, fields_done}
 use Rattle.display.proofs.ShowSigs.{SigInv, sig_start, param_there, param_kept, param_missing, param_ends, param_next, result_there, result_kept, result_missing, result_ends, sig_done}
 use borrow.Author.Rules.{rules}
 use native.Mathlib.Omega.{arith}
 use Rattle.form.specs.Limits.{name_width}
 use Rattle.display.proofs.+show_show_context_show_fields_show_function_show_inner_show_sig.Goals as goal
 
-pub show-put_simple-n-requires : goal.show-put_simple-n-requires
-show-put_simple-n-requires t c =
-    simple_done c.args.left c.args.t.now c.args.table.now c.requires.t_len_bound c.requires.ok c.requires.ok_2
-    c.if-c-lt-LIST_TYPE.true _ _ _ _ c.wide.ensures.0 c.put-simple.ensures.0 c.put-simple.ensures.1
+pub show-bounds-t-0 : goal.show-bounds-t-0
+show-bounds-t-0 t c = first_byte c.args.left c.args.t.now c.args.table.now c.requires.t_len_bound c.requires.ok c.requires.ok_2
+
+pub show-overflow_sub-c : goal.show-overflow_sub-c
+show-overflow_sub-c t c = first_low c.args.left c.args.t.now c.args.table.now c.requires.t_len_bound c.requires.ok c.requires.ok_2
 
 pub show-returns-then-c-lt-LIST_TYPE : goal.show-returns-then-c-lt-LIST_TYPE
 show-returns-then-c-lt-LIST_TYPE t c =
-    omega (
-      arith,
-      first_byte c.args.left c.args.t.now c.args.table.now c.requires.t_len_bound c.requires.ok c.requires.ok_2,
-    )
+    simple_done c.args.left c.args.t.now c.args.table.now c.requires.t_len_bound c.requires.ok c.requires.ok_2
+    c.if-c-lt-LIST_TYPE.true _ _ _ _ c.wide.ensures.0 c.put_simple-n.ensures.value c.put_simple-n.ensures.out_after
 
 pub show-slice_bounds-show_inner-count : goal.show-slice_bounds-show_inner-count
 show-slice_bounds-show_inner-count t c =
@@ -33,31 +32,34 @@ show-slice_bounds-show_inner-count t c =
       first_byte c.args.left c.args.t.now c.args.table.now c.requires.t_len_bound c.requires.ok c.requires.ok_2,
     )
 
-pub show-slice_bounds-show_inner-end-then-c-eq-LIST_TYPE : goal.show-slice_bounds-show_inner-end-then-c-eq-LIST_TYPE
-show-slice_bounds-show_inner-end-then-c-eq-LIST_TYPE t c =
+pub show-slice_bounds-show_inner-start : goal.show-slice_bounds-show_inner-start
+show-slice_bounds-show_inner-start t c =
     omega (
       arith,
-      a_level c.args.left c.args.t.now c.args.table.now c.requires.t_len_bound c.requires.ok c.requires.ok_2,
+      first_byte c.args.left c.args.t.now c.args.table.now c.requires.t_len_bound c.requires.ok c.requires.ok_2,
     )
 
 pub show-overflow_sub-left : goal.show-overflow_sub-left
-show-overflow_sub-left t c =
+show-overflow_sub-left t c = a_level c.args.left c.args.t.now c.args.table.now c.requires.t_len_bound c.requires.ok c.requires.ok_2
+
+pub show-show_inner-requires : goal.show-show_inner-requires
+show-show_inner-requires t c =
     let pre = c.requires in (
-      omega (arith, c.requires-raw.0, a_level c.args.left c.args.t.now c.args.table.now pre.0 pre.1.0 pre.1.1.0),
+      omega (arith, c.decreases, a_level c.args.left c.args.t.now c.args.table.now c.requires.t_len_bound c.requires.ok c.requires.ok_2),
       (
         omega arith,
         (
-          behind_short 1 _ c.args.t.now pre.0,
+          behind_short 1 _ c.args.t.now pre.t_len_bound,
           (
-            list_ok c.args.left c.args.t.now c.args.table.now pre.0 pre.1.0 pre.1.1.0 c.if-c-eq-LIST_TYPE.true,
-            pre.1.1,
+            list_ok c.args.left c.args.t.now c.args.table.now c.requires.t_len_bound c.requires.ok c.requires.ok_2 c.if-c-eq-LIST_TYPE.true,
+            (pre.ok_2, pre.marked),
           ),
         ),
       ),
     )
 
-pub show-shape_of-out-then-c-eq-LIST_TYPE : goal.show-shape_of-out-then-c-eq-LIST_TYPE
-show-shape_of-out-then-c-eq-LIST_TYPE t c =
+pub show-returns-then-c-eq-LIST_TYPE : goal.show-returns-then-c-eq-LIST_TYPE
+show-returns-then-c-eq-LIST_TYPE t c =
     list_done c.args.left c.args.t.now c.args.table.now c.requires.t_len_bound c.requires.ok c.requires.ok_2 _ _ _
     c.if-c-eq-LIST_TYPE.true c.show_inner.ensures
 
@@ -76,21 +78,23 @@ show-slice_bounds-show_inner-start-then-c-eq-RANGE_TYPE t c =
     )
 
 pub show-overflow_sub-left-then-c-eq-RANGE_TYPE : goal.show-overflow_sub-left-then-c-eq-RANGE_TYPE
-show-overflow_sub-left-then-c-eq-RANGE_TYPE t c =
-    omega (
-      arith,
-      a_level c.args.left c.args.t.now c.args.table.now c.requires.t_len_bound c.requires.ok c.requires.ok_2,
-    )
+show-overflow_sub-left-then-c-eq-RANGE_TYPE t c = a_level c.args.left c.args.t.now c.args.table.now c.requires.t_len_bound c.requires.ok c.requires.ok_2
 
 pub show-show_inner-requires-then-c-eq-RANGE_TYPE : goal.show-show_inner-requires-then-c-eq-RANGE_TYPE
 show-show_inner-requires-then-c-eq-RANGE_TYPE t c =
-    let pre = c.requires in record {
-      front_len_bound = omega (arith, c.requires-raw.0, a_level c.args.left c.args.t.now c.args.table.now pre.0 pre.1.0 pre.1.1.0);
-      t_len_bound = omega arith;
-      ok = behind_short 1 _ c.args.t.now pre.0;
-      ok_2 = range_ok c.args.left c.args.t.now c.args.table.now pre.0 pre.1.0 pre.1.1.0 c.if-c-eq-RANGE_TYPE.true;
-      marked = pre.1.1;
-    }
+    let pre = c.requires in (
+      omega (arith, c.decreases, a_level c.args.left c.args.t.now c.args.table.now c.requires.t_len_bound c.requires.ok c.requires.ok_2),
+      (
+        omega arith,
+        (
+          behind_short 1 _ c.args.t.now pre.t_len_bound,
+          (
+            range_ok c.args.left c.args.t.now c.args.table.now c.requires.t_len_bound c.requires.ok c.requires.ok_2 c.if-c-eq-RANGE_TYPE.true,
+            (pre.ok_2, pre.marked),
+          ),
+        ),
+      ),
+    )
 
 pub show-returns-then-c-eq-RANGE_TYPE : goal.show-returns-then-c-eq-RANGE_TYPE
 show-returns-then-c-eq-RANGE_TYPE t c =
@@ -99,62 +103,69 @@ show-returns-then-c-eq-RANGE_TYPE t c =
 
 pub show-show_context-requires : goal.show-show_context-requires
 show-show_context-requires t c =
-    let pre = c.requires-raw in
-    record {
-      t_len_bound = omega (arith, pre.0);
-      ok = pre.1.0;
-      t_value = pre.1.1.0;
-      ok_2 = c.if-c-eq-CONTEXT_TYPE.true;
-      marked = pre.1.1.1;
-    }
+    let pre = c.requires in (
+      omega (arith, c.decreases),
+      (
+        pre.t_len_bound,
+        (
+          pre.ok,
+          (
+            c.if-c-eq-CONTEXT_TYPE.true,
+            (pre.ok_2, pre.marked),
+          ),
+        ),
+      ),
+    )
 
 pub show-show_function-requires : goal.show-show_function-requires
 show-show_function-requires t c =
-    let pre = c.requires in record {
-      t_len_bound = omega (arith, c.requires-raw.0);
-      ok = pre.0;
-      t_value = pre.1.0;
-      ok_2 = last_is c.args.left c.args.t.now c.args.table.now pre.0 pre.1.0 pre.1.1.0 c.if-c-lt-LIST_TYPE.false c.if-c-eq-LIST_TYPE.false
-                c.if-c-eq-RANGE_TYPE.false c.if-c-eq-CONTEXT_TYPE.false;
-      marked = pre.1.1;
-    }
-
-pub show_context-min-p-requires : goal.show_context-min-p-requires
-show_context-min-p-requires t c =
-    context_three c.args.left c.args.t.now c.args.table.now c.requires.t_len_bound c.requires.ok c.requires.ok_2
-    c.requires.t_value
+    let pre = c.requires in (
+      omega (arith, c.decreases),
+      (
+        pre.t_len_bound,
+        (
+          pre.ok,
+          (
+            last_is c.args.left c.args.t.now c.args.table.now c.requires.t_len_bound c.requires.ok c.requires.ok_2 c.if-c-lt-LIST_TYPE.false c.if-c-eq-LIST_TYPE.false
+              c.if-c-eq-RANGE_TYPE.false c.if-c-eq-CONTEXT_TYPE.false,
+            (pre.ok_2, pre.marked),
+          ),
+        ),
+      ),
+    )
 
 pub show_context-slice_bounds-show_fields-count : goal.show_context-slice_bounds-show_fields-count
 show_context-slice_bounds-show_fields-count t c =
+    context_three c.args.left c.args.t.now c.args.table.now c.requires.t_len_bound c.requires.ok c.requires.ok_2
+    c.requires.t_value
+
+pub show_context-slice_bounds-show_fields-start : goal.show_context-slice_bounds-show_fields-start
+show_context-slice_bounds-show_fields-start t c =
     omega (
       arith,
       context_three c.args.left c.args.t.now c.args.table.now c.requires.t_len_bound c.requires.ok c.requires.ok_2
           c.requires.t_value,
     )
 
-pub show_context-slice_bounds-show_fields-end : goal.show_context-slice_bounds-show_fields-end
-show_context-slice_bounds-show_fields-end t c =
+pub show_context-word_at-requires : goal.show_context-word_at-requires
+show_context-word_at-requires t c =
     context_three c.args.left c.args.t.now c.args.table.now c.requires.t_len_bound c.requires.ok c.requires.ok_2
     c.requires.t_value
 
-pub show_context-slice_bounds-show_fields-end-2 : goal.show_context-slice_bounds-show_fields-end-2
-show_context-slice_bounds-show_fields-end-2 t c =
-    omega (
-      arith,
-      a_level c.args.left c.args.t.now c.args.table.now c.requires.t_len_bound c.requires.ok c.requires.ok_2,
-    )
-
 pub show_context-overflow_sub-left : goal.show_context-overflow_sub-left
-show_context-overflow_sub-left t c =
+show_context-overflow_sub-left t c = a_level c.args.left c.args.t.now c.args.table.now c.requires.t_len_bound c.requires.ok c.requires.ok_2
+
+pub show_context-show_fields-requires : goal.show_context-show_fields-requires
+show_context-show_fields-requires t c =
     let pre = c.requires in (
-      omega (arith, c.requires-raw.0, a_level c.args.left c.args.t.now c.args.table.now pre.0 pre.1.0 pre.1.1.1.0),
+      omega (arith, c.decreases, a_level c.args.left c.args.t.now c.args.table.now c.requires.t_len_bound c.requires.ok c.requires.ok_2),
       (
-        behind_short 3 _ c.args.t.now pre.0,
+        behind_short 3 _ c.args.t.now pre.t_len_bound,
         (
           wrap_ok
-              (in_context c.args.left c.args.t.now c.args.table.now pre.0 pre.1.0 pre.1.1.1.0 pre.1.1.0 _
-              c.word_at.ensures.0),
-          pre.1.1.1,
+            (in_context c.args.left c.args.t.now c.args.table.now c.requires.t_len_bound c.requires.ok c.requires.ok_2 pre.t_value _
+            c.word_at.ensures.0),
+          (pre.ok_2, pre.marked),
         ),
       ),
     )
@@ -211,7 +222,7 @@ show_context-returns-in-No t c =
 pub show_fields-loop-i-init : goal.show_fields-loop-i-init
 show_fields-loop-i-init t c =
     let pre = c.requires in
-    fields_start _ _ _ _ _ pre.0 pre.1.0 pre.1.1.0
+    fields_start _ _ _ _ _ pre.s_len_bound pre.ok pre.ok_2
 
 pub show_fields-name_at-requires : goal.show_fields-name_at-requires
 show_fields-name_at-requires t c = name_there c.loop-i.invariant c.loop-i-test.true
@@ -262,18 +273,22 @@ show_fields-slice_bounds-show-start t c =
 
 pub show_fields-show-requires : goal.show_fields-show-requires
 show_fields-show-requires t c =
-    record {
-      t_len_bound = omega (arith, c.requires-raw.0);
-      ok = behind_short (c.loop-i.at + name_width) _ c.args.s.now c.requires.s_len_bound;
-      ok_2 = type_there c.loop-i.invariant c.loop-i-test.true;
-      marked = c.requires.1.1;
-    }
+    let pre = c.requires in (
+      omega (arith, c.decreases),
+      (
+        behind_short (c.loop-i.at + name_width) _ c.args.s.now pre.s_len_bound,
+        (
+          type_there c.loop-i.invariant c.loop-i-test.true,
+          (pre.ok_2, pre.marked),
+        ),
+      ),
+    )
 
 pub show_fields-overflow_add-at : goal.show_fields-overflow_add-at
 show_fields-overflow_add-at t c =
     omega (
       arith,
-      field-ends c.loop-i.invariant c.loop-i-test.true _ c.name_at.ensures.0 _
+      field_ends c.loop-i.invariant c.loop-i-test.true _ c.name_at.ensures.0 _
           c.text_at.ensures _ _ c.in-At.is _ _ c.put_label-to.ensures.value c.put_label-to.ensures.out_after _ _ _
           c.show.ensures _ _ c.in-Yes.is,
       c.requires.s_len_bound,
@@ -283,7 +298,7 @@ pub show_fields-overflow_add-to : goal.show_fields-overflow_add-to
 show_fields-overflow_add-to t c =
     omega (
       arith,
-      field-ends c.loop-i.invariant c.loop-i-test.true _ c.name_at.ensures.0 _
+      field_ends c.loop-i.invariant c.loop-i-test.true _ c.name_at.ensures.0 _
           c.text_at.ensures _ _ c.in-At.is _ _ c.put_label-to.ensures.value c.put_label-to.ensures.out_after _ _ _
           c.show.ensures _ _ c.in-Yes.is,
       c.requires.s_len_bound,
@@ -291,18 +306,18 @@ show_fields-overflow_add-to t c =
 
 pub show_fields-shape_of-out-in-No : goal.show_fields-shape_of-out-in-No
 show_fields-shape_of-out-in-No t c =
-    type-kept c.loop-i.invariant c.loop-i-test.true _ c.name_at.ensures.0 _
+    type_kept c.loop-i.invariant c.loop-i-test.true _ c.name_at.ensures.0 _
     c.text_at.ensures _ _ c.in-At.is _ _ c.put_label-to.ensures.value c.put_label-to.ensures.out_after _ _ _
     c.show.ensures
 
 pub show_fields-returns-in-No : goal.show_fields-returns-in-No
 show_fields-returns-in-No t c =
-    type-missing c.loop-i.invariant c.loop-i-test.true _ c.name_at.ensures.0 _
+    type_missing c.loop-i.invariant c.loop-i-test.true _ c.name_at.ensures.0 _
     c.text_at.ensures _ _ c.in-At.is _ _ c.put_label-to.ensures.value c.put_label-to.ensures.out_after _ _ _
     c.show.ensures c.in-No.is
 
 pub show_fields-overflow_add-i : goal.show_fields-overflow_add-i
-show_fields-overflow_add-i t c = omega (arith, c.ranges.count, c.loop-i-test.taken)
+show_fields-overflow_add-i t c = omega (arith, c.ranges.count, c.loop-i-test.true)
 
 pub show_fields-loop-i-preserved : goal.show_fields-loop-i-preserved
 show_fields-loop-i-preserved t c =
@@ -346,14 +361,18 @@ show_function-overflow_sub-left t c =
 
 pub show_function-show_sig-requires : goal.show_function-show_sig-requires
 show_function-show_sig-requires t c =
-    let pre = c.requires in record {
-      s_len_bound = omega (arith, c.requires-raw.0, a_level c.args.left c.args.t.now c.args.table.now pre.0 pre.1.0 pre.1.1.1.0);
-      ok = behind_short 2 _ c.args.t.now pre.0;
-      ok_2 = wrap_ok
-              (in_function c.args.left c.args.t.now c.args.table.now pre.0 pre.1.0 pre.1.1.1.0 pre.1.1.0 _
-              c.wide.ensures.0);
-      marked = pre.1.1.1;
-    }
+    let pre = c.requires in (
+      omega (arith, c.decreases, a_level c.args.left c.args.t.now c.args.table.now c.requires.t_len_bound c.requires.ok c.requires.ok_2),
+      (
+        behind_short 2 _ c.args.t.now pre.t_len_bound,
+        (
+          wrap_ok
+            (in_function c.args.left c.args.t.now c.args.table.now c.requires.t_len_bound c.requires.ok c.requires.ok_2 pre.t_value _
+            c.wide.ensures.0),
+          (pre.ok_2, pre.marked),
+        ),
+      ),
+    )
 
 pub show_function-overflow_add-result : goal.show_function-overflow_add-result
 show_function-overflow_add-result t c =
@@ -444,16 +463,20 @@ show_inner-returns-in-No t c =
 pub show_sig-loop-i-init : goal.show_sig-loop-i-init
 show_sig-loop-i-init t c =
     let pre = c.requires in
-    sig_start _ _ _ _ _ pre.0 pre.1.0 pre.1.1.0
+    sig_start _ _ _ _ _ pre.s_len_bound pre.ok pre.ok_2
 
 pub show_sig-show-requires : goal.show_sig-show-requires
 show_sig-show-requires t c =
-    record {
-      t_len_bound = omega (arith, c.requires-raw.0);
-      ok = behind_short c.loop-i.at _ c.args.s.now c.requires.s_len_bound;
-      ok_2 = param_there c.loop-i.invariant c.loop-i-test.true;
-      marked = c.requires.1.1;
-    }
+    let pre = c.requires in (
+      omega (arith, c.decreases),
+      (
+        behind_short c.loop-i.at _ c.args.s.now pre.s_len_bound,
+        (
+          param_there c.loop-i.invariant c.loop-i-test.true,
+          (pre.ok_2, pre.marked),
+        ),
+      ),
+    )
 
 pub show_sig-overflow_add-at : goal.show_sig-overflow_add-at
 show_sig-overflow_add-at t c =
@@ -490,12 +513,16 @@ show_sig-loop-i-preserved t c =
 
 pub show_sig-show-requires-2 : goal.show_sig-show-requires-2
 show_sig-show-requires-2 t c =
-    record {
-      t_len_bound = omega (arith, c.requires-raw.0);
-      ok = behind_short c.loop-i.at _ c.args.s.now c.requires.s_len_bound;
-      ok_2 = result_there c.loop-i.invariant c.loop-i-test.false;
-      marked = c.requires.1.1;
-    }
+    let pre = c.requires in (
+      omega (arith, c.decreases),
+      (
+        behind_short c.loop-i.at _ c.args.s.now pre.s_len_bound,
+        (
+          result_there c.loop-i.invariant c.loop-i-test.false,
+          (pre.ok_2, pre.marked),
+        ),
+      ),
+    )
 
 pub show_sig-overflow_add-result : goal.show_sig-overflow_add-result
 show_sig-overflow_add-result t c =

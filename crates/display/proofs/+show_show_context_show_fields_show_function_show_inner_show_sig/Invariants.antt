@@ -5,7 +5,7 @@ use Rattle.display.proofs.ShowContract.{behind_short, wrap_ok, wrap_no, wrap_end
 use Rattle.display.proofs.ShowNodes.{first_byte, a_level, first_low, simple_done, list_ok, range_ok, list_done, range_done}
 use Rattle.display.proofs.ShowNodes.{last_is, in_inner, context_three, in_context, function_two, in_function}
 use Rattle.display.proofs.ShowFields.{FieldsInv, fields_start, fields_kept, name_there, type_there, name_missing, name_inside, name_room}
-use Rattle.display.proofs.ShowFields.{type-kept, type-missing, field-ends, field_next, fields_done}
+use Rattle.display.proofs.ShowFields.{type_kept, type_missing, field_ends, field_next, fields_done}
 use Rattle.display.proofs.ShowSigs.{SigInv, sig_start, param_there, param_kept, param_missing, param_ends, param_next, result_there, result_kept, result_missing, result_ends, sig_done}
 use borrow.Author.Rules.{rules}
 use native.Mathlib.Omega.{arith}

@@ -1,12 +1,12 @@
 -- `display::check_table` meets its contract: the loop keeps that the table is readable exactly when the texts that are left, behind the one before them, are.
 -- Assumes nothing.
-use mathlib.Core.Logic.{⊎_elim}
 use Prim.Native.Nat.{◌-◌}
 use Rattle.names.proofs.Reader.{left_ended, left_short, left_cut}
 use Rattle.display.proofs.Tables.{Tabled, table_long, table_empty, table_start, table_untidy, table_first, table_descends, table_ascends}
 use borrow.Author.Rules.{rules}
 use native.Mathlib.Omega.{arith}
 use Rattle.display.proofs.check_table.Goals as goal
+use Rattle.display.proofs.check_table.Goals.{then-i-gt0+else-not-is_less, else-i-gt0}
 
 pub returns-then-s-gt-MOST_BYTES : goal.returns-then-s-gt-MOST_BYTES
 returns-then-s-gt-MOST_BYTES c = table_long c.args.s.now c.if-s-gt-MOST_BYTES.true
@@ -46,14 +46,14 @@ loop-i-smaller c = omega (arith, c.loop-i-test.true)
 
 pub loop-i-preserved : goal.loop-i-preserved
 loop-i-preserved c =
-    ⊎_elim
-    (λ x.
-    table_ascends c.loop-i.invariant c.loop-i-test.true c.if-s-at.false _ c.wide-n.ensures.0 c.if-s-from.false _
-    c.is_tidy.ensures c.if-not-is_tidy.false x.0.taken _ x.3.ensures x.4.left)
-    (λ y.
-    table_first c.loop-i.invariant c.loop-i-test.true c.if-s-at.false _ c.wide-n.ensures.0 c.if-s-from.false _
-    c.is_tidy.ensures c.if-not-is_tidy.false y.left)
-    c.if-i-gt0.branch
+    elim c.if-i-gt0.branch [
+      then-i-gt0+else-not-is_less w ↦
+          table_ascends c.loop-i.invariant c.loop-i-test.true c.if-s-at.false _ c.wide-n.ensures.0 c.if-s-from.false _
+          c.is_tidy.ensures c.if-not-is_tidy.false w.if-i-gt0.true _ w.is_less.ensures w.if-not-is_less.false
+      | else-i-gt0 w ↦
+          table_first c.loop-i.invariant c.loop-i-test.true c.if-s-at.false _ c.wide-n.ensures.0 c.if-s-from.false _
+          c.is_tidy.ensures c.if-not-is_tidy.false w.if-i-gt0.false
+    ]
 
 pub returns : goal.returns
 returns c = left_ended c.loop-i.invariant.left c.loop-i-test.false

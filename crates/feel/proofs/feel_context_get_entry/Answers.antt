@@ -11,7 +11,7 @@ use Rattle.feel.proofs.feel_context_get_entry.Goals as goal
 pub found_number-requires : goal.found_number-requires
 found_number-requires c =
     let args = c.args in
-    halves_entry args.c.now args.name (found c.entry_place.result) (bytes_of args.c.now c.shared_slice_known-1.given)
+    halves_entry args.c.now args.name (found c.entry_place.result) (bytes_of args.c.now c.type_inv.c)
     c.entry_place.ensures
 
 pub returns : goal.returns

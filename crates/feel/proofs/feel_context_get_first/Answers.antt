@@ -11,7 +11,7 @@ use Rattle.feel.proofs.feel_context_get_first.Goals as goal
 pub found_number-requires : goal.found_number-requires
 found_number-requires c =
     halves_first c.args.c.now (found c.first_place.result)
-    (bytes_of c.args.c.now c.shared_slice_known-1.given) c.first_place.ensures
+    (bytes_of c.args.c.now c.type_inv.c) c.first_place.ensures
 
 pub returns : goal.returns
 returns c = c.found_number.ensures ∙ ap parted c.first_place.ensures

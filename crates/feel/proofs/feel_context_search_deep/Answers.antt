@@ -12,7 +12,7 @@ pub found_number-requires : goal.found_number-requires
 found_number-requires c =
     let args = c.args in
     halves_deep args.c.now args.path.now (found c.search_place.result)
-    (bytes_of args.c.now c.shared_slice_known-1.given) c.search_place.ensures
+    (bytes_of args.c.now c.type_inv.c) c.search_place.ensures
 
 pub returns : goal.returns
 returns c = c.found_number.ensures ∙ ap parted c.search_place.ensures

@@ -11,17 +11,11 @@ use Rattle.feel.proofs.found_number.Goals as goal
 
 pub overflow_mul-result : goal.overflow_mul-result
 overflow_mul-result c =
-    omega (
-      arith,
-      let f = c.f-1.given in
-          (part_halves c.args.f f.0.0 f.0.1.0 f.1 c.requires).0,
-    )
+    let part = part_halves c.args.f _ _ c.in-Part.is c.requires in omega (arith, part.0)
 
 pub overflow_add-result : goal.overflow_add-result
 overflow_add-result c =
-    let f = c.f-1.given in
-    let part-halves1 = part_halves c.args.f f.0.0 f.0.1.0 f.1 c.requires in
-    omega (arith, part-halves1.0, part-halves1.1)
+    let part = part_halves c.args.f _ _ c.in-Part.is c.requires in omega (arith, part.0, part.1)
 
 pub returns-in-Part : goal.returns-in-Part
 returns-in-Part c = sym (ap (λ (x : Found). parted (found x)) c.in-Part.is)

@@ -1,6 +1,5 @@
 -- `names::is_plain` meets its contract: the loop keeps that all bytes are plain exactly when the largest so far and those that are left are.
 -- Assumes nothing.
-use mathlib.Core.Logic.{⊎_elim}
 use mathlib.Core.Path.{◌≡◌, refl}
 use mathlib.Core.Bool.{◌&&◌}
 use lib.ListN.{length, drop}
@@ -11,6 +10,7 @@ use Rattle.names.proofs.Parts.{plain_ended, plain_max, plain_min}
 use borrow.Author.Rules.{rules}
 use native.Mathlib.Omega.{arith}
 use Rattle.names.proofs.is_plain.Goals as goal
+use Rattle.names.proofs.is_plain.Goals.{then-most-b, else-most-b}
 
 pub loop-i-init : goal.loop-i-init
 loop-i-init c = refl
@@ -20,10 +20,10 @@ loop-i-smaller c = omega (arith, c.loop-i-test.true)
 
 pub loop-i-preserved : goal.loop-i-preserved
 loop-i-preserved c =
-    ⊎_elim
-    (λ w. plain_max c.args.s.now c.loop-i.most c.loop-i.i c.loop-i.invariant c.loop-i-test.true w.0.taken _ w.1)
-    (λ w. plain_min c.args.s.now c.loop-i.most c.loop-i.i c.loop-i.invariant c.loop-i-test.true w.0.left _ w.1)
-    c.if-most-b.branch
+    elim c.if-most-b.branch [
+      then-most-b w ↦ plain_max c.args.s.now c.loop-i.most c.loop-i.i c.loop-i.invariant c.loop-i-test.true w.if-most-b.true _ w.most-is
+      | else-most-b w ↦ plain_min c.args.s.now c.loop-i.most c.loop-i.i c.loop-i.invariant c.loop-i-test.true w.if-most-b.false _ w.most-is
+    ]
 
 pub returns : goal.returns
 returns c = plain_ended c.args.s.now c.loop-i.most c.loop-i.i c.loop-i.invariant c.loop-i-test.false

@@ -34,8 +34,9 @@ loop-index-smaller c = omega (arith, c.loop-index-test.true)
 
 pub loop-index-preserved : goal.loop-index-preserved
 loop-index-preserved c =
+    let added = c.add_part-step.ensures in
     naming_next c.loop-index.invariant c.loop-index-test.true _ c.wide.ensures.0 _ _ _
-    c.add_part-step.ensures
+    (added.to_value, (added.prev_value, added.out_after))
 
 pub shape_of-out : goal.shape_of-out
 shape_of-out c = naming_kept c.loop-index.invariant

@@ -11,11 +11,11 @@ pub lend-requires : goal.lend-requires
 lend-requires c =
     let args = c.args in
     lend_within args.c.now (get_entry_call args.c.now args.name) (found c.entry_place.result)
-    (stand_entry args.c.now args.name (bytes_of args.c.now c.shared_slice_known-1.given)) c.entry_place.ensures
+    (stand_entry args.c.now args.name (bytes_of args.c.now c.type_inv.c)) c.entry_place.ensures
 
 pub returns : goal.returns
 returns c =
     let args = c.args in
     lent args.c (get_entry_call args.c.now args.name) (found c.entry_place.result) _ _
-    (stand_entry args.c.now args.name (bytes_of args.c.now c.shared_slice_known-1.given)) c.entry_place.ensures
+    (stand_entry args.c.now args.name (bytes_of args.c.now c.type_inv.c)) c.entry_place.ensures
     c.lend.ensures

@@ -11,10 +11,10 @@ pub lend-requires : goal.lend-requires
 lend-requires c =
     let args = c.args in
     lend_within args.c.now (get_first_call args.c.now) (found c.first_place.result)
-    (stand_first args.c.now (bytes_of args.c.now c.shared_slice_known-1.given)) c.first_place.ensures
+    (stand_first args.c.now (bytes_of args.c.now c.type_inv.c)) c.first_place.ensures
 
 pub returns : goal.returns
 returns c =
     let args = c.args in
     lent args.c (get_first_call args.c.now) (found c.first_place.result) _ _
-    (stand_first args.c.now (bytes_of args.c.now c.shared_slice_known-1.given)) c.first_place.ensures c.lend.ensures
+    (stand_first args.c.now (bytes_of args.c.now c.type_inv.c)) c.first_place.ensures c.lend.ensures

@@ -7,25 +7,24 @@ use Rattle.paths.proofs.is_context.Goals as goal
 
 pub bounds-c-place : goal.bounds-c-place
 bounds-c-place c =
-    let place = c.place-1.given in
     let s = c.args.c.now in
     entered_inside
-    (entered s c.args.name c.entry_place.result c.entry_place.ensures place.0.0 place.0.1.0 place.1)
-    (bytes_of s c.shared_slice_known-1.given)
+    (entered s c.args.name c.entry_place.result c.entry_place.ensures c.in-Part.place c.in-Part.size c.in-Part.is)
+    (bytes_of s c.type_inv.c)
 
 pub returns-then-c-place-eq-CONTEXT : goal.returns-then-c-place-eq-CONTEXT
 returns-then-c-place-eq-CONTEXT c =
     let s = c.args.c.now in
     context_yes
     (entered s c.args.name c.entry_place.result c.entry_place.ensures c.in-Part.place c.in-Part.size c.in-Part.is)
-    (bytes_of s c.shared_slice_known-1.given) c.if-c-place-eq-CONTEXT.true
+    (bytes_of s c.type_inv.c) c.if-c-place-eq-CONTEXT.true
 
 pub returns-else-c-place-eq-CONTEXT : goal.returns-else-c-place-eq-CONTEXT
 returns-else-c-place-eq-CONTEXT c =
     let s = c.args.c.now in
     context_no
     (entered s c.args.name c.entry_place.result c.entry_place.ensures c.in-Part.place c.in-Part.size c.in-Part.is)
-    (bytes_of s c.shared_slice_known-1.given) c.if-c-place-eq-CONTEXT.false
+    (bytes_of s c.type_inv.c) c.if-c-place-eq-CONTEXT.false
 
 pub returns-in-None : goal.returns-in-None
 returns-in-None c =

@@ -19,10 +19,10 @@ pub returns-then-word_at-eq0 : goal.returns-then-word_at-eq0
 returns-then-word_at-eq0 c =
     let c-now = c.args.c.now in
     empty_yes c-now (opened c-now 0 c.refusal-n.result c.refusal-n.ensures c.if-n-ne0.false)
-    (bytes_of c-now c.shared_slice_known-1.given) c.word_at.result c.word_at.ensures.0 c.if-word_at-eq0.true
+    (bytes_of c-now c.type_inv.c) c.word_at.result c.word_at.ensures.0 c.if-word_at-eq0.true
 
 pub returns : goal.returns
 returns c =
     let c-now = c.args.c.now in
     empty_no c-now (opened c-now 0 c.refusal-n.result c.refusal-n.ensures c.if-n-ne0.false)
-    (bytes_of c-now c.shared_slice_known-1.given) c.word_at.result c.word_at.ensures.0 c.if-word_at-eq0.false
+    (bytes_of c-now c.type_inv.c) c.word_at.result c.word_at.ensures.0 c.if-word_at-eq0.false

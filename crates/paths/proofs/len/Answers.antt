@@ -19,4 +19,4 @@ pub returns : goal.returns
 returns c =
     let c-now = c.args.c.now in
     len_done c-now (opened c-now 0 c.refusal-n.result c.refusal-n.ensures c.if-n-ne0.false)
-    (bytes_of c-now c.shared_slice_known-1.given) c.word_at.result c.word_at.ensures.0
+    (bytes_of c-now c.type_inv.c) c.word_at.result c.word_at.ensures.0

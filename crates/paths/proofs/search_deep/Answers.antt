@@ -11,12 +11,12 @@ pub lend-requires : goal.lend-requires
 lend-requires c =
     let args = c.args in
     lend_within args.c.now (search_deep_call args.c.now args.path.now) (found c.search_place.result)
-    (stand_deep args.c.now args.path.now (bytes_of args.c.now c.shared_slice_known-1.given))
+    (stand_deep args.c.now args.path.now (bytes_of args.c.now c.type_inv.c))
     c.search_place.ensures
 
 pub returns : goal.returns
 returns c =
     let args = c.args in
     lent args.c (search_deep_call args.c.now args.path.now) (found c.search_place.result) _ _
-    (stand_deep args.c.now args.path.now (bytes_of args.c.now c.shared_slice_known-1.given)) c.search_place.ensures
+    (stand_deep args.c.now args.path.now (bytes_of args.c.now c.type_inv.c)) c.search_place.ensures
     c.lend.ensures

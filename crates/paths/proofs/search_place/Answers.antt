@@ -8,20 +8,16 @@ use Rattle.form.proofs.Whole.{bytes_of}
 use Rattle.paths.proofs.CallContracts.{judged_refused, judged_told, refused_value, refused_names, refused_other, held_byte, is_refused, part_refused}
 use Rattle.paths.proofs.CallContracts.{Searched, searched, searched_new, searched_left, searched_part, searched_name, searched_room}
 use Rattle.paths.proofs.search_place.Goals as goal
+use Rattle.paths.proofs.search_place.Goals.{Else-status-ne0, Else-c-ne-CONTEXT}
 
-told : (c : Else-status-ne0) → ValueTold c.before.before.before.before.before.args.c.now c.before.read.result.level
-told c =
-    let c4 = c.before.before.before.before in
-    let s = c4.before.args.c.now in
-    judged_told s _ _ c.before.read.ensures.0 (bytes_of s c4.shared-slice-known.given) c.if1.false
+told : (c : Else-status-ne0) → ValueTold c.args.c.now c.read-way.result.level
+told c = judged_told c.args.c.now _ _ c.read-way.ensures.level_after (bytes_of c.args.c.now c.type_inv.c) c.if-status-ne0.false
 
-cut-known : (c : Else-c-ne-CONTEXT)
-    → Searched c.before.before.before.before.before.before.before.before.args.c.now c.before.before.before.before.before.before.before.before.args.path.now
-    c.before.before.before.before.read.result.cut
+cut-known : (c : Else-c-ne-CONTEXT) → Searched c.args.c.now c.args.path.now c.read-way.result.cut
 cut-known c =
-    let c4 = c.before.before.before.before in
-    let args = c4.before.before.before.before.args in
-    searched args.c.now args.path.now _ _ (told c.before.before.before) c.before.before.if2.false c.if3.false c4.read.ensures.1
+    searched c.args.c.now c.args.path.now _ _
+    (judged_told c.args.c.now _ _ c.read-way.ensures.level_after (bytes_of c.args.c.now c.type_inv.c) c.if-status-ne0.false)
+    c.if-path-gt-MOST_NAMES.false c.if-c-ne-CONTEXT.false c.read-way.ensures.surveyed
 
 pub returns-then-status-ne0 : goal.returns-then-status-ne0
 returns-then-status-ne0 c =

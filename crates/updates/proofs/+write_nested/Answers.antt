@@ -9,31 +9,29 @@ use native.Mathlib.Omega.{arith}
 use Rattle.updates.proofs.+write_nested.Goals as goal
 
 pub returns-then-path-eq0 : goal.returns-then-path-eq0
-returns-then-path-eq0 c c = nested_ends _ _ _ _ c.before.before.before.before.if1.true c.before.before.fill.ensures
+returns-then-path-eq0 t c =
+    let e = nested_ends _ _ _ _ c.if-path-eq0.true c.fill.ensures in
+    record { value = e.0; out_after = e.1 }
 
 pub write_nested-requires : goal.write_nested-requires
-write_nested-requires c c =
-    let c10 = c.before.before.before.before.before.before.before.before.before.before in
-    let c14 = c10.before.before.before.before in (
-      omega (arith, c14.requires.0, rest_shorter c14.args.path.now c10.if1.false),
-      (omega (arith, c14.requires.1.0, rest_shorter c14.args.path.now c10.if1.false), c14.requires.1.1),
-    )
+write_nested-requires t c = (
+  omega (arith, c.decreases, rest_shorter c.args.path.now c.if-path-eq0.false),
+  (omega (arith, c.requires.0, rest_shorter c.args.path.now c.if-path-eq0.false), c.requires.1),
+)
 
 pub overflow_add-result : goal.overflow_add-result
-overflow_add-result c c =
-    let c8 = c.before.before.before.before.before.before.before.before in
+overflow_add-result t c =
     omega (
       arith,
-      c8.write-to-name.ensures.0,
-      c.before.before.write-nested.ensures.0,
-      let c17 = c8.before.before.before.before.before.before.before.before.before in
-          nested_bound c17.args.path.now c17.args.v.now 1 c17.requires.1.0 c17.requires.1.1,
+      c.write_to_name-p.ensures.value,
+      c.write_nested.ensures.value,
+      nested_bound c.args.path.now c.args.v.now 1 c.requires.0 c.requires.1,
     )
 
 pub returns : goal.returns
-returns c c =
-    let c2 = c.before.before in
-    let c8 = c2.before.before.before.before.before.before in
-    nested_next _ _ _ _ _ _ _ _ _ c8.before.before.before.before.before.if1.false c8.before.before.name-number.ensures.0
-    c8.write-to-name.ensures.0 c8.write-to-name.ensures.1 c2.before.before.before.min.ensures c2.write-nested.ensures.0
-    c2.write-nested.ensures.1
+returns t c =
+    let e =
+        nested_next _ _ _ _ _ _ _ _ _ c.if-path-eq0.false c.name_number.ensures.0
+        c.write_to_name-p.ensures.value c.write_to_name-p.ensures.out_after c.min-q.ensures c.write_nested.ensures.value
+        c.write_nested.ensures.out_after in
+    record { value = e.0; out_after = e.1 }

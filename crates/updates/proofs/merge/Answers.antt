@@ -111,7 +111,7 @@ loop-p-smaller-then-x-y c =
 pub loop-p-preserved-then-x-y : goal.loop-p-preserved-then-x-y
 loop-p-preserved-then-x-y c =
     own_next c.loop-p.invariant c.next_name-x.ensures c.next_name-y.ensures c.if-x-y.true _ _
-    c.pass.ensures (bytes_of c.args.c.now c.shared_slice_known-1.given) _ _ _ c.put-to.ensures.value
+    c.pass.ensures (bytes_of c.args.c.now c.type_inv.c) _ _ _ c.put-to.ensures.value
     c.put-to.ensures.out_after c.max-deep.ensures
 
 pub overflow_add-q : goal.overflow_add-q
@@ -187,7 +187,7 @@ loop-p-smaller-then-all c =
 pub loop-p-preserved-then-all : goal.loop-p-preserved-then-all
 loop-p-preserved-then-all c =
     new_next c.loop-p.invariant c.next_name-x.ensures c.next_name-y.ensures c.if-y-x.true _ _
-    c.pass-then-y-x.ensures c.if-all.true (bytes_of c.args.o.now c.shared_slice_known-2-1.given) _ _ _
+    c.pass-then-y-x.ensures c.if-all.true (bytes_of c.args.o.now c.type_inv.o) _ _ _
     c.put-to-then-all.ensures.value c.put-to-then-all.ensures.out_after c.max-deep-then-all.ensures
 
 pub overflow_add-j-then-y-x : goal.overflow_add-j-then-y-x
@@ -347,7 +347,7 @@ pub loop-p-preserved : goal.loop-p-preserved
 loop-p-preserved c =
     both_next c.loop-p.invariant c.next_name-x.ensures c.next_name-y.ensures c.if-x-y.false
     c.if-y-x.false c.if-x-eq-NAME_END.false _ c.skip.ensures _ _ c.pass-in-loop-p.ensures
-    (bytes_of c.args.o.now c.shared_slice_known-2-1.given) _ _ _ c.put-to-in-loop-p.ensures.value c.put-to-in-loop-p.ensures.out_after
+    (bytes_of c.args.o.now c.type_inv.o) _ _ _ c.put-to-in-loop-p.ensures.value c.put-to-in-loop-p.ensures.out_after
     c.max-deep-in-loop-p.ensures
 
 pub high-requires : goal.high-requires

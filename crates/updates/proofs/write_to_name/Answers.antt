@@ -9,6 +9,6 @@ returns c =
     let front = c.write_front in
     let name = c.put_name in
     record {
-      value = name.ensures.0;
-      out_after = opened_is _ _ _ _ _ _ _ c.requires.0 c.requires.1 front.ensures name.ensures.1;
+      value = name.ensures.value;
+      out_after = opened_is _ _ _ _ _ _ _ c.requires.0 c.requires.1 front.ensures name.ensures.out_after;
     }

@@ -19,12 +19,12 @@ pub bounds-c-0 : goal.bounds-c-0
 bounds-c-0 c =
     told_byte
     (judged_told c.args.c.now _ _ c.read-way.ensures.level_after
-    (bytes_of c.args.c.now c.shared_slice_known-1.given) c.if-status-ne0.false)
+    (bytes_of c.args.c.now c.type_inv.c) c.if-status-ne0.false)
 
 pub returns-then-c-ne-CONTEXT : goal.returns-then-c-ne-CONTEXT
 returns-then-c-ne-CONTEXT c =
     let c-now = c.args.c.now in record {
-      status_after = find_other c-now (judged_told c-now _ _ c.read-way.ensures.level_after (bytes_of c-now c.shared_slice_known-1.given) c.if-status-ne0.false)
+      status_after = find_other c-now (judged_told c-now _ _ c.read-way.ensures.level_after (bytes_of c-now c.type_inv.c) c.if-status-ne0.false)
           c.if-c-ne-CONTEXT.true;
       fact = λ z. absurd (omega (arith, z));
     }
@@ -32,7 +32,7 @@ returns-then-c-ne-CONTEXT c =
 pub returns : goal.returns
 returns c =
     let c-now = c.args.c.now in
-    let judged-told1 = judged_told c-now _ _ c.read-way.ensures.level_after (bytes_of c-now c.shared_slice_known-1.given) c.if-status-ne0.false in record {
+    let judged-told1 = judged_told c-now _ _ c.read-way.ensures.level_after (bytes_of c-now c.type_inv.c) c.if-status-ne0.false in record {
       status_after = c.if-status-ne0.false ∙ find_context c-now judged-told1 c.if-c-ne-CONTEXT.false;
       fact = λ z. taken c-now c.args.name _ _ (c.read-way.ensures.surveyed judged-told1.accepted.short);
     }

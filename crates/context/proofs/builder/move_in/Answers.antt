@@ -28,13 +28,13 @@ pub place-requires : goal.place-requires
 place-requires c =
     let cut = c.args.cut in
     let pre = c.requires in record {
-      ok = cut_ok c.args.count c.args.c.now cut.at (cut.at + cut.gone) pre.0.0 (omega (arith, pre.0.1)) pre.0.2 _ _ _
-          c.write_without-k.ensures.value c.write_without-k.ensures.out_after pre.1.1.1.1.1 pre.1.0;
-      ok_2 = pre.1.1.0;
-      small = cut_small c.args.count c.args.c.now cut.at (cut.at + cut.gone) pre.0.0 (omega (arith, pre.0.1)) pre.0.2 _ _ _
-              c.write_without-k.ensures.value c.write_without-k.ensures.out_after pre.1.1.1.1.1 c.args.path.now pre.1.1.1.0;
+      ok = cut_ok c.args.count c.args.c.now cut.at (cut.at + cut.gone) pre.le_at.0 (omega (arith, pre.le_at.1)) pre.le_at.2 _ _ _
+          c.write_without-k.ensures.value c.write_without-k.ensures.out_after pre.c_in_bounds pre.ok;
+      ok_2 = pre.ok_2;
+      small = cut_small c.args.count c.args.c.now cut.at (cut.at + cut.gone) pre.le_at.0 (omega (arith, pre.le_at.1)) pre.le_at.2 _ _ _
+              c.write_without-k.ensures.value c.write_without-k.ensures.out_after pre.c_in_bounds c.args.path.now pre.small;
       surveyed = whole_surveyed value_levels _ c.args.path.now _ _ c.survey-way.ensures.surveyed;
-      level_value = pre.1.1.1.1.0;
+      level_value = pre.cut_value;
     }
 
 pub returns : goal.returns

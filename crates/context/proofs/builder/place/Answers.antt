@@ -11,7 +11,7 @@ returns-then-path-eq0 c =
     let args = c.args in
     λ es x ec ex.
     place_copy args.strict args.c.now args.path.now args.v.now args.out.now es x ec ex
-    (bytes_of args.c.now c.shared_slice_known-1.given) (bytes_of args.v.now c.shared_slice_known-3-1.given)
+    (bytes_of args.c.now c.type_inv.c) (bytes_of args.v.now c.type_inv.v)
     c.requires.small.bytes_c _ _ c.if-path-eq0.true c.give.ensures
 
 pub returns-then-is_err : goal.returns-then-is_err
@@ -20,7 +20,7 @@ returns-then-is_err c =
     λ es x ec ex.
     let along1 = along args.c.now args.path.now args.way.rest args.way.cut es ec c.requires.surveyed in
     place_err args.strict args.c.now args.path.now args.v.now args.out.now es x ec ex
-    (bytes_of args.c.now c.shared_slice_known-1.given) (bytes_of args.v.now c.shared_slice_known-3-1.given)
+    (bytes_of args.c.now c.type_inv.c) (bytes_of args.v.now c.type_inv.v)
     c.requires.small.bytes_c c.if-path-eq0.false args.way.rest args.way.cut along1.0 along1.1
     (sym c.is_err.ensures ∙ c.if-is_err.true)
 
@@ -29,7 +29,7 @@ measure-m-requires c =
     let place-asks1 =
     place_asks c.args.c.now c.args.path.now c.args.v.now c.args.way.rest c.args.level c.args.way.cut c.requires.ok
     c.requires.ok_2 c.requires.small c.requires.surveyed c.requires.level_value
-    (bytes_of c.args.c.now c.shared_slice_known-1.given) (bytes_of c.args.v.now c.shared_slice_known-3-1.given)
+    (bytes_of c.args.c.now c.type_inv.c) (bytes_of c.args.v.now c.type_inv.v)
     c.if-path-eq0.false in
     record {
       small = c.requires.small;
@@ -43,7 +43,7 @@ returns-then-m-gt-MOST_BYTES c =
     λ es x ec ex.
     let along1 = along args.c.now args.path.now args.way.rest args.way.cut es ec c.requires.surveyed in
     place_long args.strict args.c.now args.path.now args.v.now args.out.now es x ec ex
-    (bytes_of args.c.now c.shared_slice_known-1.given) (bytes_of args.v.now c.shared_slice_known-3-1.given)
+    (bytes_of args.c.now c.type_inv.c) (bytes_of args.v.now c.type_inv.v)
     c.requires.small.bytes_c c.if-path-eq0.false args.way.rest args.way.cut along1.0 along1.1
     (sym c.is_err.ensures ∙ c.if-is_err.false) args.level (c.requires.level_value x ex) _ _ c.measure-m.ensures.size_value c.measure-m.ensures.level_value
     c.if-m-gt-MOST_BYTES.true
@@ -54,7 +54,7 @@ returns-then-m-gt-VALUE_LEVELS c =
     λ es x ec ex.
     let along1 = along args.c.now args.path.now args.way.rest args.way.cut es ec c.requires.surveyed in
     place-deep args.strict args.c.now args.path.now args.v.now args.out.now es x ec ex
-    (bytes_of args.c.now c.shared_slice_known-1.given) (bytes_of args.v.now c.shared_slice_known-3-1.given)
+    (bytes_of args.c.now c.type_inv.c) (bytes_of args.v.now c.type_inv.v)
     c.requires.small.bytes_c c.if-path-eq0.false args.way.rest args.way.cut along1.0 along1.1
     (sym c.is_err.ensures ∙ c.if-is_err.false) args.level (c.requires.level_value x ex) _ _ c.measure-m.ensures.size_value c.measure-m.ensures.level_value
     c.if-m-gt-MOST_BYTES.false c.if-m-gt-VALUE_LEVELS.true
@@ -65,7 +65,7 @@ returns-then-out-m c =
     λ es x ec ex.
     let along1 = along args.c.now args.path.now args.way.rest args.way.cut es ec c.requires.surveyed in
     place_short args.strict args.c.now args.path.now args.v.now args.out.now es x ec ex
-    (bytes_of args.c.now c.shared_slice_known-1.given) (bytes_of args.v.now c.shared_slice_known-3-1.given)
+    (bytes_of args.c.now c.type_inv.c) (bytes_of args.v.now c.type_inv.v)
     c.requires.small.bytes_c c.if-path-eq0.false args.way.rest args.way.cut along1.0 along1.1
     (sym c.is_err.ensures ∙ c.if-is_err.false) args.level (c.requires.level_value x ex) _ _ c.measure-m.ensures.size_value c.measure-m.ensures.level_value
     c.if-m-gt-MOST_BYTES.false c.if-m-gt-VALUE_LEVELS.false c.if-out-m.true
@@ -74,10 +74,10 @@ pub splice-requires : goal.splice-requires
 splice-requires c =
     let args = c.args in
     let pre = c.requires in record {
-      small = pre.1.1.0;
-      cuts = (place_asks args.c.now args.path.now args.v.now args.way.rest args.level args.way.cut pre.0 pre.1.0 pre.1.1.0
-          pre.1.1.1.0 pre.1.1.1.1 (bytes_of args.c.now c.shared_slice_known-1.given)
-          (bytes_of args.v.now c.shared_slice_known-3-1.given) c.if-path-eq0.false).0;
+      small = pre.small;
+      cuts = (place_asks args.c.now args.path.now args.v.now args.way.rest args.level args.way.cut pre.ok pre.ok_2 pre.small
+          pre.surveyed pre.level_value (bytes_of args.c.now c.type_inv.c)
+          (bytes_of args.v.now c.type_inv.v) c.if-path-eq0.false).0;
     }
 
 pub returns : goal.returns
@@ -86,7 +86,7 @@ returns c =
     λ es x ec ex.
     let along1 = along args.c.now args.path.now args.way.rest args.way.cut es ec c.requires.surveyed in
     place-done args.strict args.c.now args.path.now args.v.now args.out.now es x ec ex
-    (bytes_of args.c.now c.shared_slice_known-1.given) (bytes_of args.v.now c.shared_slice_known-3-1.given)
+    (bytes_of args.c.now c.type_inv.c) (bytes_of args.v.now c.type_inv.v)
     c.requires.small.bytes_c c.if-path-eq0.false args.way.rest args.way.cut along1.0 along1.1
     (sym c.is_err.ensures ∙ c.if-is_err.false) args.level (c.requires.level_value x ex) _ _ c.measure-m.ensures.size_value
     c.measure-m.ensures.level_value c.if-m-gt-MOST_BYTES.false c.if-m-gt-VALUE_LEVELS.false c.if-out-m.false _ _ c.splice.ensures.value

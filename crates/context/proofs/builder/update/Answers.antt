@@ -17,20 +17,20 @@ pub returns-then-path-gt-MOST_NAMES : goal.returns-then-path-gt-MOST_NAMES
 returns-then-path-gt-MOST_NAMES c =
     let args = c.args in
     update_names args.strict args.c.now args.path.now args.v.now args.out.now
-    (judged_told args.c.now _ _ c.read-way.ensures.level_after (bytes_of args.c.now c.shared_slice_known-1.given) c.if-status-ne0.false)
+    (judged_told args.c.now _ _ c.read-way.ensures.level_after (bytes_of args.c.now c.type_inv.c) c.if-status-ne0.false)
     c.if-path-gt-MOST_NAMES.true
 
 pub bounds-c-0 : goal.bounds-c-0
 bounds-c-0 c =
     told_byte
-    (judged_told c.args.c.now _ _ c.read-way.ensures.level_after (bytes_of c.args.c.now c.shared_slice_known-1.given)
+    (judged_told c.args.c.now _ _ c.read-way.ensures.level_after (bytes_of c.args.c.now c.type_inv.c)
     c.if-status-ne0.false)
 
 pub returns-then-c-ne-CONTEXT : goal.returns-then-c-ne-CONTEXT
 returns-then-c-ne-CONTEXT c =
     let args = c.args in
     update_other args.strict args.c.now args.path.now args.v.now args.out.now
-    (judged_told args.c.now _ _ c.read-way.ensures.level_after (bytes_of args.c.now c.shared_slice_known-1.given) c.if-status-ne0.false)
+    (judged_told args.c.now _ _ c.read-way.ensures.level_after (bytes_of args.c.now c.type_inv.c) c.if-status-ne0.false)
     c.if-path-gt-MOST_NAMES.false
     (told args.v.now c.check_value.ensures.bytes _ _ c.in-Accepted.is c.check_value.ensures.result_value) c.if-c-ne-CONTEXT.true
 
@@ -38,7 +38,7 @@ pub place-requires : goal.place-requires
 place-requires c =
     let args = c.args in
     let c-now = args.c.now in
-    let judged-told1 = judged_told c-now _ _ c.read-way.ensures.level_after (bytes_of c-now c.shared_slice_known-1.given) c.if-status-ne0.false in
+    let judged-told1 = judged_told c-now _ _ c.read-way.ensures.level_after (bytes_of c-now c.type_inv.c) c.if-status-ne0.false in
     let if2-left = c.if-path-gt-MOST_NAMES.false in
     let v-now = args.v.now in
     let told1 = told v-now c.check_value.ensures.bytes _ _ c.in-Accepted.is c.check_value.ensures.result_value in record {
@@ -53,14 +53,14 @@ pub returns-in-Refused : goal.returns-in-Refused
 returns-in-Refused c =
     let args = c.args in
     update_second args.strict args.c.now args.path.now args.v.now args.out.now
-    (judged_told args.c.now _ _ c.read-way.ensures.level_after (bytes_of args.c.now c.shared_slice_known-1.given) c.if-status-ne0.false)
+    (judged_told args.c.now _ _ c.read-way.ensures.level_after (bytes_of args.c.now c.type_inv.c) c.if-status-ne0.false)
     c.if-path-gt-MOST_NAMES.false _ (value_refused args.v.now c.check_value.result _ c.in-Refused.is c.check_value.ensures.result_value)
 
 pub returns-else-c-ne-CONTEXT : goal.returns-else-c-ne-CONTEXT
 returns-else-c-ne-CONTEXT c =
     let args = c.args in
     update-done args.strict args.c.now args.path.now args.v.now args.out.now
-    (judged_told args.c.now _ _ c.read-way.ensures.level_after (bytes_of args.c.now c.shared_slice_known-1.given)
+    (judged_told args.c.now _ _ c.read-way.ensures.level_after (bytes_of args.c.now c.type_inv.c)
     c.if-status-ne0.false)
     c.if-path-gt-MOST_NAMES.false
     (told args.v.now c.check_value.ensures.bytes _ _ c.in-Accepted.is c.check_value.ensures.result_value) c.if-c-ne-CONTEXT.false _

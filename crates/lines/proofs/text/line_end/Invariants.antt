@@ -5,7 +5,7 @@ use lib.ListN.{length}
 use Rattle.lines.proofs.text.line_end.Given as goal
 
 abbrev pub invariant-loop-at : goal.invariant-loop-at
-invariant-loop-at l = («from» ≤ l.at) × (l.at ≤ length l.texts)
+invariant-loop-at l = (l.from ≤ l.at) × (l.at ≤ length l.texts)
 
 abbrev pub decreases-loop-at : goal.decreases-loop-at
 decreases-loop-at l = length l.texts - l.at

@@ -29,7 +29,9 @@ overflow_sub-result c = (name_ends c.args.k _ _ c.requires c.name_start-from.ens
 pub returns : goal.returns
 returns c =
     unfold letters_of in
-    simple_put c.args.k _ _ _ _
-    c.requires
-    c.name_start-from.ensures
-    c.name_start-to.ensures c.fill.ensures
+    let both =
+        simple_put c.args.k _ _ _ _
+        c.requires
+        c.name_start-from.ensures
+        c.name_start-to.ensures c.fill.ensures in
+    record { value = both.0; out_after = both.1 }

@@ -12,23 +12,27 @@ use Rattle.paths.proofs.way.+survey_survey_entries.Goals as goal
 
 pub survey-returns-then-path-eq0 : goal.survey-returns-then-path-eq0
 survey-returns-then-path-eq0 t c =
-    flat_answer _ _ _ _ _ _ _ c.pass.ensures.told c.pass.ensures.rest_value
-    (λ d. absurd (d c.if-path-eq0.true))
+    let a = flat_answer c.args.left c.args.s.now c.args.path.now _ _ _ _ c.pass.ensures.told c.pass.ensures.rest_value
+    (λ d h k z. d c.if-path-eq0.true) in
+    record { told = a.0; surveyed = a.1 }
 
 pub survey-returns-then-s-lt3 : goal.survey-returns-then-s-lt3
 survey-returns-then-s-lt3 t c =
-    flat_answer _ _ _ _ _ _ _ c.pass-then-s-lt3.ensures.told c.pass-then-s-lt3.ensures.rest_value
-    (λ d h k z. omega (arith, c.if-s-lt3.true))
+    let a = flat_answer c.args.left c.args.s.now c.args.path.now _ _ _ _ c.pass-then-s-lt3.ensures.told c.pass-then-s-lt3.ensures.rest_value
+    (λ d h k z. omega (arith, c.if-s-lt3.true)) in
+    record { told = a.0; surveyed = a.1 }
 
 pub survey-returns-then-left-eq0 : goal.survey-returns-then-left-eq0
 survey-returns-then-left-eq0 t c =
-    flat_answer _ _ _ _ _ _ _ c.pass-then-left-eq0.ensures.told c.pass-then-left-eq0.ensures.rest_value
-    (λ d h k z. omega (arith, c.if-left-eq0.true))
+    let a = flat_answer c.args.left c.args.s.now c.args.path.now _ _ _ _ c.pass-then-left-eq0.ensures.told c.pass-then-left-eq0.ensures.rest_value
+    (λ d h k z. omega (arith, c.if-left-eq0.true)) in
+    record { told = a.0; surveyed = a.1 }
 
 pub survey-returns-then-s-ne-CONTEXT : goal.survey-returns-then-s-ne-CONTEXT
 survey-returns-then-s-ne-CONTEXT t c =
-    flat_answer _ _ _ _ _ _ _ c.pass-then-s-ne-CONTEXT.ensures.told c.pass-then-s-ne-CONTEXT.ensures.rest_value
-    (λ d h k z. c.if-s-ne-CONTEXT.true z)
+    let a = flat_answer c.args.left c.args.s.now c.args.path.now _ _ _ _ c.pass-then-s-ne-CONTEXT.ensures.told c.pass-then-s-ne-CONTEXT.ensures.rest_value
+    (λ d h k z. c.if-s-ne-CONTEXT.true z) in
+    record { told = a.0; surveyed = a.1 }
 
 pub survey-survey_entries-requires : goal.survey-survey_entries-requires
 survey-survey_entries-requires t c =
@@ -52,13 +56,15 @@ survey_entries-overflow_sub-s t c = omega (arith, c.loop-i.invariant.run)
 
 pub survey_entries-returns-then-s-at-lt-NAME_WIDTH : goal.survey_entries-returns-then-s-at-lt-NAME_WIDTH
 survey_entries-returns-then-s-at-lt-NAME_WIDTH t c =
-    along_none c.loop-i.invariant _ _ _ _ _ c.loop-i-test.true
-    c.if-s-at-lt-NAME_WIDTH.true c.stop.ensures
+    let a = along_none c.loop-i.invariant _ _ _ _ _ c.loop-i-test.true
+    c.if-s-at-lt-NAME_WIDTH.true c.stop.ensures in
+    record { told = a.0; surveyed = a.1 }
 
 pub survey_entries-returns-then-x-least : goal.survey_entries-returns-then-x-least
 survey_entries-returns-then-x-least t c =
-    along_fall c.loop-i.invariant c.loop-i-test.true c.if-s-at-lt-NAME_WIDTH.false
-    c.name_at-x.ensures.0 _ _ _ _ _ c.if-x-least.true c.stop-then-x-least.ensures
+    let a = along_fall c.loop-i.invariant c.loop-i-test.true c.if-s-at-lt-NAME_WIDTH.false
+    c.name_at-x.ensures.0 _ _ _ _ _ c.if-x-least.true c.stop-then-x-least.ensures in
+    record { told = a.0; surveyed = a.1 }
 
 pub survey_entries-survey-w-requires : goal.survey_entries-survey-w-requires
 survey_entries-survey-w-requires t c =
@@ -68,9 +74,10 @@ survey_entries-survey-w-requires t c =
 
 pub survey_entries-returns-then-w-eq0 : goal.survey_entries-returns-then-w-eq0
 survey_entries-returns-then-w-eq0 t c =
-    along_fault c.loop-i.invariant c.loop-i-test.true c.if-s-at-lt-NAME_WIDTH.false
+    let a = along_fault c.loop-i.invariant c.loop-i-test.true c.if-s-at-lt-NAME_WIDTH.false
     c.name_at-x.ensures.0 c.if-x-least.false c.survey-w.ensures.told _
-    _ _ _ _ c.if-w-eq0.true c.stop-then-w-eq0.ensures
+    _ _ _ _ c.if-w-eq0.true c.stop-then-w-eq0.ensures in
+    record { told = a.0; surveyed = a.1 }
 
 pub survey_entries-around-cut-requires : goal.survey_entries-around-cut-requires
 survey_entries-around-cut-requires t c =
@@ -106,9 +113,10 @@ survey_entries-loop-i-preserved-then-x-name t c =
 
 pub survey_entries-returns-then-size-eq0 : goal.survey_entries-returns-then-size-eq0
 survey_entries-returns-then-size-eq0 t c =
-    along_fault c.loop-i.invariant c.loop-i-test.true c.if-s-at-lt-NAME_WIDTH.false
+    let a = along_fault c.loop-i.invariant c.loop-i-test.true c.if-s-at-lt-NAME_WIDTH.false
     c.name_at-x.ensures.0 c.if-x-least.false c.pass-size.ensures _ _ _ _ _
-    c.if-size-eq0.true c.stop-then-size-eq0.ensures
+    c.if-size-eq0.true c.stop-then-size-eq0.ensures in
+    record { told = a.0; surveyed = a.1 }
 
 pub survey_entries-overflow_add-at-in-loop-i : goal.survey_entries-overflow_add-at-in-loop-i
 survey_entries-overflow_add-at-in-loop-i t c =
@@ -141,7 +149,8 @@ survey_entries-overflow_add-result-2 t c = omega (arith, c.loop-i.invariant.low,
 
 pub survey_entries-returns : goal.survey_entries-returns
 survey_entries-returns t c =
-    along_end c.loop-i.invariant _ _ _ _
+    let a = along_end c.loop-i.invariant _ _ _ _
     (path_parts _ _ c.requires.3
     c.name_number-name.ensures.0)
-    c.loop-i-test.false refl refl refl
+    c.loop-i-test.false refl refl refl in
+    record { told = a.0; surveyed = a.1 }

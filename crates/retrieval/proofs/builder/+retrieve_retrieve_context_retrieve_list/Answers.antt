@@ -17,17 +17,6 @@ use Rattle.retrieval.proofs.EntriesLoop.{common-next, context_done}
 use Rattle.retrieval.proofs.ByCommand.{first_v, first_t, null_done, list_refused, context_refused, kind_refused, copy_fits, kind_copied}
 use Rattle.retrieval.proofs.builder.+retrieve_retrieve_context_retrieve_list.Goals as goal
 
-list-here : (t : ℕ)
-    (c : Start) →
-    Lists c.args.left c.args.t.now c.args.v.now
-list-here t c = lists c.args.left c.args.t.now c.args.v.now c.requires.1.0 c.requires.1.1.0 c.requires.1.1.1.0 c.requires.1.1.1.1
-
-context-here : (t : ℕ)
-    (c : Start)
-    →
-    Contexts c.args.left c.args.t.now c.args.v.now
-context-here t c = contexts c.args.left c.args.t.now c.args.v.now c.requires.1.0 c.requires.1.1.0 c.requires.1.1.1.0 c.requires.1.1.1.1
-
 pub retrieve-bounds-v-0 : goal.retrieve-bounds-v-0
 retrieve-bounds-v-0 t c =
     omega (
@@ -79,21 +68,21 @@ retrieve-returns t c =
     c.if-d-eq-CONTEXT_TYPE.false _ c.outer_kind.ensures c.if-outer_kind.false _
 
 pub retrieve_context-word_at-m-requires : goal.retrieve_context-word_at-m-requires
-retrieve_context-word_at-m-requires t c = (context-here t (goal.at.retrieve_context-word_at-m-requires t c).Start).three-t
+retrieve_context-word_at-m-requires t c = (contexts c.args.left c.args.t.now c.args.v.now c.requires.ok c.requires.ok_2 c.requires.t_value.0 c.requires.t_value.1).three_t
 
 pub retrieve_context-word_at-n-requires : goal.retrieve_context-word_at-n-requires
-retrieve_context-word_at-n-requires t c = (context-here t (goal.at.retrieve_context-word_at-n-requires t c).Start).three-v
+retrieve_context-word_at-n-requires t c = (contexts c.args.left c.args.t.now c.args.v.now c.requires.ok c.requires.ok_2 c.requires.t_value.0 c.requires.t_value.1).three_v
 
 pub retrieve_context-slice_bounds-fill-end : goal.retrieve_context-slice_bounds-fill-end
 retrieve_context-slice_bounds-fill-end t c =
     omega (
       arith,
-      length-take-le 3 c.args.v.now (context-here t (goal.at.retrieve_context-slice_bounds-fill-end t c).?).three-v,
+      length-take-le 3 c.args.v.now (contexts c.args.left c.args.t.now c.args.v.now c.requires.ok c.requires.ok_2 c.requires.t_value.0 c.requires.t_value.1).three_v,
     )
 
 pub retrieve_context-loop-p-init : goal.retrieve_context-loop-p-init
 retrieve_context-loop-p-init t c =
-    context_begins (context-here t (goal.at.retrieve_context-loop-p-init t c).?) _ _ c.args.out.now _ c.word_at-m.ensures.0 c.word_at-n.ensures.0
+    context_begins (contexts c.args.left c.args.t.now c.args.v.now c.requires.ok c.requires.ok_2 c.requires.t_value.0 c.requires.t_value.1) _ _ c.args.out.now _ c.word_at-m.ensures.0 c.word_at-n.ensures.0
     c.word_at-n.ensures.1 c.fill.ensures
 
 pub retrieve_context-next_name-x-requires : goal.retrieve_context-next_name-x-requires
@@ -229,15 +218,15 @@ retrieve_context-slice_bounds-retrieve-start-in-loop-p t c =
 
 pub retrieve_context-retrieve-requires : goal.retrieve_context-retrieve-requires
 retrieve_context-retrieve-requires t c =
-    let next-name = c.next_name-x in record {
-      ok = omega (arith, c.requires-raw.0, (context-here t (goal.at.retrieve_context-retrieve-requires t c).?).level);
-      ok_2 = (
-        common_ok_t c.loop-p.invariant next-name.result c.next_name-y.result next-name.ensures.0 c.next_name-y.ensures.value
-            next-name.ensures.1.0 c.next_name-y.ensures.upper_bound.0 c.if-x-y.false c.if-y-x.false c.if-x-eq-NAME_END.false,
-        common_ok_v c.loop-p.invariant next-name.result c.next_name-y.result next-name.ensures.0 c.next_name-y.ensures.value
-            next-name.ensures.1.0 c.next_name-y.ensures.upper_bound.0 c.if-x-y.false c.if-y-x.false c.if-x-eq-NAME_END.false,
-      );
-    }
+    let next-name = c.next_name-x in (
+      omega (arith, c.requires-raw.0, (contexts c.args.left c.args.t.now c.args.v.now c.requires.ok c.requires.ok_2 c.requires.t_value.0 c.requires.t_value.1).level),
+      (
+        common_ok_t c.loop-p.invariant next-name.result c.next_name-y.result next-name.ensures.value c.next_name-y.ensures.value
+            next-name.ensures.upper_bound.0 c.next_name-y.ensures.upper_bound.0 c.if-x-y.false c.if-y-x.false c.if-x-eq-NAME_END.false,
+        common_ok_v c.loop-p.invariant next-name.result c.next_name-y.result next-name.ensures.value c.next_name-y.ensures.value
+            next-name.ensures.upper_bound.0 c.next_name-y.ensures.upper_bound.0 c.if-x-y.false c.if-y-x.false c.if-x-eq-NAME_END.false,
+      ),
+    )
 
 pub retrieve_context-overflow_add-at-in-Yes : goal.retrieve_context-overflow_add-at-in-Yes
 retrieve_context-overflow_add-at-in-Yes t c =
@@ -311,10 +300,10 @@ retrieve_context-loop-p-smaller t c =
     let next-name = c.next_name-x in
     omega (
       arith,
-      both_v c.loop-p.invariant next-name.result c.next_name-y.result next-name.ensures.0 c.next_name-y.ensures.value
-          next-name.ensures.1.0 c.next_name-y.ensures.upper_bound.0 c.if-x-y.false c.if-y-x.false c.if-x-eq-NAME_END.false,
-      both_t c.loop-p.invariant next-name.result c.next_name-y.result next-name.ensures.0 c.next_name-y.ensures.value
-          next-name.ensures.1.0 c.next_name-y.ensures.upper_bound.0 c.if-x-y.false c.if-y-x.false c.if-x-eq-NAME_END.false,
+      both_v c.loop-p.invariant next-name.result c.next_name-y.result next-name.ensures.value c.next_name-y.ensures.value
+          next-name.ensures.upper_bound.0 c.next_name-y.ensures.upper_bound.0 c.if-x-y.false c.if-y-x.false c.if-x-eq-NAME_END.false,
+      both_t c.loop-p.invariant next-name.result c.next_name-y.result next-name.ensures.value c.next_name-y.ensures.value
+          next-name.ensures.upper_bound.0 c.next_name-y.ensures.upper_bound.0 c.if-x-y.false c.if-y-x.false c.if-x-eq-NAME_END.false,
     )
 
 pub retrieve_context-loop-p-preserved : goal.retrieve_context-loop-p-preserved
@@ -337,26 +326,29 @@ retrieve_context-returns t c =
     _ c.fill.ensures c.fill-2.ensures
 
 pub retrieve_list-word_at-n-requires : goal.retrieve_list-word_at-n-requires
-retrieve_list-word_at-n-requires t c = (list-here t (goal.at.retrieve_list-word_at-n-requires t c).Start).three
+retrieve_list-word_at-n-requires t c = (lists c.args.left c.args.t.now c.args.v.now c.requires.ok c.requires.ok_2 c.requires.t_value.0 c.requires.t_value.1).three
 
 pub retrieve_list-slice_bounds-fill-end : goal.retrieve_list-slice_bounds-fill-end
 retrieve_list-slice_bounds-fill-end t c =
     omega (
       arith,
-      length-take-le 3 c.args.v.now (list-here t (goal.at.retrieve_list-slice_bounds-fill-end t c).?).three,
+      length-take-le 3 c.args.v.now (lists c.args.left c.args.t.now c.args.v.now c.requires.ok c.requires.ok_2 c.requires.t_value.0 c.requires.t_value.1).three,
     )
 
 pub retrieve_list-loop-i-init : goal.retrieve_list-loop-i-init
 retrieve_list-loop-i-init t c =
-    list_begins (list-here t (goal.at.retrieve_list-loop-i-init t c).?) _ c.args.out.now _ (bytes_of c.args.v.now c.shared_slice_known-2-1.given) c.word_at-n.ensures.0
+    list_begins (lists c.args.left c.args.t.now c.args.v.now c.requires.ok c.requires.ok_2 c.requires.t_value.0 c.requires.t_value.1) _ c.args.out.now _ (bytes_of c.args.v.now c.shared_slice_known-2-1.given) c.word_at-n.ensures.0
     c.fill.ensures
 
 pub retrieve_list-retrieve-requires : goal.retrieve_list-retrieve-requires
 retrieve_list-retrieve-requires t c =
-    record {
-      ok = omega (arith, c.requires-raw.0, (list-here t (goal.at.retrieve_list-retrieve-requires t c).?).level);
-      ok_2 = (type_ok c.loop-i.invariant, item_ok c.loop-i.invariant c.loop-i-test.true);
-    }
+    (
+      omega (arith, c.requires-raw.0, (lists c.args.left c.args.t.now c.args.v.now c.requires.ok c.requires.ok_2 c.requires.t_value.0 c.requires.t_value.1).level),
+      (
+        type_ok c.loop-i.invariant,
+        item_ok c.loop-i.invariant c.loop-i-test.true,
+      ),
+    )
 
 pub retrieve_list-overflow_add-at : goal.retrieve_list-overflow_add-at
 retrieve_list-overflow_add-at t c =

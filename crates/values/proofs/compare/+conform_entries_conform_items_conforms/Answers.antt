@@ -29,14 +29,14 @@ use Rattle.values.proofs.Reading.{Above}
 use Rattle.values.proofs.Entries.{entries_run, entries_tests, entries_left, entries_none, entries_low}
 use borrow.Author.Rules.{rules}
 use Rattle.values.proofs.compare.+conform_entries_conform_items_conforms.Goals as goal
+use Rattle.values.proofs.compare.+conform_entries_conform_items_conforms.Goals.{conform_entries-Joined-j-m, conform_entries-then-j-m+else-t-bt-lt-NAME_WIDTH, conform_entries-else-j-m}
 
-there : (t : ℕ)
-    (c : Joined-j-m)
-    →
-    let c5 = c.before.before.before.before.before in
-    let args = c5.before.before.before.before.before.args in
-    c5.loop.j < args.m → c5.loop.bt + name_width ≤ length args.t.now
-there t c h = ⊎_elim (λ w. omega (arith, w.1.left)) (λ w. absurd (omega (arith, w.left, h))) c.if6.branch
+there : (t : ℕ) (c : conform_entries-Joined-j-m t) → c.loop-i.j < c.args.m → c.loop-i.bt + name_width ≤ length c.args.t.now
+there t c h =
+    elim c.if-j-m.branch [
+      conform_entries-then-j-m+else-t-bt-lt-NAME_WIDTH w ↦ omega (arith, w.if-t-bt-lt-NAME_WIDTH.false, h)
+    | conform_entries-else-j-m w ↦ absurd (omega (arith, w.if-j-m.false, h))
+    ]
 
 pub conform_entries-returns-then-m-gt0 : goal.conform_entries-returns-then-m-gt0
 conform_entries-returns-then-m-gt0 t c =
@@ -248,7 +248,7 @@ conform_entries-overflow_add-at-in-loop-i t c =
           let conforms = c.conforms-x in
           pair_in (readable_value (args.left - 1)) (readable_type args.left) (order.conforms (order_of args.reading))
           args.v.now (loop.at + name_width) args.t.now (loop.bt + name_width) conforms.result
-          conforms.new.1.1.1.0 (omega (arith, loop.invariant, c.if-v-at-lt-NAME_WIDTH.false))
+          conforms.new.other (omega (arith, loop.invariant, c.if-v-at-lt-NAME_WIDTH.false))
           (there t (goal.at.conform_entries-overflow_add-at-in-loop-i t c).Joined-j-m
           (b_more loop.invariant 3 0 c.loop-i-test.true
           (omega (arith, loop.invariant, c.if-v-at-lt-NAME_WIDTH.false)) c.name_at-name.result c.next_name-next.result
@@ -256,7 +256,7 @@ conform_entries-overflow_add-at-in-loop-i t c =
           c.next_name-next.ensures.value c.if-name-next.false c.if-next-name.false))
           (pair (readable_value (args.left - 1)) (readable_type args.left) (order.conforms (order_of args.reading)) args.v.now
           (loop.at + name_width) args.t.now (loop.bt + name_width) conforms.result
-          conforms.new.1.1.1.0 conforms.ensures c.if-x-eq0.false),
+          conforms.new.other conforms.ensures c.if-x-eq0.false),
     )
 
 pub conform_entries-overflow_add-bt-in-loop-i : goal.conform_entries-overflow_add-bt-in-loop-i
@@ -392,9 +392,9 @@ conform_items-overflow_add-at-in-loop-i t c =
       let args = c.args in
           let conforms = c.conforms-x in
           items_fit c.loop-i.invariant c.loop-i-test.true conforms.result
-          conforms.new.1.1.1.0
+          conforms.new.other
           (pair (readable_value (args.left - 1)) (readable_type args.left) (order.conforms (order_of args.reading)) args.v.now
-          c.loop-i.at args.t.now 0 conforms.result conforms.new.1.1.1.0
+          c.loop-i.at args.t.now 0 conforms.result conforms.new.other
           conforms.ensures c.if-x-eq0.false),
     )
 

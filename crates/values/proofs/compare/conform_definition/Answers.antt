@@ -46,10 +46,10 @@ overflow_add-at c =
     let args = c.args in
     let called = c.conform_parameter-x in
     let h =
-    param_fits c.loop-i.invariant c.loop-i-test.true called.result called.new.1.1.1.0
+    param_fits c.loop-i.invariant c.loop-i-test.true called.result called.new.other
     (pair (readable_type args.left) (readable_type args.left) (cmp (order_of args.reading) (parameter_way (order_of args.reading))) args.v.now
     (c.loop-i.at + name_width) args.t.now c.loop-i.bt called.result
-    called.new.1.1.1.0 called.ensures c.if-x-eq0.false) in
+    called.new.other called.ensures c.if-x-eq0.false) in
     omega arith
 
 pub overflow_add-bt : goal.overflow_add-bt

@@ -19,17 +19,15 @@ use Rattle.values.proofs.ValueConformance.{sized_value, unsized_value, never, no
 use Rattle.values.proofs.ValueConformance.{met_plain, met_table, plain_apart}
 use Rattle.values.proofs.Definitions.{definition_bytes, definition_ok, definition_counts, met_definition}
 use Rattle.values.proofs.compare.conform_other.Goals as goal
+use Rattle.values.proofs.compare.conform_other.Goals.{After-leaf_type-e, in-16-1, in_default+then-c-lt9}
 
-arm-leaf : (c : In-1-to-8-1) → is_leaf_command (get_or c.before.before.before.before.before.before.before.before.before.args.v.now 0 0) ≡ true
+arm-leaf : (c : After-leaf_type-e) → is_leaf_command (get_or c.args.v.now 0 0) ≡ true
 arm-leaf c =
-    let args = c.before.before.before.before.before.before.before.before.before.args in
-    ⊎_elim
-    (λ x. leaf_decimal (get_or args.v.now 0 0) x.keys2)
-    (λ x. leaf_low (get_or args.v.now 0 0) (omega (arith, x.1.taken)))
-    c.match.branch
+    let b = get_or c.args.v.now 0 0 in
+    elim c.in-1-to-8-1.branch [ in-16-1 w ↦ leaf_decimal b (omega arith) | in_default+then-c-lt9 w ↦ leaf_low b (omega arith) ]
 
-arm-not-null : (c : In-1-to-8-1) → get_or c.before.before.before.before.before.before.before.before.before.args.v.now 0 0 ≡ 0 → ⊥
-arm-not-null c = ⊎_elim (λ x z. omega (arith, x.keys2)) (λ x z. x.0.rest.0.0.1 z) c.match.branch
+arm-not-null : (c : After-leaf_type-e) → get_or c.args.v.now 0 0 ≡ 0 → ⊥
+arm-not-null c z = elim c.in-1-to-8-1.branch [ in-16-1 w ↦ omega (arith, z) | in_default+then-c-lt9 w ↦ omega (arith, z) ]
 
 pub returns-then-left-lt2 : goal.returns-then-left-lt2
 returns-then-left-lt2 c =
@@ -155,7 +153,7 @@ conform_definition-requires c =
 pub returns-then-is_related : goal.returns-then-is_related
 returns-then-is_related c =
     let args = c.args in
-    met_table args.reading (args.left - 1) args.left args.v.now args.t.now (omega arith) (omega arith) (arm-leaf (goal.at.returns-then-is_related c).In-1-to-8-1)
+    met_table args.reading (args.left - 1) args.left args.v.now args.t.now (omega arith) (omega arith) (arm-leaf (goal.at.returns-then-is_related c).After-leaf_type-e)
     c.if-d-eq-ANY_TYPE.false c.leaf_type-e.result c.leaf_type-e.ensures c.if-d-e.true
     c.is_related.result c.is_related.ensures c.if-is_related.true
     c.skip-then-is_related.result c.skip-then-is_related.ensures
@@ -163,7 +161,7 @@ returns-then-is_related c =
 pub returns-then-d-e : goal.returns-then-d-e
 returns-then-d-e c =
     let args = c.args in
-    plain_apart args.reading (args.left - 1) args.left args.v.now args.t.now _ (arm-leaf (goal.at.returns-then-d-e c).In-1-to-8-1) (arm-not-null (goal.at.returns-then-d-e c).In-1-to-8-1)
+    plain_apart args.reading (args.left - 1) args.left args.v.now args.t.now _ (arm-leaf (goal.at.returns-then-d-e c).After-leaf_type-e) (arm-not-null (goal.at.returns-then-d-e c).After-leaf_type-e)
     c.if-d-eq-ANY_TYPE.false c.leaf_type-e.result c.leaf_type-e.ensures c.if-d-e.true
     c.is_related.result c.is_related.ensures c.if-is_related.false
 
@@ -196,5 +194,5 @@ returns-in_default c =
 pub returns-else-d-e : goal.returns-else-d-e
 returns-else-d-e c =
     let args = c.args in
-    met_plain (reading_ends args.reading) (args.left - 1) args.left args.v.now args.t.now (omega arith) (omega arith) (arm-leaf (goal.at.returns-else-d-e c).In-1-to-8-1)
+    met_plain (reading_ends args.reading) (args.left - 1) args.left args.v.now args.t.now (omega arith) (omega arith) (arm-leaf (goal.at.returns-else-d-e c).After-leaf_type-e)
     (c.if-d-e.false ∙ c.leaf_type-e.ensures) c.skip-in-1-to-8.result c.skip-in-1-to-8.ensures
