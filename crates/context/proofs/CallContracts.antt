@@ -11,7 +11,7 @@
 use Prim.Native.Nat.{ℕ, ◌+◌, ◌-◌, ◌<◌, ◌≤◌, max, min}
 use native.Mathlib.Omega.{arith}
 use mathlib.Core.Path.{◌≡◌, refl, sym, ap, ap₂, subst, ◌∙◌}
-use mathlib.Core.Bool.{Bool, true, false, not, ◌&&◌, cond}
+use mathlib.Core.Bool.{Bool, true, false, ◌&&◌, cond}
 use mathlib.Core.Option.{Option, none, some}
 use mathlib.Core.List.{List, [], ◌∷◌, ◌++◌, append_assoc, append-nil}
 use lib.ListN.{length, get_or, take, drop, length-append, length-take, length-drop}
@@ -28,7 +28,6 @@ use Rattle.form.specs.declared.Checked.{Checked}
 use Rattle.form.specs.declared.Checked.TheVariants as checked_is
 use Rattle.form.specs.declared.Written.{Written}
 use Rattle.form.specs.declared.Written.TheVariants as written_is
-use Rattle.form.specs.ByteForm.{Accepted}
 use Rattle.form.proofs.ExactValues.{enc_read_v, read_enc_v}
 use Rattle.form.proofs.Exact.{bytes_drop}
 use Rattle.form.proofs.Numbers.{bytes_take}

@@ -31,7 +31,8 @@ use Rattle.types.specs.At.{type_at, size_at}
 use Rattle.types.proofs.Entries.{size_got}
 use Rattle.types.proofs.Instances.{front_bytes}
 use Rattle.values.specs.At.{value_at, items_at, entries_at, Definition, definition, size_definition, definition_at}
-use Rattle.values.proofs.Reading.{some_byte, some_level, v_inside, IsVal, is_null_lem, is_boolean_lem, is_number, is_string_lem, is_temporal_lem, is_range_lem, is_list_lem, is_context_lem, is_definition_lem, is_built_in_lem, is_type_lem}
+use Rattle.values.proofs.Reading.{some_byte, some_level, v_inside, IsVal, is_null_lem, is_boolean_lem, is_number, is_string_lem, is_temporal_lem, is_range_lem}
+use Rattle.values.proofs.Reading.{is_list_lem, is_context_lem, is_definition_lem, is_built_in_lem, is_type_lem}
 use Rattle.values.proofs.Reading.{is_irrelevant_lem, is_decimal_lem, is_val, as_leaf, as_range, as_list, as_context, as_definition, as_type, encoded}
 use Rattle.output.proofs.OntoLaws.{onto_first, onto_two, onto_three, length_onto}
 use Rattle.infer.specs.Typing.{type_by, Fits, FitVal, FitDefinition, Fitting, Plain, Starts, Wrote, Typed, type_text, fields_text, inner_text, signature_text}
@@ -134,23 +135,23 @@ module _ (O : Order) (m : Bool) (l : ℕ) (s : List ℕ) where
 
   -- none of the commands that have an arm of their own
   abbrev Other : Type 0
-  Other = (((((Unit {0} × (get_or s 0 0 ≡ 16 → ⊥)) × (get_or s 0 0 ≡ 9 → ⊥)) × (get_or s 0 0 ≡ 10 → ⊥)) × (get_or s 0 0 ≡ 11 → ⊥)) × (get_or s 0 0 ≡ 12 → ⊥)) × (get_or s 0 0 ≡ 14 → ⊥)
+  Other = ((13 ≤ get_or s 0 0) × (get_or s 0 0 ≡ 14 → ⊥)) × (get_or s 0 0 ≡ 16 → ⊥)
 
-  other_of : {j : ValueKind} (v : Val) → IsVal l s j v → Other → 9 ≤ get_or s 0 0 → Simply O m v 32 (width_of (get_or s 0 0))
+  other_of : {j : ValueKind} (v : Val) → IsVal l s j v → Other → Simply O m v 32 (width_of (get_or s 0 0))
   unfolding enc size_val kind_of operands operands_v width_of
-  other_of v (is_null_lem x c) g h = absurd (omega arith)
-  other_of v (is_boolean_lem x c) g h = absurd (omega arith)
-  other_of v (is_number x c) g h = absurd (omega arith)
-  other_of v (is_string_lem x c) g h = absurd (omega arith)
-  other_of v (is_temporal_lem x c k) g h = absurd (omega arith)
-  other_of v (is_range_lem i j a b c k e) g h = absurd (g.0.0.0.0.1 c)
-  other_of v (is_list_lem vs c k e) g h = absurd (g.0.0.0.1 c)
-  other_of v (is_context_lem es c k e) g h = absurd (g.0.0.1 c)
-  other_of v (is_definition_lem r ps b c k e) g h = absurd (g.0.1 c)
-  other_of v (is_built_in_lem c k) g h = (ap enc (built_in_is O m (get_or s 1 0)), ap (λ (z : ℕ). width_of z + 1) c)
-  other_of v (is_type_lem t c e) g h = absurd (g.1 c)
-  other_of v (is_irrelevant_lem c) g h = (ap enc (irrelevant_is O m), ap (λ (z : ℕ). width_of z + 1) c)
-  other_of v (is_decimal_lem x p c) g h = absurd (g.0.0.0.0.0.1 c)
+  other_of v (is_null_lem x c) g = absurd (omega (arith, g.0.0))
+  other_of v (is_boolean_lem x c) g = absurd (omega (arith, g.0.0))
+  other_of v (is_number x c) g = absurd (omega (arith, g.0.0))
+  other_of v (is_string_lem x c) g = absurd (omega (arith, g.0.0))
+  other_of v (is_temporal_lem x c k) g = absurd (omega (arith, g.0.0))
+  other_of v (is_range_lem i j a b c k e) g = absurd (omega (arith, g.0.0))
+  other_of v (is_list_lem vs c k e) g = absurd (omega (arith, g.0.0))
+  other_of v (is_context_lem es c k e) g = absurd (omega (arith, g.0.0))
+  other_of v (is_definition_lem r ps b c k e) g = absurd (omega (arith, g.0.0))
+  other_of v (is_built_in_lem c k) g = (ap enc (built_in_is O m (get_or s 1 0)), ap (λ (z : ℕ). width_of z + 1) c)
+  other_of v (is_type_lem t c e) g = absurd (g.0.1 c)
+  other_of v (is_irrelevant_lem c) g = (ap enc (irrelevant_is O m), ap (λ (z : ℕ). width_of z + 1) c)
+  other_of v (is_decimal_lem x p c) g = absurd (g.1 c)
 
 -- ---- the built values
 module _ (O : Order) (m : Bool) (l : ℕ) (s old : List ℕ) (spare : ℕ) (bs : Bytes s) where
@@ -377,11 +378,11 @@ module _ (O : Order) (m : Bool) (l : ℕ) (s old spare : List ℕ) (p : FitVal O
       subst (λ (z : ℕ). Typed size_val (type_text O m) (value_at l s) old (set old 0 b) z 1) (sym P.size) (leaf_done (leaf_low (get_or s 0 0) P.low) b t (width_of (get_or s 0 0)) refl)
 
   module _ (other : Other O m l s) where
-    pub other_ends : 9 ≤ get_or s 0 0 → width_of (get_or s 0 0) + 1 ≤ length s
-    other_ends h = simply_ends _ _ (other_of O m l s G.x kind.1 other h)
+    pub other_ends : width_of (get_or s 0 0) + 1 ≤ length s
+    other_ends = simply_ends _ _ (other_of O m l s G.x kind.1 other)
 
-    pub other_done : 9 ≤ get_or s 0 0 → (k : ℕ) → k ≡ width_of (get_or s 0 0) → Typed size_val (type_text O m) (value_at l s) old (set old 0 32) (k + 1) 1
-    other_done h = simply_done _ _ (other_of O m l s G.x kind.1 other h)
+    pub other_done : (k : ℕ) → k ≡ width_of (get_or s 0 0) → Typed size_val (type_text O m) (value_at l s) old (set old 0 32) (k + 1) 1
+    other_done = simply_done _ _ (other_of O m l s G.x kind.1 other)
 
   pub in_range : get_or s 0 0 ≡ 9 → Ranges O m l s old (length spare) bs
   in_range c = range_of_lem O m l s old (length spare) bs G.x given (as_range l s G.x G.read c)
@@ -404,7 +405,8 @@ unfolding FitDefinition
 definition_fits {r = r} {xs = xs} U = rw U.part (omega (arith, U.sized, U.roomy, U.same, length_rest xs 2))
 
 -- ---- the short way: the type of a leaf at i of s is one byte at j of xs
-module _ (O : Order) (m : Bool) (l : ℕ) (s : List ℕ) (i : ℕ) (xs : List ℕ) (j : ℕ) (spare : List ℕ) (p : FitVal O m (value_at l (behind i s)) (length (behind j xs)) (length spare)) (bs : Bytes s) where
+module _ (O : Order) (m : Bool) (l : ℕ) (s : List ℕ) (i : ℕ) (xs : List ℕ) (j : ℕ) (spare : List ℕ) (p : FitVal O m (value_at l (behind i s)) (length (behind j xs)) (length spare))
+    (bs : Bytes s) where
   there : Bytes (behind i s)
   there = subst Bytes (sym (rest s i)) (bytes_drop i s bs)
 

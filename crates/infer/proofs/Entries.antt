@@ -192,7 +192,8 @@ module _ {O : Order} {m : Bool} {l : ℕ} {s : List ℕ} {n : ℕ} {old spare₀
 
         pub entry_leaf : EntriesInv O m l s n old spare₀ (set xs (to + name_width) b) spare (at + name_width + k) (to + name_width + 1) (i + 1)
         entry_leaf =
-            subst (λ (z : List ℕ). EntriesInv O m l s n old spare₀ z spare (at + name_width + k) (to + name_width + 1) (i + 1)) (plain_put O m l s (at + name_width) xs (to + name_width) spare fits bs b)
+            subst (λ (z : List ℕ). EntriesInv O m l s n old spare₀ z spare (at + name_width + k) (to + name_width + 1) (i + 1))
+            (plain_put O m l s (at + name_width) xs (to + name_width) spare fits bs b)
             (entry_next xs (set (behind (to + name_width) xs) 0 b) k 1 named told spare refl)
 
   pub entries_done : n ≤ i → Typed size_entries (fields_text O m) (entries_at l n 0 s) old out at to

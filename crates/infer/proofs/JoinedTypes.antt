@@ -151,7 +151,8 @@ module _ (s : List ℕ) (n m spare : ℕ) (h : Sides (type_at type_levels s) (ty
 
     module _ (sc sc2 : List ℕ) (i j w : ℕ) (sp : spare ≡ length sc) (c : Combined (of_types O up) (type_at type_levels s) (type_at type_levels (take (length s - n) (drop n s))) sc sc2 i j w) where
       W : Wrote (of_types O up) T.t T.u sc sc2 i j w
-      W = combined_is (of_types O up) (type_at type_levels s) (type_at type_levels (take (length s - n) (drop n s))) T.t T.u sc sc2 i j w T.read_t_lem (ap (type_at type_levels) (rest s n) ∙ T.read_u) c
+      W = combined_is (of_types O up) (type_at type_levels s) (type_at type_levels (take (length s - n) (drop n s))) T.t T.u sc sc2 i j w T.read_t_lem
+          (ap (type_at type_levels) (rest s n) ∙ T.read_u) c
 
       long : w ≡ length (enc (sup O T.t T.u))
       long = W.long ∙ sym (length_enc (sup O T.t T.u))

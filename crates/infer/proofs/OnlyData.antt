@@ -24,7 +24,8 @@ use Rattle.types.specs.At.{Ok}
 use Rattle.types.proofs.Reading.{is_ok, ok_got}
 use Rattle.types.proofs.ChildAt.{entry_ok}
 use Rattle.values.specs.At.{value_at, items_at, entries_at, size_at_v}
-use Rattle.values.proofs.Reading.{IsVal, is_null_lem, is_boolean_lem, is_number, is_string_lem, is_temporal_lem, is_range_lem, is_list_lem, is_context_lem, is_definition_lem, is_built_in_lem, is_type_lem, is_irrelevant_lem, is_decimal_lem}
+use Rattle.values.proofs.Reading.{IsVal, is_null_lem, is_boolean_lem, is_number, is_string_lem, is_temporal_lem, is_range_lem, is_list_lem}
+use Rattle.values.proofs.Reading.{is_context_lem, is_definition_lem, is_built_in_lem, is_type_lem, is_irrelevant_lem, is_decimal_lem}
 use Rattle.values.proofs.Reading.{is_val, as_leaf, as_range, as_list, as_context, as_definition, some_byte, some_level, v_inside, items_inside, entries_inside, Nth, nth, no_nth}
 use Rattle.values.proofs.EntriesAt.{This, this, none_left}
 use Rattle.infer.specs.Typing.{data_by, add_size, Plain}
@@ -205,7 +206,8 @@ module _ {O : Order} {l : ℕ} {v : List ℕ} {n at i : ℕ} (I : EntriesInv O l
     pub entries_ok : Ok (value_at l (take (length v - (at + name_width)) (drop (at + name_width) v)))
     entries_ok = entry_ok next_one
 
-    entry_told : (r : Data) → r ≡ data_by (is_data_by O) size_val (value_at l (take (length v - (at + name_width)) (drop (at + name_width) v))) → r ≡ told (is_data_by O next_one.x) (size_val next_one.x)
+    entry_told : (r : Data) → r ≡ data_by (is_data_by O) size_val (value_at l (take (length v - (at + name_width)) (drop (at + name_width) v)))
+        → r ≡ told (is_data_by O next_one.x) (size_val next_one.x)
     entry_told r e = e ∙ ap (λ s. data_by (is_data_by O) size_val (value_at l s)) (rest v (at + name_width)) ∙ by_got (is_data_by O) size_val (value_at l (drop (at + name_width) v)) next_one.x
         next_one.first
 
@@ -219,7 +221,8 @@ module _ {O : Order} {l : ℕ} {v : List ℕ} {n at i : ℕ} (I : EntriesInv O l
     entries_no r p e = sym (entry_whole.0 ∙ and_no (is_data_by O next_one.x) (hold_data O next_one.more) (size_val next_one.x)
         (at + (name_width + size_val next_one.x + size_entries next_one.more)) (sym (entry_told r e) ∙ p))
 
-    pub entries_fit : (r : Data) (x : ℕ) → r ≡ Yes x → r ≡ data_by (is_data_by O) size_val (value_at l (take (length v - (at + name_width)) (drop (at + name_width) v))) → at + name_width + x ≤ length v
+    pub entries_fit : (r : Data) (x : ℕ) → r ≡ Yes x → r ≡ data_by (is_data_by O) size_val (value_at l (take (length v - (at + name_width)) (drop (at + name_width) v)))
+        → at + name_width + x ≤ length v
     entries_fit r x p e = omega (arith, (told_yes (is_data_by O next_one.x) (size_val next_one.x) x (sym (entry_told r e) ∙ p)).1, entry_whole.1)
 
     pub entries_again : (r : Data) (x : ℕ) → r ≡ Yes x → r ≡ data_by (is_data_by O) size_val (value_at l (take (length v - (at + name_width)) (drop (at + name_width) v)))

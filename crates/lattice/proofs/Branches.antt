@@ -317,7 +317,8 @@ module _ (O : Order) (d : Dir) (l : ℕ) (a b : List ℕ) (n : ℕ) (p : Ready (
   pub ctx_three : get_or a 0 0 ≡ 44 → (3 ≤ length a) × (3 ≤ length b)
   ctx_three c = ((is_ctx l a B.t B.read_a c).three, (is_ctx l b B.u B.read_b (sym same ∙ c)).three)
 
-  abbrev pub in_contexts : get_or a 0 0 ≡ 44 → (i j : ℕ) → i ≡ num_at 2 1 a → j ≡ num_at 2 1 b → Inner O d l a b n (of_fields O d) 3 (fields_at (l - 1) i 0 (behind 3 a)) (fields_at (l - 1) j 0 (behind 3 b))
+  abbrev pub in_contexts : get_or a 0 0 ≡ 44 → (i j : ℕ) → i ≡ num_at 2 1 a → j ≡ num_at 2 1 b → Inner O d l a b n (of_fields O d) 3
+      (fields_at (l - 1) i 0 (behind 3 a)) (fields_at (l - 1) j 0 (behind 3 b))
   in_contexts c i j ei ej =
       let x = is_ctx l a B.t B.read_a c in
       let y = is_ctx l b B.u B.read_b (sym same ∙ c) in
@@ -383,7 +384,8 @@ module _ (O : Order) (d : Dir) (l : ℕ) (a b : List ℕ) (n : ℕ) (p : Ready (
   pub ctx_count : k < 65536
   ctx_count = omega (arith, ctx_counted, C.cap, count_size (answer_fields O d C.x C.y))
 
-  pub ctx_done : (lo hi : ℕ) → lo ≡ k % 256 → hi ≡ k / 256 → Combined (of_types O d) (type_at l a) (type_at l b) old (set (set (set (put_mid 3 (length old - 3) old ys) 0 44) 1 lo) 2 hi) (u + 3) (v + 3)
+  pub ctx_done : (lo hi : ℕ) → lo ≡ k % 256 → hi ≡ k / 256 → Combined (of_types O d) (type_at l a) (type_at l b) old (set (set (set (put_mid 3 (length old - 3) old ys) 0 44) 1 lo) 2 hi)
+      (u + 3) (v + 3)
       (w + 3)
   ctx_done lo hi el eh =
       let g = inner_wrote C (behind 3 old) ys u v w h in

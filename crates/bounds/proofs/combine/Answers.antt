@@ -1,6 +1,5 @@
 -- `bounds::combine` meets its contract: the answer is built in the scratch, which is long enough, and copied.
 -- Assumes nothing.
-use borrow.Author.Rules.{rules}
 use native.Mathlib.Omega.{arith}
 use mathlib.Core.Path.{sym, ap, ◌∙◌}
 use lib.ListN.{length, length-take}
@@ -44,7 +43,7 @@ pub slice_bounds-copy-end : goal.slice_bounds-copy-end
 slice_bounds-copy-end c =
     omega (
       arith,
-      c.write_bound-e.auto.1.1.1.0,
+      c.write_bound-e.auto.out,
       let args = c.args in
           call_size (order_of args.reading) (toward args.up) args.a.now args.b.now (length args.scratch.now) args.out.now
           (fine args.a.now c.in-Accepted.level c.check_type.ensures.bytes
@@ -60,7 +59,7 @@ slice_bounds-copy-end-in-Accepted-check_type c =
     (length-take-le c.write_bound-e.result.wrote c.write_bound-e.new.out
     (omega (
       arith,
-      c.write_bound-e.auto.1.1.1.0,
+      c.write_bound-e.auto.out,
       let args = c.args in
           call_size (order_of args.reading) (toward args.up) args.a.now args.b.now (length args.scratch.now) args.out.now
           (fine args.a.now c.in-Accepted.level c.check_type.ensures.bytes

@@ -1,6 +1,5 @@
 -- `bounds::combine_over` meets its contract: a table that does not load is refused first; otherwise `combine` under its reading.
 -- Assumes nothing.
-use borrow.Author.Rules.{rules}
 use mathlib.Core.Path.{sym, ap, subst, ◌∙◌}
 use lib.ListN.{length}
 use Rattle.form.specs.Answers.{Built}

@@ -1,6 +1,5 @@
 -- `bounds::reduced` meets its contract: the common supertype of a type with itself is its reduced form, written once it is known to fit.
 -- Assumes nothing.
-use borrow.Author.Rules.{rules}
 use Rattle.bounds.proofs.CallContracts.{fine, reduced_refused, reduced_there, reduced_short, reduced_ready, reduced_done}
 use Rattle.form.specs.Answers.{checked}
 use mathlib.Core.Path.{refl, sym, ap, ◌∙◌}

@@ -1,6 +1,5 @@
 -- `context::move_entry` meets its contract: an absent name copies; otherwise the entry's value is moved, in the short spare place or in the long one.
 -- Assumes nothing.
-use borrow.Author.Rules.{rules}
 use native.Mathlib.Omega.{arith}
 use Prim.Native.Nat.{◌-◌}
 use mathlib.Core.Path.{refl}

@@ -1,6 +1,5 @@
 -- `context::remove_entry` meets its contract: an absent name copies; otherwise the entry goes.
 -- Assumes nothing.
-use borrow.Author.Rules.{rules}
 use native.Mathlib.Omega.{arith}
 use Rattle.form.proofs.Whole.{bytes_of}
 use Rattle.paths.proofs.CallContracts.{is_refused, opened}

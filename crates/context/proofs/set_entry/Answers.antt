@@ -1,6 +1,5 @@
 -- `context::set_entry` meets its contract: one name is a path of one.
 -- Assumes nothing.
-use borrow.Author.Rules.{rules}
 use Rattle.context.proofs.CallContracts.{set_built}
 use Rattle.context.proofs.set_entry.Goals as goal
 

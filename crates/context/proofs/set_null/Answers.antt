@@ -1,6 +1,5 @@
 -- `context::set_null` meets its contract: two zero bytes are the null that is set.
 -- Assumes nothing.
-use borrow.Author.Rules.{rules}
 use Rattle.context.proofs.CallContracts.{null_built}
 use Rattle.context.proofs.set_null.Goals as goal
 

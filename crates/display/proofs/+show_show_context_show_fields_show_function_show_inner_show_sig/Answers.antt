@@ -127,7 +127,7 @@ show-show_function-requires t c =
           pre.ok,
           (
             last_is c.args.left c.args.t.now c.args.table.now c.requires.t_len_bound c.requires.ok c.requires.ok_2 c.if-c-lt-LIST_TYPE.false c.if-c-eq-LIST_TYPE.false
-              c.if-c-eq-RANGE_TYPE.false c.if-c-eq-CONTEXT_TYPE.false,
+                c.if-c-eq-RANGE_TYPE.false c.if-c-eq-CONTEXT_TYPE.false,
             (pre.ok_2, pre.marked),
           ),
         ),
@@ -163,8 +163,8 @@ show_context-show_fields-requires t c =
         behind_short 3 _ c.args.t.now pre.t_len_bound,
         (
           wrap_ok
-            (in_context c.args.left c.args.t.now c.args.table.now c.requires.t_len_bound c.requires.ok c.requires.ok_2 pre.t_value _
-            c.word_at.ensures.0),
+              (in_context c.args.left c.args.t.now c.args.table.now c.requires.t_len_bound c.requires.ok c.requires.ok_2 pre.t_value _
+              c.word_at.ensures.0),
           (pre.ok_2, pre.marked),
         ),
       ),
@@ -367,8 +367,8 @@ show_function-show_sig-requires t c =
         behind_short 2 _ c.args.t.now pre.t_len_bound,
         (
           wrap_ok
-            (in_function c.args.left c.args.t.now c.args.table.now c.requires.t_len_bound c.requires.ok c.requires.ok_2 pre.t_value _
-            c.wide.ensures.0),
+              (in_function c.args.left c.args.t.now c.args.table.now c.requires.t_len_bound c.requires.ok c.requires.ok_2 pre.t_value _
+              c.wide.ensures.0),
           (pre.ok_2, pre.marked),
         ),
       ),

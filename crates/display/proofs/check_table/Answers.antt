@@ -47,7 +47,7 @@ loop-i-smaller c = omega (arith, c.loop-i-test.true)
 pub loop-i-preserved : goal.loop-i-preserved
 loop-i-preserved c =
     elim c.if-i-gt0.branch [
-      then-i-gt0+else-not-is_less w ↦
+      | then-i-gt0+else-not-is_less w ↦
           table_ascends c.loop-i.invariant c.loop-i-test.true c.if-s-at.false _ c.wide-n.ensures.0 c.if-s-from.false _
           c.is_tidy.ensures c.if-not-is_tidy.false w.if-i-gt0.true _ w.is_less.ensures w.if-not-is_less.false
       | else-i-gt0 w ↦

@@ -22,6 +22,6 @@ pub returns : goal.returns
 returns c =
     let args = c.args in
     let both =
-        label_put args.i args.name.now args.out.now _ _ _ _ _ _ _ c.put_gap-from.ensures.value c.put_gap-from.ensures.out_after c.put-to.ensures.value
-        c.put-to.ensures.out_after c.put.ensures.value c.put.ensures.out_after in
+    label_put args.i args.name.now args.out.now _ _ _ _ _ _ _ c.put_gap-from.ensures.value c.put_gap-from.ensures.out_after c.put-to.ensures.value
+    c.put-to.ensures.out_after c.put.ensures.value c.put.ensures.out_after in
     record { value = both.0; out_after = both.1 }

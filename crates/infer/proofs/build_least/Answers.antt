@@ -1,6 +1,5 @@
 -- `infer::build_least` meets its contract: the reader's refusal, then that of a value that is not data; of a data value the type is built.
 -- Assumes nothing.
-use borrow.Author.Rules.{rules}
 use mathlib.Core.Path.{sym, ap, ◌∙◌}
 use mathlib.Core.Bool.{true}
 use Rattle.order.specs.Order.{order_of}

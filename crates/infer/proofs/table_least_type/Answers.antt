@@ -1,6 +1,5 @@
 -- `infer::table_least_type` meets its contract: a table that does not load is refused first; otherwise the builder under its reading.
 -- Assumes nothing.
-use borrow.Author.Rules.{rules}
 use mathlib.Core.Path.{sym, ap, subst, ◌∙◌}
 use lib.ListN.{length}
 use Rattle.form.specs.Answers.{Built}

@@ -1,6 +1,5 @@
 -- `infer::type_of` meets its contract: the reader's refusal; of an accepted value the inferred type is built.
 -- Assumes nothing.
-use borrow.Author.Rules.{rules}
 use mathlib.Core.Path.{sym, ap, ◌∙◌}
 use mathlib.Core.Bool.{false, true≢false}
 use Rattle.order.specs.Order.{fixed}

@@ -3,13 +3,13 @@
 -- Assumes nothing.
 use Rattle.lattice.proofs.SortedMerge.{peeked, fields_start, peek_a, peek_b, few, more_a, more_b, fields_done, both_room, both_length, both_ready, both_ends, both_next, a_room}
 use Rattle.lattice.proofs.SortedMerge.{a_length, a_ready, a_ends, a_next, b_room, b_length, b_ready, b_ends, b_next, skip_a_fits, skip_a, skip_b_fits, skip_b}
-use Prim.Native.Nat.{ℕ, ◌+◌, ◌-◌}
+use Prim.Native.Nat.{ℕ}
 use Rattle.order.specs.Order.{up, down, order_of}
 use Rattle.lattice.proofs.SignatureLoop.{sig_start, to_fits, param_ready, param_ends, param_next, result_ready, result_ends, sig_done}
 use native.Mathlib.Omega.{arith}
 use mathlib.Core.Path.{◌≡◌, refl, sym, ◌∙◌}
 use mathlib.Core.Bool.{false}
-use lib.ListN.{length, get_or, set, length-set}
+use lib.ListN.{get_or, set, length-set}
 use Rattle.order.proofs.Ends.{reading_ends}
 use Rattle.types.specs.Conform.{ignores_at}
 use Rattle.types.proofs.TypeConformance.{compared_strict, compared_some}

@@ -1,6 +1,5 @@
 -- `lattice::write_bound` meets its contract: the flag says the direction, and the builder of that direction is called.
 -- Assumes nothing.
-use borrow.Author.Rules.{rules}
 use Rattle.lattice.proofs.Branches.{ready_up, ready_down, from_up, from_down}
 use Rattle.lattice.proofs.write_bound.Goals as goal
 

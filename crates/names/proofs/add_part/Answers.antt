@@ -12,7 +12,7 @@ returns c =
     let args = c.args in
     let put = c.put_part-to.ensures in
     let all =
-        part_added args.part.now _ c.trim-trimmed.ensures.bytes args.index args.prev args.at _ _ args.out.now _
-        (put.value, put.out_after)
-        c.is_mark.ensures in
+    part_added args.part.now _ c.trim-trimmed.ensures.bytes args.index args.prev args.at _ _ args.out.now _
+    (put.value, put.out_after)
+    c.is_mark.ensures in
     record { to_value = all.0; prev_value = all.1.0; out_after = all.1.1 }

@@ -21,7 +21,7 @@ loop-i-smaller c = omega (arith, c.loop-i-test.true)
 pub loop-i-preserved : goal.loop-i-preserved
 loop-i-preserved c =
     elim c.if-most-b.branch [
-      then-most-b w ↦ plain_max c.args.s.now c.loop-i.most c.loop-i.i c.loop-i.invariant c.loop-i-test.true w.if-most-b.true _ w.most-is
+      | then-most-b w ↦ plain_max c.args.s.now c.loop-i.most c.loop-i.i c.loop-i.invariant c.loop-i-test.true w.if-most-b.true _ w.most-is
       | else-most-b w ↦ plain_min c.args.s.now c.loop-i.most c.loop-i.i c.loop-i.invariant c.loop-i-test.true w.if-most-b.false _ w.most-is
     ]
 

@@ -1,6 +1,5 @@
 -- `paths::contains_deep` meets its contract: the path is contained exactly when the search finds a place.
 -- Assumes nothing.
-use borrow.Author.Rules.{rules}
 use mathlib.Core.Path.{ap, ◌∙◌}
 use Rattle.paths.specs.Places.{is_found}
 use Rattle.paths.proofs.CallContracts.{found_deep}

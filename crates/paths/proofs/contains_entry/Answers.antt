@@ -1,6 +1,5 @@
 -- `paths::contains_entry` meets its contract: the name is contained exactly when its place is found.
 -- Assumes nothing.
-use borrow.Author.Rules.{rules}
 use mathlib.Core.Path.{ap, ◌∙◌}
 use Rattle.paths.specs.Places.{is_found}
 use Rattle.paths.proofs.CallContracts.{found_entry}

@@ -1,6 +1,5 @@
 -- `paths::entry_place` meets its contract: one name is a path of one.
 -- Assumes nothing.
-use borrow.Author.Rules.{rules}
 use mathlib.Core.Path.{ap, ◌∙◌}
 use Rattle.paths.specs.Places.{extent_of}
 use Rattle.paths.proofs.CallContracts.{entry_call}

@@ -1,6 +1,5 @@
 -- `paths::first_place` meets its contract: the refusals first; the first value stands behind the context's three bytes and its name.
 -- Assumes nothing.
-use borrow.Author.Rules.{rules}
 use mathlib.Core.Path.{sym, ◌∙◌}
 use Rattle.paths.proofs.CallContracts.{is_refused, opened, part_refused, first_none, first_inside, first_done}
 use native.Mathlib.Omega.{arith}

@@ -1,6 +1,5 @@
 -- `paths::is_context` meets its contract: the first byte of the value that was found says whether it is a context.
 -- Assumes nothing.
-use borrow.Author.Rules.{rules}
 use Rattle.form.proofs.Whole.{bytes_of}
 use Rattle.paths.proofs.CallContracts.{entered, entered_none, entered_refused, entered_inside, context_yes, context_no}
 use Rattle.paths.proofs.is_context.Goals as goal

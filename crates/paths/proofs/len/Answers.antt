@@ -1,6 +1,5 @@
 -- `paths::len` meets its contract: the refusals first; the count in the bytes is that of the entries.
 -- Assumes nothing.
-use borrow.Author.Rules.{rules}
 use Rattle.form.proofs.Whole.{bytes_of}
 use Rattle.paths.proofs.CallContracts.{is_refused, opened, call_refused, len_done}
 use native.Mathlib.Omega.{arith}

@@ -1,6 +1,5 @@
 -- `paths::search_deep` meets its contract: the place that was found holds the value's bytes, and that part is lent.
 -- Assumes nothing.
-use borrow.Author.Rules.{rules}
 use Rattle.form.proofs.Whole.{bytes_of}
 use Rattle.paths.proofs.CallContracts.{stand_deep, lend_within, lent}
 use Rattle.paths.specs.Places.{found}

@@ -30,7 +30,8 @@ pub returns-then-path-gt-MOST_NAMES : goal.returns-then-path-gt-MOST_NAMES
 returns-then-path-gt-MOST_NAMES c =
     let args = c.args in
     let n = length args.path.now in
-    part_refused _ _ _ (is_refused args.c.now n 11 (refused_names args.c.now n (told (goal.at.returns-then-path-gt-MOST_NAMES c).Else-status-ne0).reads c.if-path-gt-MOST_NAMES.true) (λ e. omega arith))
+    part_refused _ _ _
+    (is_refused args.c.now n 11 (refused_names args.c.now n (told (goal.at.returns-then-path-gt-MOST_NAMES c).Else-status-ne0).reads c.if-path-gt-MOST_NAMES.true) (λ e. omega arith))
 
 pub bounds-c-0 : goal.bounds-c-0
 bounds-c-0 c = held_byte c.args.c.now 0 (told (goal.at.bounds-c-0 c).Else-status-ne0).reads
@@ -39,7 +40,9 @@ pub returns-then-c-ne-CONTEXT : goal.returns-then-c-ne-CONTEXT
 returns-then-c-ne-CONTEXT c =
     let args = c.args in
     let n = length args.path.now in
-    part_refused _ _ _ (is_refused args.c.now n 12 (refused_other args.c.now n (told (goal.at.returns-then-c-ne-CONTEXT c).Else-status-ne0).reads c.if-path-gt-MOST_NAMES.false c.if-c-ne-CONTEXT.true) (λ e. omega arith))
+    part_refused _ _ _
+    (is_refused args.c.now n 12 (refused_other args.c.now n (told (goal.at.returns-then-c-ne-CONTEXT c).Else-status-ne0).reads c.if-path-gt-MOST_NAMES.false
+    c.if-c-ne-CONTEXT.true) (λ e. omega arith))
 
 pub returns-then-way-eq0 : goal.returns-then-way-eq0
 returns-then-way-eq0 c =

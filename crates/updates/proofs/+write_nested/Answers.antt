@@ -1,10 +1,7 @@
 -- The cycle of `updates::write_nested` meets its contract; the measure is the length of the path.
 -- Each call writes a context of one entry up to its name, and the rest of the path behind it.
 -- Assumes nothing.
-use Prim.Native.Nat.{ℕ, ◌<◌}
-use lib.ListN.{length}
 use Rattle.updates.proofs.Splices.{nested_ends, nested_next, nested_bound, rest_shorter}
-use borrow.Author.Rules.{rules}
 use native.Mathlib.Omega.{arith}
 use Rattle.updates.proofs.+write_nested.Goals as goal
 

@@ -1,9 +1,5 @@
 -- The cycle of `updates::write_nested` meets its contract; the measure is the length of the path.
-use Prim.Native.Nat.{ℕ, ◌<◌}
 use lib.ListN.{length}
-use Rattle.updates.proofs.Splices.{nested_ends, nested_next, nested_bound, rest_shorter}
-use borrow.Author.Rules.{rules}
-use native.Mathlib.Omega.{arith}
 use Rattle.updates.proofs.+write_nested.Given as goal
 
 abbrev pub decreases-write_nested : goal.decreases-write_nested

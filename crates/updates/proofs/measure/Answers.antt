@@ -1,6 +1,5 @@
 -- `updates::measure` meets its contract: the length of the pieces that `splice` writes (`length_spliced`), and the larger of the two levels.
 -- Assumes nothing.
-use borrow.Author.Rules.{rules}
 use mathlib.Core.Path.{sym}
 use Rattle.updates.proofs.Splices.{length_spliced}
 use Rattle.updates.proofs.measure.Goals as goal

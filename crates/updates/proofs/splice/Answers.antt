@@ -1,6 +1,5 @@
 -- `updates::splice` meets its contract: the bytes before the context, its front up to the name, what stands under the name, and the rest are written one behind the other.
 -- Assumes nothing.
-use borrow.Author.Rules.{rules}
 use mathlib.Core.Path.{◌≡◌, refl}
 use Rattle.updates.proofs.Splices.{base_inside, front_asks, end_fits, count_more, count_kept, spliced_out}
 use Rattle.updates.specs.Writing.{count_after}

@@ -1,6 +1,5 @@
 -- `updates::write_front` meets its contract: the head and the entries before the place are two pieces, one behind the other.
 -- Assumes nothing.
-use borrow.Author.Rules.{rules}
 use Rattle.updates.proofs.ContextFront.{begun_is}
 use Rattle.updates.proofs.write_front.Goals as goal
 

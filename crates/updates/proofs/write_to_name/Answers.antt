@@ -1,6 +1,5 @@
 -- `updates::write_to_name` meets its contract: the front of the context, and the name behind it.
 -- Assumes nothing.
-use borrow.Author.Rules.{rules}
 use Rattle.updates.proofs.ContextFront.{opened_is}
 use Rattle.updates.proofs.write_to_name.Goals as goal
 

@@ -1,6 +1,5 @@
 -- `updates::write_without` meets its contract: the front of the context, and behind it the entries from `to` on.
 -- Assumes nothing.
-use borrow.Author.Rules.{rules}
 use native.Mathlib.Omega.{arith}
 use Rattle.updates.proofs.ContextFront.{closed_is}
 use Rattle.updates.proofs.write_without.Goals as goal

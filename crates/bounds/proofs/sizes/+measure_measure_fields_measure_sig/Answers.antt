@@ -1,11 +1,9 @@
 -- The cycle `bounds::sizes::measure`, `measure_fields`, `measure_sig` meets its contracts; the measure is twice the level that is left, one more for the loops.
 -- One template for all: a type's sizes are those of its part and the bytes in front of it; the loops keep both sizes of the entries and parameters that are left.
 -- Assumes nothing.
-use Prim.Native.Nat.{ℕ, ◌<◌, ◌*◌, ◌+◌, ◌-◌}
-use borrow.Author.Rules.{rules}
 use native.Mathlib.Omega.{arith}
 use Rattle.bounds.proofs.ReducedSizes.{within_ok, within_ends, within_done, some_first, some_left, simple_sizes, in_wrapped, context_three, in_context, function_at, none_sizes}
-use Rattle.bounds.proofs.ReducedSizes.{in_function, EntriesInv, entries_start, entry_name, entry_there, entry_ends, entry_next, entries_done, ParametersInv, parameters_start}
+use Rattle.bounds.proofs.ReducedSizes.{in_function, entries_start, entry_name, entry_there, entry_ends, entry_next, entries_done, parameters_start}
 use Rattle.bounds.proofs.ReducedSizes.{parameter_there, parameter_ends, parameter_next, result_there, result_fits, parameters_done}
 use Rattle.bounds.proofs.sizes.+measure_measure_fields_measure_sig.Goals as goal
 
@@ -39,7 +37,7 @@ measure-overflow_sub-left t c =
 pub measure-measure-m-requires : goal.measure-measure-m-requires
 measure-measure-m-requires t c =
     (
-      omega (arith, c.requires-raw.0, some_left _ c.args.s.now c.requires),
+      omega (arith, c.decreases, some_left _ c.args.s.now c.requires),
       within_ok (in_wrapped _ c.args.s.now c.requires c.if-c-lt-LIST_TYPE.false c.if-c-lt-CONTEXT_TYPE.true),
     )
 
@@ -94,7 +92,7 @@ measure-overflow_sub-left-then-c-eq-CONTEXT_TYPE t c =
 pub measure-measure_fields-m-requires : goal.measure-measure_fields-m-requires
 measure-measure_fields-m-requires t c =
     (
-      omega (arith, c.requires-raw.0, some_left _ c.args.s.now c.requires),
+      omega (arith, c.decreases, some_left _ c.args.s.now c.requires),
       within_ok (in_context _ c.args.s.now c.requires c.if-c-eq-CONTEXT_TYPE.true _ c.word_at.ensures.0),
     )
 
@@ -156,7 +154,7 @@ measure-overflow_sub-left-2 t c =
 pub measure-measure_sig-m-requires : goal.measure-measure_sig-m-requires
 measure-measure_sig-m-requires t c =
     (
-      omega (arith, c.requires-raw.0, some_left _ c.args.s.now c.requires),
+      omega (arith, c.decreases, some_left _ c.args.s.now c.requires),
       within_ok
           (in_function (function_at _ c.args.s.now c.requires c.if-c-lt-CONTEXT_TYPE.false c.if-c-eq-CONTEXT_TYPE.false) c.if-n-eq0.false _
           c.wide.ensures.0),
@@ -208,7 +206,7 @@ pub measure_fields-slice_bounds-measure-start : goal.measure_fields-slice_bounds
 measure_fields-slice_bounds-measure-start t c = omega (arith, entry_name c.loop-i.invariant c.loop-i-test.true)
 
 pub measure_fields-measure-m-requires : goal.measure_fields-measure-m-requires
-measure_fields-measure-m-requires t c = (omega (arith, c.requires-raw.0), entry_there c.loop-i.invariant c.loop-i-test.true)
+measure_fields-measure-m-requires t c = (omega (arith, c.decreases), entry_there c.loop-i.invariant c.loop-i-test.true)
 
 pub measure_fields-overflow_add-at : goal.measure_fields-overflow_add-at
 measure_fields-overflow_add-at t c =
@@ -240,7 +238,7 @@ pub measure_sig-slice_bounds-measure-start : goal.measure_sig-slice_bounds-measu
 measure_sig-slice_bounds-measure-start t c = omega (arith, c.loop-i.invariant.within)
 
 pub measure_sig-measure-m-requires : goal.measure_sig-measure-m-requires
-measure_sig-measure-m-requires t c = (omega (arith, c.requires-raw.0), parameter_there c.loop-i.invariant c.loop-i-test.true)
+measure_sig-measure-m-requires t c = (omega (arith, c.decreases), parameter_there c.loop-i.invariant c.loop-i-test.true)
 
 pub measure_sig-overflow_add-at : goal.measure_sig-overflow_add-at
 measure_sig-overflow_add-at t c =
@@ -267,7 +265,7 @@ pub measure_sig-slice_bounds-measure-start-2 : goal.measure_sig-slice_bounds-mea
 measure_sig-slice_bounds-measure-start-2 t c = omega (arith, c.loop-i.invariant.within)
 
 pub measure_sig-measure-m-requires-2 : goal.measure_sig-measure-m-requires-2
-measure_sig-measure-m-requires-2 t c = (omega (arith, c.requires-raw.0), result_there c.loop-i.invariant c.loop-i-test.false)
+measure_sig-measure-m-requires-2 t c = (omega (arith, c.decreases), result_there c.loop-i.invariant c.loop-i-test.false)
 
 pub measure_sig-overflow_add-result : goal.measure_sig-overflow_add-result
 measure_sig-overflow_add-result t c =

@@ -1,10 +1,6 @@
 -- The cycle `bounds::sizes::measure`, `measure_fields`, `measure_sig` meets its contracts; the measure is twice the level that is left, one more for the loops.
-use Prim.Native.Nat.{ℕ, ◌<◌, ◌*◌, ◌+◌, ◌-◌}
-use borrow.Author.Rules.{rules}
-use native.Mathlib.Omega.{arith}
-use Rattle.bounds.proofs.ReducedSizes.{within_ok, within_ends, within_done, some_first, some_left, simple_sizes, in_wrapped, context_three, in_context, function_at, none_sizes}
-use Rattle.bounds.proofs.ReducedSizes.{in_function, EntriesInv, entries_start, entry_name, entry_there, entry_ends, entry_next, entries_done, ParametersInv, parameters_start}
-use Rattle.bounds.proofs.ReducedSizes.{parameter_there, parameter_ends, parameter_next, result_there, result_fits, parameters_done}
+use Prim.Native.Nat.{◌*◌, ◌+◌, ◌-◌}
+use Rattle.bounds.proofs.ReducedSizes.{EntriesInv, ParametersInv}
 use Rattle.bounds.proofs.sizes.+measure_measure_fields_measure_sig.Given as goal
 
 abbrev pub decreases-measure : goal.decreases-measure

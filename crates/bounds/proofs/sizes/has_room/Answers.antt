@@ -1,6 +1,5 @@
 -- `bounds::sizes::has_room` meets its contract: a reduced form is never longer than its type, so a type that has room says yes; otherwise the measured size decides.
 -- Assumes nothing.
-use borrow.Author.Rules.{rules}
 use Rattle.bounds.proofs.ReducedSizes.{room_enough, room_measured}
 use mathlib.Core.Path.{refl}
 use Rattle.bounds.proofs.sizes.has_room.Goals as goal

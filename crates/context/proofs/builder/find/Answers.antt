@@ -1,6 +1,5 @@
 -- `context::builder::find` meets its contract: the walk along the one name reads the context and says its entry.
 -- Assumes nothing.
-use borrow.Author.Rules.{rules}
 use native.Mathlib.Omega.{arith}
 use mathlib.Core.Path.{◌∙◌}
 use Rattle.form.proofs.Whole.{bytes_of}

@@ -1,6 +1,5 @@
 -- `context::builder::give_within` meets its contract: the size, then the level, then the room.
 -- Assumes nothing.
-use borrow.Author.Rules.{rules}
 use mathlib.Core.Path.{sym}
 use lib.Seq.{length-take-le}
 use Rattle.context.proofs.CallContracts.{within_long, within_deep, within_done}

@@ -1,6 +1,5 @@
 -- `context::builder::give_without` meets its contract: the answer's length is known before it is written, so without room nothing is.
 -- Assumes nothing.
-use borrow.Author.Rules.{rules}
 use Rattle.context.proofs.CallContracts.{without_short, without_done}
 use Rattle.context.proofs.builder.give_without.Goals as goal
 

@@ -1,6 +1,5 @@
 -- `context::builder::join` meets its contract: the refusals in their order; either spare place is as long as `join_in` asks.
 -- Assumes nothing.
-use borrow.Author.Rules.{rules}
 use mathlib.Core.Path.{refl}
 use Rattle.values.proofs.CallContracts.{value_refused, value_accepted}
 use Rattle.paths.proofs.CallContracts.{held_byte}

@@ -1,6 +1,5 @@
 -- `context::builder::join_in` meets its contract: the spare place holds the merge, and its level is told.
 -- Assumes nothing.
-use borrow.Author.Rules.{rules}
 use Rattle.context.proofs.CallContracts.{merge_room, merge_holds}
 use Rattle.context.proofs.builder.join_in.Goals as goal
 

@@ -1,6 +1,5 @@
 -- `context::builder::move_in` meets its contract: the context without the entry stands in the spare place; the walk along the path and `place` do the rest.
 -- Assumes nothing.
-use borrow.Author.Rules.{rules}
 use Prim.Native.Nat.{◌+◌}
 use native.Mathlib.Omega.{arith}
 use mathlib.Core.Path.{sym, ap, ◌∙◌}

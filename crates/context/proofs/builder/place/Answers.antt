@@ -1,6 +1,5 @@
 -- `context::builder::place` meets its contract: the sizes that the builders tell decide 16, 17 and 18; then the splice is the updated context.
 -- Assumes nothing.
-use borrow.Author.Rules.{rules}
 use mathlib.Core.Path.{sym, ◌∙◌}
 use Rattle.form.proofs.Whole.{bytes_of}
 use Rattle.context.proofs.CallContracts.{along, place_copy, place_asks, place_err, place_long, place-deep, place_short, place-done}

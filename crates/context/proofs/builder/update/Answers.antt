@@ -1,6 +1,5 @@
 -- `context::builder::update` meets its contract: the walk along the path, the names, the value, the command, each refusal in its turn; then `place`.
 -- Assumes nothing.
-use borrow.Author.Rules.{rules}
 use Rattle.form.proofs.Whole.{bytes_of}
 use Rattle.values.proofs.CallContracts.{value_refused}
 use Rattle.paths.proofs.CallContracts.{judged_refused, judged_told}

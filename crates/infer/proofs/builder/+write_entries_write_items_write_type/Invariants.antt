@@ -1,20 +1,8 @@
 -- The cycle `infer::builder::write_type`, `write_items`, `write_entries` meets its contracts; the measure is twice the level that is left, one more for the loops.
-use Prim.Native.Nat.{ℕ, ◌<◌, ◌+◌, ◌-◌, ◌*◌}
-use mathlib.Core.Path.{refl, ◌∙◌}
-use mathlib.Core.Logic.{⊎_elim}
-use lib.ListN.{get_or, set}
-use borrow.Author.Rules.{rules}
+use Prim.Native.Nat.{◌+◌, ◌-◌, ◌*◌}
 use Rattle.order.specs.Order.{order_of}
-use Rattle.order.proofs.Ends.{reading_ends}
-use native.Mathlib.Omega.{arith}
-use Rattle.form.proofs.Whole.{bytes_of}
-use Rattle.form.proofs.CommandKinds.{leaf_low, leaf_decimal}
-use Rattle.infer.proofs.Entries.{EntriesInv, entries_start, entry_name, entry_room, name_len, entry_fits, entry_read, entry_wrote, entry_next, entry_some, entry_byte, entry_free}
-use Rattle.infer.proofs.Entries.{entry_leaf_read, entry_leaf_wrote, entry_leaf, entries_done}
-use Rattle.infer.proofs.Items.{ItemsInv, items_one, items_none, items_first, items_kept, items_start, item_room, item_fits, item_read, item_sides, item_reduced, item_next, item_some}
-use Rattle.infer.proofs.Items.{item_byte, item_free, leaf_read, leaf_sides, leaf_reduced, leaf_next, items_done}
-use Rattle.infer.proofs.ByCommand.{first_byte, level_left, one_free, leaf_ends, leaf_done, other_ends, other_done, in_range, in_list, in_context, in_definition, definition_fits}
-use Rattle.infer.proofs.ByCommand.{in_type, type_end, type_room, type_done, part_fits, under_head, under_room, under_free, under_read, under_wrote, under_kept, under_done, still}
+use Rattle.infer.proofs.Entries.{EntriesInv}
+use Rattle.infer.proofs.Items.{ItemsInv}
 use Rattle.infer.proofs.builder.+write_entries_write_items_write_type.Given as goal
 
 abbrev pub decreases-write_entries : goal.decreases-write_entries

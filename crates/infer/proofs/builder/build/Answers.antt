@@ -1,6 +1,5 @@
 -- `infer::builder::build` meets its contract: either spare place is as long as the value.
 -- Assumes nothing.
-use borrow.Author.Rules.{rules}
 use lib.ListN.{length}
 use Rattle.order.specs.Order.{order_of}
 use Rattle.infer.proofs.CallContracts.{build_long}

@@ -1,6 +1,5 @@
 -- `infer::builder::build_with` meets its contract: the type is no longer than the value, so it is built in the scratch and copied where the output has room.
 -- Assumes nothing.
-use borrow.Author.Rules.{rules}
 use native.Mathlib.Omega.{arith}
 use mathlib.Core.Path.{sym}
 use lib.ListN.{length}

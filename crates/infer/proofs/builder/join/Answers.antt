@@ -18,7 +18,7 @@ pub returns-then-keeps : goal.returns-then-keeps
 returns-then-keeps c =
     record {
       joined = joined_same c.args.out.now c.args.n c.args.m _ c.requires.sides (order_of c.args.reading) (reading_ends c.args.reading)
-          (bytes_of c.args.out.now c.slice_known-1.given) _ _ _ c.requires.reduced
+          (bytes_of c.args.out.now (λ i. search rules)) _ _ _ c.requires.reduced
           c.keeps.ensures c.if-keeps.true;
       spare_len_unchanged = refl;
     }
@@ -98,7 +98,7 @@ pub returns-then-keeps-2 : goal.returns-then-keeps-2
 returns-then-keeps-2 c =
     let args = c.args in record {
       joined = joined_first args.out.now args.n args.m _ c.requires.sides (order_of args.reading)
-          (bytes_of args.out.now c.slice_known-1.given) _ _ _ c.if-least.false
+          (bytes_of args.out.now (λ i. search rules)) _ _ _ c.if-least.false
           c.keeps-2.ensures c.if-keeps-2.true;
       spare_len_unchanged = refl;
     }

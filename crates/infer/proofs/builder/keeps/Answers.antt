@@ -1,6 +1,5 @@
 -- `infer::builder::keeps` meets its contract: equal types have equal bytes; otherwise the pass over both types says whether the second conforms to the first.
 -- Assumes nothing.
-use borrow.Author.Rules.{rules}
 use native.Mathlib.Omega.{arith}
 use mathlib.Core.Path.{sym}
 use Rattle.form.proofs.Numbers.{take_length}
@@ -28,7 +27,7 @@ slice_bounds-same-end-then-equal c = both_inside c.args.s.now c.args.n c.args.m 
 pub returns-then-equal : goal.returns-then-equal
 returns-then-equal c =
     let args = c.args in
-    let bytes-of1 = bytes_of args.s.now c.shared_slice_known-1.given in
+    let bytes-of1 = bytes_of args.s.now c.type_inv.s in
     kept_equal args.s.now args.n args.m _ c.requires bytes-of1
     (bytes_drop args.n args.s.now bytes-of1) _ _ c.if-equal.true
     c.same.ensures

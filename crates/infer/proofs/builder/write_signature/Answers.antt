@@ -1,13 +1,11 @@
 -- `infer::builder::write_signature` meets its contract: the loop keeps that what was written and the types that are left make the function type's text; the result is copied last.
 -- Assumes nothing.
-use Prim.Native.Nat.{◌-◌}
 use native.Mathlib.Omega.{arith}
 use mathlib.Core.Path.{sym}
 use Rattle.form.proofs.Numbers.{take_length}
 use Rattle.form.proofs.Whole.{bytes_of}
-use Rattle.infer.proofs.Signatures.{SigInv, sig_start, sig_name, sig_type, sig_to, sig_part, sig_wide, sig_again, sig_result, sig_last}
+use Rattle.infer.proofs.Signatures.{sig_start, sig_name, sig_type, sig_to, sig_part, sig_wide, sig_again, sig_result, sig_last}
 use Rattle.infer.proofs.Signatures.{sig_last_room, sig_same, sig_done}
-use borrow.Author.Rules.{rules}
 use Rattle.infer.proofs.builder.write_signature.Goals as goal
 
 pub loop-i-init : goal.loop-i-init
@@ -59,7 +57,7 @@ pub loop-i-preserved : goal.loop-i-preserved
 loop-i-preserved c =
     sig_again c.loop-i.invariant c.loop-i-test.true _ c.skip-x.ensures
     (bytes_of c.args.v.now
-    c.shared_slice_known-1.given)
+    c.type_inv.v)
     _ c.copy.ensures
 
 pub slice_bounds-copy-end-2 : goal.slice_bounds-copy-end-2
@@ -80,11 +78,11 @@ overflow_add-result c = omega (arith, sig_last_room c.loop-i.invariant)
 pub shape_of-out : goal.shape_of-out
 shape_of-out c =
     sig_same c.loop-i.invariant c.loop-i-test.false
-    (bytes_of c.args.v.now c.shared_slice_known-1.given) _
+    (bytes_of c.args.v.now c.type_inv.v) _
     c.copy-2.ensures
 
 pub returns : goal.returns
 returns c =
     sig_done c.loop-i.invariant c.loop-i-test.false
-    (bytes_of c.args.v.now c.shared_slice_known-1.given) _
+    (bytes_of c.args.v.now c.type_inv.v) _
     c.copy-2.ensures

@@ -1,12 +1,6 @@
 -- `infer::builder::write_signature` meets its contract: the loop keeps that what was written and the types that are left make the function type's text; the result is copied last.
 use Prim.Native.Nat.{◌-◌}
-use native.Mathlib.Omega.{arith}
-use mathlib.Core.Path.{sym}
-use Rattle.form.proofs.Numbers.{take_length}
-use Rattle.form.proofs.Whole.{bytes_of}
-use Rattle.infer.proofs.Signatures.{SigInv, sig_start, sig_name, sig_type, sig_to, sig_part, sig_wide, sig_again, sig_result, sig_last}
-use Rattle.infer.proofs.Signatures.{sig_last_room, sig_same, sig_done}
-use borrow.Author.Rules.{rules}
+use Rattle.infer.proofs.Signatures.{SigInv}
 use Rattle.infer.proofs.builder.write_signature.Given as goal
 
 abbrev pub invariant-loop-i : goal.invariant-loop-i

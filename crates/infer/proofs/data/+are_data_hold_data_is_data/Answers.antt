@@ -1,19 +1,28 @@
 -- The cycle `infer::data::is_data`, `are_data`, `hold_data` meets its contracts; the measure is twice the level that is left, one more for the loops.
 -- One template for all: a value's answer is that of its run of children behind three bytes; the loops keep the answer to what is left.
 -- Assumes nothing.
-use Prim.Native.Nat.{ℕ, ◌<◌, ◌*◌, ◌+◌, ◌-◌}
-use borrow.Author.Rules.{rules}
+use Prim.Native.Nat.{ℕ}
 use Rattle.order.specs.Order.{order_of}
 use native.Mathlib.Omega.{arith}
-use mathlib.Core.Path.{refl, sym, ◌∙◌}
-use mathlib.Core.Logic.{⊎_elim}
+use mathlib.Core.Path.{◌≡◌, refl, sym, ◌∙◌}
+use mathlib.Core.Bool.{true}
 use lib.ListN.{get_or}
+use Rattle.form.specs.Layout.{is_leaf_command}
 use Rattle.form.proofs.CommandKinds.{leaf_low, leaf_decimal}
-use Rattle.infer.proofs.OnlyData.{ItemsInv, items_start, items_end, items_done, items_ok, items_no, items_fit}
-use Rattle.infer.proofs.OnlyData.{items_again, items_some, items_leaf_fit, items_leaf, EntriesInv, definition_done, definition_no}
+use Rattle.infer.proofs.OnlyData.{items_start, items_end, items_done, items_ok, items_no, items_fit}
+use Rattle.infer.proofs.OnlyData.{items_again, items_some, items_leaf_fit, items_leaf, definition_done, definition_no}
 use Rattle.infer.proofs.OnlyData.{entries_start, entries_two, entries_done, entries_ok, entries_no, entries_fit, entries_again, entries_some, entries_leaf_fit, entries_leaf, has_byte}
 use Rattle.infer.proofs.OnlyData.{has_level, leaf_done, leaf_fits, other_done, ranges, lists, contexts, run_ok, run_fits, run_done}
 use Rattle.infer.proofs.data.+are_data_hold_data_is_data.Goals as goal
+use Rattle.infer.proofs.data.+are_data_hold_data_is_data.Goals.{is_data-After-width, is_data-in-16-1, is_data-in_default+then-c-lt9}
+
+-- the commands of the first arm are those of leaves
+leaf_arm : (t : ℕ) (c : is_data-After-width t) → is_leaf_command (get_or c.args.v.now 0 0) ≡ true
+leaf_arm t c =
+    elim c.in-0-to-8-1.branch [
+      is_data-in-16-1 w ↦ leaf_decimal (get_or c.args.v.now 0 0) (omega arith)
+    | is_data-in_default+then-c-lt9 w ↦ leaf_low (get_or c.args.v.now 0 0) (omega arith)
+    ]
 
 pub are_data-loop-i-init : goal.are_data-loop-i-init
 are_data-loop-i-init t c = items_start _ _ _ _ c.requires
@@ -47,7 +56,7 @@ pub are_data-slice_bounds-is_data-start : goal.are_data-slice_bounds-is_data-sta
 are_data-slice_bounds-is_data-start t c = items_end c.loop-i.invariant
 
 pub are_data-is_data-requires : goal.are_data-is_data-requires
-are_data-is_data-requires t c = (omega (arith, c.requires-raw.0), items_ok c.loop-i.invariant c.loop-i-test.true)
+are_data-is_data-requires t c = (omega (arith, c.decreases), items_ok c.loop-i.invariant c.loop-i-test.true)
 
 pub are_data-overflow_add-at-in-Yes : goal.are_data-overflow_add-at-in-Yes
 are_data-overflow_add-at-in-Yes t c =
@@ -100,7 +109,7 @@ pub hold_data-slice_bounds-is_data-start : goal.hold_data-slice_bounds-is_data-s
 hold_data-slice_bounds-is_data-start t c = omega (arith, entries_two c.loop-i.invariant c.loop-i-test.true)
 
 pub hold_data-is_data-requires : goal.hold_data-is_data-requires
-hold_data-is_data-requires t c = (omega (arith, c.requires-raw.0), entries_ok c.loop-i.invariant c.loop-i-test.true)
+hold_data-is_data-requires t c = (omega (arith, c.decreases), entries_ok c.loop-i.invariant c.loop-i-test.true)
 
 pub hold_data-overflow_add-at-in-Yes : goal.hold_data-overflow_add-at-in-Yes
 hold_data-overflow_add-at-in-Yes t c =
@@ -132,8 +141,7 @@ is_data-overflow_sub-left t c = has_level _ _ c.requires
 
 pub is_data-are_data-requires : goal.is_data-are_data-requires
 is_data-are_data-requires t c =
-    let pre = c.requires-raw in
-    (omega (arith, pre.0, has_level _ _ pre.1), run_ok (ranges (order_of c.args.reading) _ _ pre.1 c.in-9.is))
+    (omega (arith, c.decreases, has_level _ _ c.requires), run_ok (ranges (order_of c.args.reading) _ _ c.requires c.in-9.is))
 
 pub is_data-add_size-requires : goal.is_data-add_size-requires
 is_data-add_size-requires t c =
@@ -154,8 +162,7 @@ is_data-overflow_sub-left-in-10 t c = has_level _ _ c.requires
 
 pub is_data-are_data-requires-in-10 : goal.is_data-are_data-requires-in-10
 is_data-are_data-requires-in-10 t c =
-    let pre = c.requires-raw in
-    (omega (arith, pre.0, has_level _ _ pre.1), run_ok (lists (order_of c.args.reading) _ _ pre.1 _ c.word_at.ensures.0 c.in-10.is))
+    (omega (arith, c.decreases, has_level _ _ c.requires), run_ok (lists (order_of c.args.reading) _ _ c.requires _ c.word_at.ensures.0 c.in-10.is))
 
 pub is_data-add_size-requires-in-10 : goal.is_data-add_size-requires-in-10
 is_data-add_size-requires-in-10 t c =
@@ -178,8 +185,7 @@ is_data-overflow_sub-left-in-11 t c = has_level _ _ c.requires
 
 pub is_data-hold_data-requires : goal.is_data-hold_data-requires
 is_data-hold_data-requires t c =
-    let pre = c.requires-raw in
-    (omega (arith, pre.0, has_level _ _ pre.1), run_ok (contexts (order_of c.args.reading) _ _ pre.1 _ c.word_at-in-11.ensures.0 c.in-11.is))
+    (omega (arith, c.decreases, has_level _ _ c.requires), run_ok (contexts (order_of c.args.reading) _ _ c.requires _ c.word_at-in-11.ensures.0 c.in-11.is))
 
 pub is_data-add_size-requires-in-11 : goal.is_data-add_size-requires-in-11
 is_data-add_size-requires-in-11 t c =
@@ -198,10 +204,7 @@ is_data-overflow_add-result t c =
     omega (
       arith,
       leaf_fits (order_of c.args.reading) _ _ c.requires _ c.width.ensures
-          (⊎_elim
-          (λ x. leaf_decimal (get_or c.args.v.now 0 0) x.keys1)
-          (λ x. leaf_low (get_or c.args.v.now 0 0) (omega (arith, x.1.taken)))
-          c.in-0-to-8-1.branch),
+          (leaf_arm t c),
     )
 
 pub is_data-returns-in-9 : goal.is_data-returns-in-9
@@ -228,14 +231,9 @@ is_data-returns-else-is_strict t c =
 
 pub is_data-returns-in_default : goal.is_data-returns-in_default
 is_data-returns-in_default t c =
-    let rest = c.in_default.in_default-own.rest in
-    other_done (order_of c.args.reading) _ _ c.requires
-    (omega (arith, c.in_default.if-c-lt9-own.false, rest.1, rest.0.1, rest.0.0.1, rest.0.0.0.1)) rest.0.0.0.0.1
+    other_done (order_of c.args.reading) _ _ c.requires (omega arith) (λ e. omega arith)
 
 pub is_data-returns-in-0-to-8 : goal.is_data-returns-in-0-to-8
 is_data-returns-in-0-to-8 t c =
     leaf_done (order_of c.args.reading) _ _ c.requires _ c.width.ensures
-    (⊎_elim
-    (λ x. leaf_decimal (get_or c.args.v.now 0 0) x.keys1)
-    (λ x. leaf_low (get_or c.args.v.now 0 0) (omega (arith, x.1.taken)))
-    c.in-0-to-8-1.branch)
+    (leaf_arm t c)

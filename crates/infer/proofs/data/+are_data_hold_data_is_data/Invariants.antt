@@ -1,16 +1,8 @@
 -- The cycle `infer::data::is_data`, `are_data`, `hold_data` meets its contracts; the measure is twice the level that is left, one more for the loops.
-use Prim.Native.Nat.{ℕ, ◌<◌, ◌*◌, ◌+◌, ◌-◌}
-use borrow.Author.Rules.{rules}
+use Prim.Native.Nat.{◌*◌, ◌+◌, ◌-◌}
 use Rattle.order.specs.Order.{order_of}
-use native.Mathlib.Omega.{arith}
-use mathlib.Core.Path.{refl, sym, ◌∙◌}
-use mathlib.Core.Logic.{⊎_elim}
-use lib.ListN.{get_or}
-use Rattle.form.proofs.CommandKinds.{leaf_low, leaf_decimal}
-use Rattle.infer.proofs.OnlyData.{ItemsInv, items_start, items_end, items_done, items_ok, items_no, items_fit}
-use Rattle.infer.proofs.OnlyData.{items_again, items_some, items_leaf_fit, items_leaf, EntriesInv, definition_done, definition_no}
-use Rattle.infer.proofs.OnlyData.{entries_start, entries_two, entries_done, entries_ok, entries_no, entries_fit, entries_again, entries_some, entries_leaf_fit, entries_leaf, has_byte}
-use Rattle.infer.proofs.OnlyData.{has_level, leaf_done, leaf_fits, other_done, ranges, lists, contexts, run_ok, run_fits, run_done}
+use Rattle.infer.proofs.OnlyData.{ItemsInv}
+use Rattle.infer.proofs.OnlyData.{EntriesInv}
 use Rattle.infer.proofs.data.+are_data_hold_data_is_data.Given as goal
 
 abbrev pub decreases-are_data : goal.decreases-are_data

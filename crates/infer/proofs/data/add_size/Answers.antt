@@ -1,6 +1,5 @@
 -- `infer::data::add_size` meets its contract: by the answer, k bytes are added to a size, and a no stays.
 -- Assumes nothing.
-use borrow.Author.Rules.{rules}
 use native.Mathlib.Omega.{arith}
 use mathlib.Core.Path.{sym, ap}
 use Rattle.infer.specs.Typing.{add_size}

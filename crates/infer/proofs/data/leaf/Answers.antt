@@ -1,6 +1,5 @@
 -- `infer::data::leaf` meets its contract: each arm has the size that `form` tells of a command of the same width, and every command from 1 to 8 has an arm.
 -- Assumes nothing.
-use borrow.Author.Rules.{rules}
 use native.Mathlib.Omega.{arith}
 use mathlib.Core.Path.{ap}
 use Rattle.form.specs.Layout.{width_of}

@@ -30,8 +30,8 @@ pub returns : goal.returns
 returns c =
     unfold letters_of in
     let both =
-        simple_put c.args.k _ _ _ _
-        c.requires
-        c.name_start-from.ensures
-        c.name_start-to.ensures c.fill.ensures in
+    simple_put c.args.k _ _ _ _
+    c.requires
+    c.name_start-from.ensures
+    c.name_start-to.ensures c.fill.ensures in
     record { value = both.0; out_after = both.1 }

@@ -1,6 +1,5 @@
 -- `paths::answers::is_found` meets its contract: by what the search answers, a part is yes, none is no, a refusal stays.
 -- Assumes nothing.
-use borrow.Author.Rules.{rules}
 use mathlib.Core.Path.{sym, ap}
 use Rattle.paths.specs.Places.{found, is_found}
 use Rattle.paths.proofs.answers.is_found.Goals as goal

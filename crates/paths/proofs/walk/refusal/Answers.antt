@@ -1,6 +1,5 @@
 -- `paths::walk::refusal` meets its contract: the tests stand in the order of the definition, and 0 is no refusal's number.
 -- Assumes nothing.
-use borrow.Author.Rules.{rules}
 use native.Mathlib.Omega.{arith}
 use Rattle.values.proofs.CallContracts.{value_refused, value_accepted}
 use Rattle.paths.proofs.CallContracts.{refused_value, refused_other, refused_not, held_byte}

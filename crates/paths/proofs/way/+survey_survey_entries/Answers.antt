@@ -1,12 +1,10 @@
 -- The cycle `paths::way::survey`, `survey_entries` meets its contracts; the measure is twice the level that is left, one more for `survey`.
 -- Each return and each turn of the loop is one law of Along, over what the callee told of the entry's value.
 -- Assumes nothing.
-use Prim.Native.Nat.{ℕ, ◌<◌, ◌+◌, ◌*◌, ◌-◌}
 use borrow.Author.Rules.{rules}
 use native.Mathlib.Omega.{arith}
 use mathlib.Core.Path.{refl}
-use Rattle.form.proofs.Runs.{behind}
-use Rattle.paths.proofs.Along.{Along, along_start, along_none, along_fall, along_fault, along_fits, along_this, along_before}
+use Rattle.paths.proofs.Along.{along_start, along_none, along_fall, along_fault, along_fits, along_this, along_before}
 use Rattle.paths.proofs.Along.{along_behind, along_end, along_cut, flat_answer, path_parts}
 use Rattle.paths.proofs.way.+survey_survey_entries.Goals as goal
 
@@ -68,9 +66,7 @@ survey_entries-returns-then-x-least t c =
 
 pub survey_entries-survey-w-requires : goal.survey_entries-survey-w-requires
 survey_entries-survey-w-requires t c =
-    let pre =
-    c.requires-raw in
-    (omega (arith, pre.0, pre.1.1), tt)
+    (omega (arith, c.decreases, c.requires.1), tt)
 
 pub survey_entries-returns-then-w-eq0 : goal.survey_entries-returns-then-w-eq0
 survey_entries-returns-then-w-eq0 t c =

@@ -1,11 +1,7 @@
 -- The cycle `paths::way::survey`, `survey_entries` meets its contracts; the measure is twice the level that is left, one more for `survey`.
-use Prim.Native.Nat.{ℕ, ◌<◌, ◌+◌, ◌*◌, ◌-◌}
-use borrow.Author.Rules.{rules}
-use native.Mathlib.Omega.{arith}
-use mathlib.Core.Path.{refl}
+use Prim.Native.Nat.{◌+◌, ◌*◌, ◌-◌}
 use Rattle.form.proofs.Runs.{behind}
-use Rattle.paths.proofs.Along.{Along, along_start, along_none, along_fall, along_fault, along_fits, along_this, along_before}
-use Rattle.paths.proofs.Along.{along_behind, along_end, along_cut, flat_answer, path_parts}
+use Rattle.paths.proofs.Along.{Along}
 use Rattle.paths.proofs.way.+survey_survey_entries.Given as goal
 
 abbrev pub decreases-survey : goal.decreases-survey

@@ -1,6 +1,5 @@
 -- `paths::way::around` meets its contract: the entry itself where its value has no cut, and otherwise the value's cut, counted on from the value's start.
 -- Assumes nothing.
-use borrow.Author.Rules.{rules}
 use Rattle.paths.proofs.Along.{within_new, within_old}
 use Rattle.paths.proofs.way.around.Goals as goal
 

@@ -1,6 +1,5 @@
 -- `paths::way::read` meets its contract: the length is tested first; then the walk's size and level, or its fault, are settled over the length.
 -- Assumes nothing.
-use borrow.Author.Rules.{rules}
 use native.Mathlib.Omega.{arith}
 use mathlib.Core.Path.{sym, ap, ◌∙◌}
 use Rattle.form.specs.Limits.{value_refusals, value_levels}
