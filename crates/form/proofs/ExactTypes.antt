@@ -9,7 +9,7 @@ use native.Mathlib.Omega.{arith}
 use lib.ListN.{length, drop}
 use Rattle.form.specs.Trees.{Simple, any, boolean, number, string, date, time, date_time, days_and_time, years_and_months, null, Ty, leaf, built, Built, list, range, context}
 use Rattle.form.specs.Trees.{function, Fields, no_fields, field, Tys, no_params, param, code, decode}
-use Rattle.form.specs.Form.{bytes, Bytes, enc, enc_built, enc_fields, enc_tys, level, level_built, level_fields, level_tys, Wf, WfBuilt, WfFields, WfTys, count_fields, count_tys}
+use Rattle.form.specs.Form.{Bytes, enc, enc_built, enc_fields, enc_tys, level, level_built, level_fields, level_tys, Wf, WfBuilt, WfFields, WfTys, count_fields, count_tys}
 use Rattle.form.specs.Layout.{TypeKind, Kind, kind_of}
 use Rattle.form.specs.Read.{Got, got, front, read_run, read_named, read_fields, read_tys, ascending, read_function, step_type, step_t, read_t}
 use Rattle.form.proofs.CommandKinds.{ViewT, is_simple_t, is_list_t, is_range_t, is_context_t, is_function_t, View, is_value, is_type, is_gap, is_beyond, view, kind_simple}

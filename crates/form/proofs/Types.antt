@@ -13,7 +13,7 @@ use lib.Seq.{take-append_seam}
 use Rattle.form.specs.Trees.{Ty, leaf, built, Built, list, range, context, function, Fields, no_fields, field, Tys, no_params, param}
 use Rattle.form.specs.Limits.{name_width, type_levels, type_refusals}
 use Rattle.form.specs.Outcome.{done}
-use Rattle.form.specs.Form.{bytes, Bytes, enc, enc_built, enc_fields, enc_tys, level, level_built, level_fields, level_tys, count_fields, Wf}
+use Rattle.form.specs.Form.{Bytes, enc, enc_built, enc_fields, enc_tys, level, level_built, level_fields, level_tys, count_fields, Wf}
 use Rattle.form.specs.Read.{got, read_t, read_type, read_any_type, check_type}
 use Rattle.form.proofs.First.{length_front}
 use Rattle.form.proofs.Exact.{found_inside}

@@ -1,4 +1,6 @@
 // The byte form of document 01: one walk over a value or a type says where it ends and its level, or the first fault.
+#![tactic(auto)]
+
 ghost use Rattle.std.specs.Prelude.{◌≡◌, ◌-◌, ◌<◌};
 ghost use Rattle.form.specs.Form.{level, Bytes};
 ghost use Rattle.form.specs.Read.{check_type, check_value};

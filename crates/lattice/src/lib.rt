@@ -1,4 +1,6 @@
 // The builders of a common supertype and of a common subtype: each calls the other for the parameters of functions. No calls: `bounds` and `infer` use them.
+#![tactic(auto)]
+
 ghost use Rattle.std.specs.Prelude.{◌≡◌, ◌+◌, ◌<◌, ◌/◌, length, get_or};
 ghost use Rattle.form.specs.Form.{bytes};
 ghost use Rattle.order.specs.Order.{up, down, toward, order_of};

@@ -1,4 +1,6 @@
 // Lines of questions: a line's word and arguments, and the words of its answer. It asks no call, and reads and writes no file.
+#![tactic(auto)]
+
 pub mod fault;
 pub mod line;
 pub mod text;

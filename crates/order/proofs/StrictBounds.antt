@@ -1,13 +1,13 @@
 -- A strict supertype or subtype, reduced, is document 01's (`reduced_bound`). Idea: before an answer is reduced, both readings have the same one, since only conformance and
 -- the reduced form ask the reading.
 -- Assumes nothing.
-use mathlib.Core.Path.{◌≡◌, refl, sym, ◌∙◌, ap, ap₂}
+use mathlib.Core.Path.{◌≡◌, refl, ◌∙◌, ap, ap₂}
 use mathlib.Core.Bool.{cond}
 use mathlib.Core.Option.{Option, none, some}
 use Prim.Native.Nat.{ℕ}
 use lib.Dec.{eqb, ltb}
 use Rattle.form.specs.Trees.{Ty, leaf, built, Built, list, range, context, function, Fields, no_fields, field, Tys, no_params, param}
-use Rattle.order.specs.Order.{Dir, up, down, flip, pick, top, fixed, strict_order}
+use Rattle.order.specs.Order.{Dir, up, down, flip, top, fixed, strict_order}
 use Rattle.order.specs.Types.{lookup, keep, insert_with, same_count, reduce, bound, bound_built, intersect_with, merge, bounds}
 use Rattle.order.proofs.Conform.{reduce_strict}
 

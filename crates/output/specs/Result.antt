@@ -2,7 +2,7 @@
 -- Assumes nothing.
 use Rattle.std.specs.Prelude.{Bool, ◌&&◌, List, ℕ, length, leb}
 use Rattle.form.specs.Limits.{most_bytes, value_levels}
-use Rattle.form.specs.Outcome.{Outcome, ◌>>=◌, ◌>>◌, check, fits}
+use Rattle.form.specs.Outcome.{Outcome, ◌>>◌, check, fits}
 use Rattle.form.specs.Trees.{Val}
 use Rattle.form.specs.Form.{enc_v, level_v}
 

@@ -1,4 +1,6 @@
 // Bytes written into a lent output: copies, names, as much as has room; and the answer of a call that hands bytes on. No calls: all of it serves the crates above.
+#![tactic(auto)]
+
 ghost use Rattle.std.specs.Prelude.{◌≡◌, ◌+◌, ◌<◌, ◌≤◌, ◌/◌, ◌%◌, ◌^◌, min, length};
 ghost use Rattle.form.specs.Limits.{name_width, name_end};
 ghost use Rattle.form.specs.Form.{bytes, num_at};

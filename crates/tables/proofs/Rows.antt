@@ -3,7 +3,7 @@
 -- where a row is what they have in common: what conforms to it conforms to both, and it is in its own row. Both sides are read at each type.
 -- Index: `and_bit`, `same_bits` (numbers by their bits); `row_bit`, `row_lt`, `rows_at` (rows); `ordered_rows_lem`, `joined_rows_lem`.
 -- Assumes nothing.
-use Prim.Native.Nat.{ℕ, zero, suc, ◌+◌, ◌-◌, ◌*◌, ◌/◌, ◌%◌, ◌^◌, ◌<◌, min}
+use Prim.Native.Nat.{ℕ, zero, suc, ◌+◌, ◌*◌, ◌/◌, ◌%◌, ◌^◌, ◌<◌, min}
 use mathlib.Core.Path.{◌≡◌, refl, sym, ap, ap₂, ◌∙◌, subst}
 use mathlib.Core.Bool.{Bool, true, false, not, cond, ◌&&◌, ◌||◌, false≢true}
 use mathlib.Core.List.{List}

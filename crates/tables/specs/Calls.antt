@@ -1,7 +1,7 @@
 -- K9: a table is loaded. Exactly a hundred bytes; the refusals in document 02's sequence.
 -- Assumes nothing.
 use Rattle.std.specs.Prelude.{ℕ, Bool, true, List}
-use Rattle.form.specs.Outcome.{Outcome, done, refused, ◌>>=◌, ◌>>◌, check}
+use Rattle.form.specs.Outcome.{Outcome, done, refused, ◌>>◌, check}
 use Rattle.order.specs.Order.{Order}
 use Rattle.order.specs.Table.{is_table, is_ordered, in_table, has_joins, table_order, packed}
 use Rattle.tables.specs.declared.load.Loaded.{Loaded}

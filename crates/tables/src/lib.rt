@@ -1,4 +1,6 @@
 // The members' own table of simple types, and the readings of conformance that walks and builders are handed.
+#![tactic(auto)]
+
 ghost use Rattle.std.specs.Prelude.{◌≡◌};
 ghost use Rattle.form.specs.Answers.{verdict};
 ghost use Rattle.tables.specs.Calls.{check_table};

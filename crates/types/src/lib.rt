@@ -1,4 +1,6 @@
 // types.rs over the byte form: conformance of types in one pass over both.
+#![tactic(auto)]
+
 ghost use Rattle.std.specs.Prelude.{◌≡◌, ◌<◌};
 ghost use Rattle.form.specs.Answers.{verdict};
 ghost use Rattle.types.specs.Calls.{is_conformant, strict_is_conformant, table_is_conformant, read_then_no, instance_of, is_simple_built_in_type, is_null};

@@ -20,7 +20,7 @@ use Rattle.form.proofs.Nodes.{value_read}
 use Rattle.form.proofs.Values.{read_up_v}
 use Rattle.order.specs.Size.{size_val}
 use Rattle.order.proofs.Size.{size_val_positive}
-use Rattle.types.proofs.Reading.{got_seen, some_byte}
+use Rattle.types.proofs.Reading.{got_seen}
 use Rattle.types.proofs.TwoArguments.{Whole, whole_by, fails, agree}
 use Rattle.values.specs.At.{value_at}
 use Rattle.values.proofs.Reading.{value_told}

@@ -31,7 +31,7 @@ use Rattle.types.specs.At.{type_at, fields_at}
 use Rattle.types.specs.Conform.{judge, add_sizes, Met}
 use Rattle.types.proofs.Reading as types
 use Rattle.types.proofs.Reading.{cmd, cmd_is, is_ctx, is_fun}
-use Rattle.types.proofs.TypeConformance.{cmd_in, sized}
+use Rattle.types.proofs.TypeConformance.{cmd_in}
 use Rattle.types.proofs.Forward as forward
 use Rattle.types.proofs.SortedNames.{readable_type}
 use Rattle.types.proofs.Short.{Passed, passed, not_passed}

@@ -1,4 +1,6 @@
 // values.rs over the byte form: a value and a type are read and held to each other in one pass.
+#![tactic(auto)]
+
 ghost use Rattle.std.specs.Prelude.{◌≡◌, ◌-◌};
 ghost use Rattle.form.specs.Answers.{verdict};
 ghost use Rattle.values.specs.Calls.{is_conformant, strict_is_conformant, table_is_conformant, read_then_no};

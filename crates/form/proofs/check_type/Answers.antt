@@ -1,6 +1,5 @@
 -- `form::check_type` meets its contract: the length is tested first; then the walk's size and level, or its fault, are settled over the length.
 -- Assumes nothing.
-use borrow.Author.Rules.{rules}
 use native.Mathlib.Omega.{arith}
 use mathlib.Core.Path.{◌∙◌}
 use lib.ListN.{length}

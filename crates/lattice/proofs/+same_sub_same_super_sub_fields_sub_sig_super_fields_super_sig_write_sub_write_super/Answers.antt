@@ -30,18 +30,18 @@ use Rattle.lattice.proofs.+same_sub_same_super_sub_fields_sub_sig_super_fields_s
 taken_sub : (t : ℕ) (c : same_sub-Joined-n-eq0 t) → ignores_at (order_of c.args.reading) (get_or c.args.a.now 1 0) ≡ false
 taken_sub t c =
     elim c.if-n-eq0.branch [
-      same_sub-then-n-eq0+else-not-is_strict w ↦
-        compared_strict (order_of c.args.reading) (get_or c.args.a.now 1 0) (sym w.is_strict.ensures ∙ w.if-not-is_strict.false)
-    | same_sub-else-n-eq0 w ↦ compared_some (order_of c.args.reading) (get_or c.args.a.now 1 0) (λ e. w.if-n-eq0.false (sym e))
+      | same_sub-then-n-eq0+else-not-is_strict w ↦
+          compared_strict (order_of c.args.reading) (get_or c.args.a.now 1 0) (sym w.is_strict.ensures ∙ w.if-not-is_strict.false)
+      | same_sub-else-n-eq0 w ↦ compared_some (order_of c.args.reading) (get_or c.args.a.now 1 0) (λ e. w.if-n-eq0.false (sym e))
     ]
 
 -- strict, or with parameters: the results are taken together
 taken_super : (t : ℕ) (c : same_super-Joined-n-eq0 t) → ignores_at (order_of c.args.reading) (get_or c.args.a.now 1 0) ≡ false
 taken_super t c =
     elim c.if-n-eq0.branch [
-      same_super-then-n-eq0+else-not-is_strict w ↦
-        compared_strict (order_of c.args.reading) (get_or c.args.a.now 1 0) (sym w.is_strict.ensures ∙ w.if-not-is_strict.false)
-    | same_super-else-n-eq0 w ↦ compared_some (order_of c.args.reading) (get_or c.args.a.now 1 0) (λ e. w.if-n-eq0.false (sym e))
+      | same_super-then-n-eq0+else-not-is_strict w ↦
+          compared_strict (order_of c.args.reading) (get_or c.args.a.now 1 0) (sym w.is_strict.ensures ∙ w.if-not-is_strict.false)
+      | same_super-else-n-eq0 w ↦ compared_some (order_of c.args.reading) (get_or c.args.a.now 1 0) (λ e. w.if-n-eq0.false (sym e))
     ]
 
 -- ---- same_sub: two types with the same command
@@ -126,13 +126,12 @@ same_sub-overflow_sub-left t c =
     )
 
 pub same_sub-write_sub-e-requires : goal.same_sub-write_sub-e-requires
-same_sub-write_sub-e-requires t c =
-    (
-      omega (arith, c.decreases, level_a _ down _ c.args.a.now c.args.b.now _ c.requires.ready),
-      inner_ready (wrapped _ down _ c.args.a.now c.args.b.now _ c.requires.ready c.requires.a_value c.if-c-lt-LIST_TYPE.false c.if-c-lt-CONTEXT_TYPE.true).inner
-          (set c.args.out.now 0 (get_or c.args.a.now 0 0))
-          (length-set c.args.out.now 0 (get_or c.args.a.now 0 0)),
-    )
+same_sub-write_sub-e-requires t c = (
+  omega (arith, c.decreases, level_a _ down _ c.args.a.now c.args.b.now _ c.requires.ready),
+  inner_ready (wrapped _ down _ c.args.a.now c.args.b.now _ c.requires.ready c.requires.a_value c.if-c-lt-LIST_TYPE.false c.if-c-lt-CONTEXT_TYPE.true).inner
+      (set c.args.out.now 0 (get_or c.args.a.now 0 0))
+      (length-set c.args.out.now 0 (get_or c.args.a.now 0 0)),
+)
 
 pub same_sub-overflow_add-result : goal.same_sub-overflow_add-result
 same_sub-overflow_add-result t c =
@@ -144,15 +143,19 @@ same_sub-overflow_add-result t c =
 
 pub same_sub-overflow_add-result-then-c-lt-CONTEXT_TYPE : goal.same_sub-overflow_add-result-then-c-lt-CONTEXT_TYPE
 same_sub-overflow_add-result-then-c-lt-CONTEXT_TYPE t c =
-    omega
-    (arith, inner_ends (wrapped _ down _ c.args.a.now c.args.b.now _ c.requires.ready c.requires.a_value c.if-c-lt-LIST_TYPE.false c.if-c-lt-CONTEXT_TYPE.true).inner
-        _ _ _ _ _ c.write_sub-e.ensures)
+    omega (
+      arith,
+      inner_ends (wrapped _ down _ c.args.a.now c.args.b.now _ c.requires.ready c.requires.a_value c.if-c-lt-LIST_TYPE.false c.if-c-lt-CONTEXT_TYPE.true).inner
+          _ _ _ _ _ c.write_sub-e.ensures,
+    )
 
 pub same_sub-overflow_add-result-then-c-lt-CONTEXT_TYPE-2 : goal.same_sub-overflow_add-result-then-c-lt-CONTEXT_TYPE-2
 same_sub-overflow_add-result-then-c-lt-CONTEXT_TYPE-2 t c =
-    omega
-    (arith, inner_ends (wrapped _ down _ c.args.a.now c.args.b.now _ c.requires.ready c.requires.a_value c.if-c-lt-LIST_TYPE.false c.if-c-lt-CONTEXT_TYPE.true).inner
-        _ _ _ _ _ c.write_sub-e.ensures)
+    omega (
+      arith,
+      inner_ends (wrapped _ down _ c.args.a.now c.args.b.now _ c.requires.ready c.requires.a_value c.if-c-lt-LIST_TYPE.false c.if-c-lt-CONTEXT_TYPE.true).inner
+          _ _ _ _ _ c.write_sub-e.ensures,
+    )
 
 pub same_sub-shape_of-out-then-c-lt-CONTEXT_TYPE : goal.same_sub-shape_of-out-then-c-lt-CONTEXT_TYPE
 same_sub-shape_of-out-then-c-lt-CONTEXT_TYPE t c =
@@ -190,13 +193,19 @@ same_sub-slice_bounds-sub_fields-start-then-c-eq-CONTEXT_TYPE t c =
 
 pub same_sub-slice_bounds-sub_fields-count-then-c-eq-CONTEXT_TYPE-2 : goal.same_sub-slice_bounds-sub_fields-count-then-c-eq-CONTEXT_TYPE-2
 same_sub-slice_bounds-sub_fields-count-then-c-eq-CONTEXT_TYPE-2 t c =
-    omega (arith, (in_contexts _ down _ c.args.a.now c.args.b.now _ c.requires.ready c.requires.a_value c.if-c-eq-CONTEXT_TYPE.true _ _ c.word_at-n.ensures.0
-    c.word_at-m.ensures.0).room)
+    omega (
+      arith,
+      (in_contexts _ down _ c.args.a.now c.args.b.now _ c.requires.ready c.requires.a_value c.if-c-eq-CONTEXT_TYPE.true _ _ c.word_at-n.ensures.0
+          c.word_at-m.ensures.0).room,
+    )
 
 pub same_sub-slice_bounds-sub_fields-start-then-c-eq-CONTEXT_TYPE-2 : goal.same_sub-slice_bounds-sub_fields-start-then-c-eq-CONTEXT_TYPE-2
 same_sub-slice_bounds-sub_fields-start-then-c-eq-CONTEXT_TYPE-2 t c =
-    omega (arith, (in_contexts _ down _ c.args.a.now c.args.b.now _ c.requires.ready c.requires.a_value c.if-c-eq-CONTEXT_TYPE.true _ _ c.word_at-n.ensures.0
-    c.word_at-m.ensures.0).room)
+    omega (
+      arith,
+      (in_contexts _ down _ c.args.a.now c.args.b.now _ c.requires.ready c.requires.a_value c.if-c-eq-CONTEXT_TYPE.true _ _ c.word_at-n.ensures.0
+          c.word_at-m.ensures.0).room,
+    )
 
 pub same_sub-overflow_sub-left-then-c-eq-CONTEXT_TYPE : goal.same_sub-overflow_sub-left-then-c-eq-CONTEXT_TYPE
 same_sub-overflow_sub-left-then-c-eq-CONTEXT_TYPE t c =
@@ -206,12 +215,11 @@ same_sub-overflow_sub-left-then-c-eq-CONTEXT_TYPE t c =
     )
 
 pub same_sub-sub_fields-e-requires : goal.same_sub-sub_fields-e-requires
-same_sub-sub_fields-e-requires t c =
-    (
-      omega (arith, c.decreases, level_a _ down _ c.args.a.now c.args.b.now _ c.requires.ready),
-      inner_ready (in_contexts _ down _ c.args.a.now c.args.b.now _ c.requires.ready c.requires.a_value c.if-c-eq-CONTEXT_TYPE.true _ _ c.word_at-n.ensures.0
-          c.word_at-m.ensures.0) c.args.out.now refl,
-    )
+same_sub-sub_fields-e-requires t c = (
+  omega (arith, c.decreases, level_a _ down _ c.args.a.now c.args.b.now _ c.requires.ready),
+  inner_ready (in_contexts _ down _ c.args.a.now c.args.b.now _ c.requires.ready c.requires.a_value c.if-c-eq-CONTEXT_TYPE.true _ _ c.word_at-n.ensures.0
+      c.word_at-m.ensures.0) c.args.out.now refl,
+)
 
 pub same_sub-bounds-out-0-then-c-eq-CONTEXT_TYPE : goal.same_sub-bounds-out-0-then-c-eq-CONTEXT_TYPE
 same_sub-bounds-out-0-then-c-eq-CONTEXT_TYPE t c =
@@ -315,15 +323,21 @@ same_sub-bounds-out-0-2 t c =
 
 pub same_sub-bounds-out-1-2 : goal.same_sub-bounds-out-1-2
 same_sub-bounds-out-1-2 t c =
-    simp length-set (omega (arith, fun_head (in_functions _ down _ c.args.a.now c.args.b.now _ c.requires.ready c.requires.a_value c.if-c-lt-CONTEXT_TYPE.false
-    c.if-c-eq-CONTEXT_TYPE.false) c.if-n-m.false))
+    simp length-set (omega (
+      arith,
+      fun_head (in_functions _ down _ c.args.a.now c.args.b.now _ c.requires.ready c.requires.a_value c.if-c-lt-CONTEXT_TYPE.false
+          c.if-c-eq-CONTEXT_TYPE.false) c.if-n-m.false,
+    ))
 
 pub same_sub-bounds-out-2-then-not-is_strict : goal.same_sub-bounds-out-2-then-not-is_strict
 same_sub-bounds-out-2-then-not-is_strict t c =
     simp length-set
-    (omega (arith, fun_none_room (in_functions _ down _ c.args.a.now c.args.b.now _ c.requires.ready c.requires.a_value c.if-c-lt-CONTEXT_TYPE.false
-        c.if-c-eq-CONTEXT_TYPE.false) c.if-n-m.false
-        (ignored (order_of c.args.reading) (get_or c.args.a.now 1 0) c.if-n-eq0.true (sym c.is_strict.ensures ∙ c.if-not-is_strict.true))))
+    (omega (
+      arith,
+      fun_none_room (in_functions _ down _ c.args.a.now c.args.b.now _ c.requires.ready c.requires.a_value c.if-c-lt-CONTEXT_TYPE.false
+          c.if-c-eq-CONTEXT_TYPE.false) c.if-n-m.false
+          (ignored (order_of c.args.reading) (get_or c.args.a.now 1 0) c.if-n-eq0.true (sym c.is_strict.ensures ∙ c.if-not-is_strict.true)),
+    ))
 
 pub same_sub-shape_of-out-then-not-is_strict : goal.same_sub-shape_of-out-then-not-is_strict
 same_sub-shape_of-out-then-not-is_strict t c =
@@ -333,7 +347,7 @@ pub same_sub-returns-then-not-is_strict : goal.same_sub-returns-then-not-is_stri
 same_sub-returns-then-not-is_strict t c =
     fun_none (in_functions _ down _ c.args.a.now c.args.b.now _ c.requires.ready c.requires.a_value c.if-c-lt-CONTEXT_TYPE.false c.if-c-eq-CONTEXT_TYPE.false) c.if-n-m.false
     (ignored (order_of c.args.reading) (get_or c.args.a.now 1 0) c.if-n-eq0.true (sym c.is_strict.ensures ∙ c.if-not-is_strict.true)) _ refl _ _
-        c.skip-then-not-is_strict.ensures c.skip-then-not-is_strict-2.ensures
+    c.skip-then-not-is_strict.ensures c.skip-then-not-is_strict-2.ensures
 
 pub same_sub-slice_bounds-sub_sig-count : goal.same_sub-slice_bounds-sub_sig-count
 same_sub-slice_bounds-sub_sig-count t c =
@@ -377,14 +391,13 @@ same_sub-overflow_sub-left-2 t c =
     )
 
 pub same_sub-sub_sig-e-requires : goal.same_sub-sub_sig-e-requires
-same_sub-sub_sig-e-requires t c =
-    (
-      omega (arith, c.decreases, level_a _ down _ c.args.a.now c.args.b.now _ c.requires.ready),
-      inner_ready (in_sigs (in_functions _ down _ c.args.a.now c.args.b.now _ c.requires.ready c.requires.a_value c.if-c-lt-CONTEXT_TYPE.false
-          c.if-c-eq-CONTEXT_TYPE.false) c.if-n-m.false (taken_sub t (goal.at.same_sub-sub_sig-e-requires t c).Joined-n-eq0) _ c.wide.ensures.0)
-          (set (set c.args.out.now 0 45) 1 (get_or c.args.a.now 1 0))
-          (length-set (set c.args.out.now 0 45) 1 (get_or c.args.a.now 1 0) ∙ length-set c.args.out.now 0 45),
-    )
+same_sub-sub_sig-e-requires t c = (
+  omega (arith, c.decreases, level_a _ down _ c.args.a.now c.args.b.now _ c.requires.ready),
+  inner_ready (in_sigs (in_functions _ down _ c.args.a.now c.args.b.now _ c.requires.ready c.requires.a_value c.if-c-lt-CONTEXT_TYPE.false
+      c.if-c-eq-CONTEXT_TYPE.false) c.if-n-m.false (taken_sub t (goal.at.same_sub-sub_sig-e-requires t c).Joined-n-eq0) _ c.wide.ensures.0)
+      (set (set c.args.out.now 0 45) 1 (get_or c.args.a.now 1 0))
+      (length-set (set c.args.out.now 0 45) 1 (get_or c.args.a.now 1 0) ∙ length-set c.args.out.now 0 45),
+)
 
 pub same_sub-overflow_add-result-2 : goal.same_sub-overflow_add-result-2
 same_sub-overflow_add-result-2 t c =
@@ -513,15 +526,14 @@ sub_fields-slice_bounds-same_sub-start-then-x-y-2 t c =
     )
 
 pub sub_fields-same_sub-e-requires : goal.sub_fields-same_sub-e-requires
-sub_fields-same_sub-e-requires t c =
-    (
-      omega (arith, c.decreases),
-      (
-        a_ready c.loop-p.invariant (peeked c.next_name-x.ensures c.next_name-y.ensures) c.if-x-y.true c.copy_name.new.out
-            c.copy_name.ensures,
-        refl,
-      ),
-    )
+sub_fields-same_sub-e-requires t c = (
+  omega (arith, c.decreases),
+  (
+    a_ready c.loop-p.invariant (peeked c.next_name-x.ensures c.next_name-y.ensures) c.if-x-y.true c.copy_name.new.out
+        c.copy_name.ensures,
+    refl,
+  ),
+)
 
 pub sub_fields-overflow_add-at : goal.sub_fields-overflow_add-at
 sub_fields-overflow_add-at t c =
@@ -640,15 +652,14 @@ sub_fields-slice_bounds-same_sub-start-then-y-x-3 t c =
     )
 
 pub sub_fields-same_sub-e-requires-then-y-x : goal.sub_fields-same_sub-e-requires-then-y-x
-sub_fields-same_sub-e-requires-then-y-x t c =
-    (
-      omega (arith, c.decreases),
-      (
-        b_ready c.loop-p.invariant (peeked c.next_name-x.ensures c.next_name-y.ensures) c.if-y-x.true c.copy_name-then-y-x.new.out
-            c.copy_name-then-y-x.ensures,
-        refl,
-      ),
-    )
+sub_fields-same_sub-e-requires-then-y-x t c = (
+  omega (arith, c.decreases),
+  (
+    b_ready c.loop-p.invariant (peeked c.next_name-x.ensures c.next_name-y.ensures) c.if-y-x.true c.copy_name-then-y-x.new.out
+        c.copy_name-then-y-x.ensures,
+    refl,
+  ),
+)
 
 pub sub_fields-overflow_add-bt : goal.sub_fields-overflow_add-bt
 sub_fields-overflow_add-bt t c =
@@ -794,12 +805,11 @@ sub_fields-slice_bounds-write_sub-start-in-loop-p-2 t c =
     )
 
 pub sub_fields-write_sub-e-requires : goal.sub_fields-write_sub-e-requires
-sub_fields-write_sub-e-requires t c =
-    (
-      omega (arith, c.decreases),
-      both_ready c.loop-p.invariant (peeked c.next_name-x.ensures c.next_name-y.ensures) (omega (arith, c.if-x-y.false, c.if-y-x.false))
-          (omega (arith, c.next_name-x.ensures.upper_bound.0, c.if-x-eq-NAME_END.false)) c.copy_name-in-loop-p.new.out c.copy_name-in-loop-p.ensures,
-    )
+sub_fields-write_sub-e-requires t c = (
+  omega (arith, c.decreases),
+  both_ready c.loop-p.invariant (peeked c.next_name-x.ensures c.next_name-y.ensures) (omega (arith, c.if-x-y.false, c.if-y-x.false))
+      (omega (arith, c.next_name-x.ensures.upper_bound.0, c.if-x-eq-NAME_END.false)) c.copy_name-in-loop-p.new.out c.copy_name-in-loop-p.ensures,
+)
 
 pub sub_fields-overflow_add-at-in-loop-p : goal.sub_fields-overflow_add-at-in-loop-p
 sub_fields-overflow_add-at-in-loop-p t c =
@@ -1163,13 +1173,12 @@ same_super-overflow_sub-left t c =
     )
 
 pub same_super-write_super-e-requires : goal.same_super-write_super-e-requires
-same_super-write_super-e-requires t c =
-    (
-      omega (arith, c.decreases, level_a _ up _ c.args.a.now c.args.b.now _ c.requires.ready),
-      inner_ready (wrapped _ up _ c.args.a.now c.args.b.now _ c.requires.ready c.requires.a_value c.if-c-lt-LIST_TYPE.false c.if-c-lt-CONTEXT_TYPE.true).inner
-          (set c.args.out.now 0 (get_or c.args.a.now 0 0))
-          (length-set c.args.out.now 0 (get_or c.args.a.now 0 0)),
-    )
+same_super-write_super-e-requires t c = (
+  omega (arith, c.decreases, level_a _ up _ c.args.a.now c.args.b.now _ c.requires.ready),
+  inner_ready (wrapped _ up _ c.args.a.now c.args.b.now _ c.requires.ready c.requires.a_value c.if-c-lt-LIST_TYPE.false c.if-c-lt-CONTEXT_TYPE.true).inner
+      (set c.args.out.now 0 (get_or c.args.a.now 0 0))
+      (length-set c.args.out.now 0 (get_or c.args.a.now 0 0)),
+)
 
 pub same_super-overflow_add-result : goal.same_super-overflow_add-result
 same_super-overflow_add-result t c =
@@ -1181,15 +1190,19 @@ same_super-overflow_add-result t c =
 
 pub same_super-overflow_add-result-then-c-lt-CONTEXT_TYPE : goal.same_super-overflow_add-result-then-c-lt-CONTEXT_TYPE
 same_super-overflow_add-result-then-c-lt-CONTEXT_TYPE t c =
-    omega
-    (arith, inner_ends (wrapped _ up _ c.args.a.now c.args.b.now _ c.requires.ready c.requires.a_value c.if-c-lt-LIST_TYPE.false c.if-c-lt-CONTEXT_TYPE.true).inner _
-        _ _ _ _ c.write_super-e.ensures)
+    omega (
+      arith,
+      inner_ends (wrapped _ up _ c.args.a.now c.args.b.now _ c.requires.ready c.requires.a_value c.if-c-lt-LIST_TYPE.false c.if-c-lt-CONTEXT_TYPE.true).inner _
+          _ _ _ _ c.write_super-e.ensures,
+    )
 
 pub same_super-overflow_add-result-then-c-lt-CONTEXT_TYPE-2 : goal.same_super-overflow_add-result-then-c-lt-CONTEXT_TYPE-2
 same_super-overflow_add-result-then-c-lt-CONTEXT_TYPE-2 t c =
-    omega
-    (arith, inner_ends (wrapped _ up _ c.args.a.now c.args.b.now _ c.requires.ready c.requires.a_value c.if-c-lt-LIST_TYPE.false c.if-c-lt-CONTEXT_TYPE.true).inner _
-        _ _ _ _ c.write_super-e.ensures)
+    omega (
+      arith,
+      inner_ends (wrapped _ up _ c.args.a.now c.args.b.now _ c.requires.ready c.requires.a_value c.if-c-lt-LIST_TYPE.false c.if-c-lt-CONTEXT_TYPE.true).inner _
+          _ _ _ _ c.write_super-e.ensures,
+    )
 
 pub same_super-shape_of-out-then-c-lt-CONTEXT_TYPE : goal.same_super-shape_of-out-then-c-lt-CONTEXT_TYPE
 same_super-shape_of-out-then-c-lt-CONTEXT_TYPE t c =
@@ -1227,13 +1240,19 @@ same_super-slice_bounds-super_fields-start-then-c-eq-CONTEXT_TYPE t c =
 
 pub same_super-slice_bounds-super_fields-count-then-c-eq-CONTEXT_TYPE-2 : goal.same_super-slice_bounds-super_fields-count-then-c-eq-CONTEXT_TYPE-2
 same_super-slice_bounds-super_fields-count-then-c-eq-CONTEXT_TYPE-2 t c =
-    omega (arith, (in_contexts _ up _ c.args.a.now c.args.b.now _ c.requires.ready c.requires.a_value c.if-c-eq-CONTEXT_TYPE.true _ _ c.word_at-n.ensures.0
-    c.word_at-m.ensures.0).room)
+    omega (
+      arith,
+      (in_contexts _ up _ c.args.a.now c.args.b.now _ c.requires.ready c.requires.a_value c.if-c-eq-CONTEXT_TYPE.true _ _ c.word_at-n.ensures.0
+          c.word_at-m.ensures.0).room,
+    )
 
 pub same_super-slice_bounds-super_fields-start-then-c-eq-CONTEXT_TYPE-2 : goal.same_super-slice_bounds-super_fields-start-then-c-eq-CONTEXT_TYPE-2
 same_super-slice_bounds-super_fields-start-then-c-eq-CONTEXT_TYPE-2 t c =
-    omega (arith, (in_contexts _ up _ c.args.a.now c.args.b.now _ c.requires.ready c.requires.a_value c.if-c-eq-CONTEXT_TYPE.true _ _ c.word_at-n.ensures.0
-    c.word_at-m.ensures.0).room)
+    omega (
+      arith,
+      (in_contexts _ up _ c.args.a.now c.args.b.now _ c.requires.ready c.requires.a_value c.if-c-eq-CONTEXT_TYPE.true _ _ c.word_at-n.ensures.0
+          c.word_at-m.ensures.0).room,
+    )
 
 pub same_super-overflow_sub-left-then-c-eq-CONTEXT_TYPE : goal.same_super-overflow_sub-left-then-c-eq-CONTEXT_TYPE
 same_super-overflow_sub-left-then-c-eq-CONTEXT_TYPE t c =
@@ -1243,12 +1262,11 @@ same_super-overflow_sub-left-then-c-eq-CONTEXT_TYPE t c =
     )
 
 pub same_super-super_fields-e-requires : goal.same_super-super_fields-e-requires
-same_super-super_fields-e-requires t c =
-    (
-      omega (arith, c.decreases, level_a _ up _ c.args.a.now c.args.b.now _ c.requires.ready),
-      inner_ready (in_contexts _ up _ c.args.a.now c.args.b.now _ c.requires.ready c.requires.a_value c.if-c-eq-CONTEXT_TYPE.true _ _ c.word_at-n.ensures.0
-          c.word_at-m.ensures.0) c.args.out.now refl,
-    )
+same_super-super_fields-e-requires t c = (
+  omega (arith, c.decreases, level_a _ up _ c.args.a.now c.args.b.now _ c.requires.ready),
+  inner_ready (in_contexts _ up _ c.args.a.now c.args.b.now _ c.requires.ready c.requires.a_value c.if-c-eq-CONTEXT_TYPE.true _ _ c.word_at-n.ensures.0
+      c.word_at-m.ensures.0) c.args.out.now refl,
+)
 
 pub same_super-bounds-out-0-then-c-eq-CONTEXT_TYPE : goal.same_super-bounds-out-0-then-c-eq-CONTEXT_TYPE
 same_super-bounds-out-0-then-c-eq-CONTEXT_TYPE t c =
@@ -1352,15 +1370,21 @@ same_super-bounds-out-0-2 t c =
 
 pub same_super-bounds-out-1-2 : goal.same_super-bounds-out-1-2
 same_super-bounds-out-1-2 t c =
-    simp length-set (omega (arith, fun_head (in_functions _ up _ c.args.a.now c.args.b.now _ c.requires.ready c.requires.a_value c.if-c-lt-CONTEXT_TYPE.false
-    c.if-c-eq-CONTEXT_TYPE.false) c.if-n-m.false))
+    simp length-set (omega (
+      arith,
+      fun_head (in_functions _ up _ c.args.a.now c.args.b.now _ c.requires.ready c.requires.a_value c.if-c-lt-CONTEXT_TYPE.false
+          c.if-c-eq-CONTEXT_TYPE.false) c.if-n-m.false,
+    ))
 
 pub same_super-bounds-out-2-then-not-is_strict : goal.same_super-bounds-out-2-then-not-is_strict
 same_super-bounds-out-2-then-not-is_strict t c =
     simp length-set
-    (omega (arith, fun_none_room (in_functions _ up _ c.args.a.now c.args.b.now _ c.requires.ready c.requires.a_value c.if-c-lt-CONTEXT_TYPE.false
-        c.if-c-eq-CONTEXT_TYPE.false) c.if-n-m.false
-        (ignored (order_of c.args.reading) (get_or c.args.a.now 1 0) c.if-n-eq0.true (sym c.is_strict.ensures ∙ c.if-not-is_strict.true))))
+    (omega (
+      arith,
+      fun_none_room (in_functions _ up _ c.args.a.now c.args.b.now _ c.requires.ready c.requires.a_value c.if-c-lt-CONTEXT_TYPE.false
+          c.if-c-eq-CONTEXT_TYPE.false) c.if-n-m.false
+          (ignored (order_of c.args.reading) (get_or c.args.a.now 1 0) c.if-n-eq0.true (sym c.is_strict.ensures ∙ c.if-not-is_strict.true)),
+    ))
 
 pub same_super-shape_of-out-then-not-is_strict : goal.same_super-shape_of-out-then-not-is_strict
 same_super-shape_of-out-then-not-is_strict t c =
@@ -1370,7 +1394,7 @@ pub same_super-returns-then-not-is_strict : goal.same_super-returns-then-not-is_
 same_super-returns-then-not-is_strict t c =
     fun_none (in_functions _ up _ c.args.a.now c.args.b.now _ c.requires.ready c.requires.a_value c.if-c-lt-CONTEXT_TYPE.false c.if-c-eq-CONTEXT_TYPE.false) c.if-n-m.false
     (ignored (order_of c.args.reading) (get_or c.args.a.now 1 0) c.if-n-eq0.true (sym c.is_strict.ensures ∙ c.if-not-is_strict.true)) _ refl _ _
-        c.skip-then-not-is_strict.ensures c.skip-then-not-is_strict-2.ensures
+    c.skip-then-not-is_strict.ensures c.skip-then-not-is_strict-2.ensures
 
 pub same_super-slice_bounds-super_sig-count : goal.same_super-slice_bounds-super_sig-count
 same_super-slice_bounds-super_sig-count t c =
@@ -1414,14 +1438,13 @@ same_super-overflow_sub-left-2 t c =
     )
 
 pub same_super-super_sig-e-requires : goal.same_super-super_sig-e-requires
-same_super-super_sig-e-requires t c =
-    (
-      omega (arith, c.decreases, level_a _ up _ c.args.a.now c.args.b.now _ c.requires.ready),
-      inner_ready (in_sigs (in_functions _ up _ c.args.a.now c.args.b.now _ c.requires.ready c.requires.a_value c.if-c-lt-CONTEXT_TYPE.false
-          c.if-c-eq-CONTEXT_TYPE.false) c.if-n-m.false (taken_super t (goal.at.same_super-super_sig-e-requires t c).Joined-n-eq0) _ c.wide.ensures.0)
-          (set (set c.args.out.now 0 45) 1 (get_or c.args.a.now 1 0))
-          (length-set (set c.args.out.now 0 45) 1 (get_or c.args.a.now 1 0) ∙ length-set c.args.out.now 0 45),
-    )
+same_super-super_sig-e-requires t c = (
+  omega (arith, c.decreases, level_a _ up _ c.args.a.now c.args.b.now _ c.requires.ready),
+  inner_ready (in_sigs (in_functions _ up _ c.args.a.now c.args.b.now _ c.requires.ready c.requires.a_value c.if-c-lt-CONTEXT_TYPE.false
+      c.if-c-eq-CONTEXT_TYPE.false) c.if-n-m.false (taken_super t (goal.at.same_super-super_sig-e-requires t c).Joined-n-eq0) _ c.wide.ensures.0)
+      (set (set c.args.out.now 0 45) 1 (get_or c.args.a.now 1 0))
+      (length-set (set c.args.out.now 0 45) 1 (get_or c.args.a.now 1 0) ∙ length-set c.args.out.now 0 45),
+)
 
 pub same_super-overflow_add-result-2 : goal.same_super-overflow_add-result-2
 same_super-overflow_add-result-2 t c =
@@ -1675,12 +1698,11 @@ super_fields-slice_bounds-write_super-start-in-loop-p-2 t c =
     )
 
 pub super_fields-write_super-e-requires : goal.super_fields-write_super-e-requires
-super_fields-write_super-e-requires t c =
-    (
-      omega (arith, c.decreases),
-      both_ready c.loop-p.invariant (peeked c.next_name-x.ensures c.next_name-y.ensures) (omega (arith, c.if-x-y.false, c.if-y-x.false))
-          (omega (arith, c.next_name-x.ensures.upper_bound.0, c.if-x-eq-NAME_END.false)) c.copy_name.new.out c.copy_name.ensures,
-    )
+super_fields-write_super-e-requires t c = (
+  omega (arith, c.decreases),
+  both_ready c.loop-p.invariant (peeked c.next_name-x.ensures c.next_name-y.ensures) (omega (arith, c.if-x-y.false, c.if-y-x.false))
+      (omega (arith, c.next_name-x.ensures.upper_bound.0, c.if-x-eq-NAME_END.false)) c.copy_name.new.out c.copy_name.ensures,
+)
 
 pub super_fields-overflow_add-at-in-loop-p : goal.super_fields-overflow_add-at-in-loop-p
 super_fields-overflow_add-at-in-loop-p t c =

@@ -1,6 +1,5 @@
 -- `output::copy_name` meets its contract: the name is a part of the input, copied into the rest of the output.
 -- Assumes nothing.
-use borrow.Author.Rules.{rules}
 use native.Mathlib.Omega.{arith}
 use mathlib.Core.Path.{◌≡◌, ap, ◌∙◌}
 use mathlib.Core.List.{List}

@@ -1,6 +1,5 @@
 -- `output::fill` meets its contract: the first `n` bytes of `src`, where `n` is the smaller of the two lengths, are copied (`fills`).
 -- Assumes nothing.
-use borrow.Author.Rules.{rules}
 use mathlib.Core.Path.{sym}
 use native.Mathlib.Omega.{arith}
 use lib.Seq.{length-take-le}

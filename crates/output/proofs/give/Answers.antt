@@ -1,6 +1,5 @@
 -- `output::give` meets its contract: without room the refusal, otherwise the bytes are copied and their length is answered.
 -- Assumes nothing.
-use borrow.Author.Rules.{rules}
 use mathlib.Core.Path.{refl}
 use lib.ListN.{length}
 use Rattle.form.specs.Outcome.{fits}

@@ -1,6 +1,5 @@
 -- `output::put` meets its contract: the place is cut to the output's length, and the rest from there on is filled (`put_is`).
 -- Assumes nothing.
-use borrow.Author.Rules.{rules}
 use mathlib.Core.Path.{refl}
 use Rattle.output.proofs.FillLaws.{put_is}
 use Rattle.output.proofs.put.Goals as goal

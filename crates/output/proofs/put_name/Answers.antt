@@ -1,6 +1,5 @@
 -- `output::put_name` meets its contract: the low byte and the high byte are the name's bytes.
 -- Assumes nothing.
-use borrow.Author.Rules.{rules}
 use mathlib.Core.Path.{sym, ap, ◌∙◌}
 use mathlib.Core.List.{List}
 use Prim.Native.Nat.{ℕ}

@@ -1,6 +1,5 @@
 -- `tables::check_table` meets its contract: the outcome of loading, with the reading left out.
 -- Assumes nothing.
-use borrow.Author.Rules.{rules}
 use Rattle.tables.proofs.CallContracts.{checked_refused, checked_done}
 use mathlib.Core.Path.{sym, ap, ◌∙◌}
 use mathlib.Core.Bool.{true}

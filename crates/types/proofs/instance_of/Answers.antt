@@ -1,6 +1,5 @@
 -- `types::instance_of` meets its contract: a yes of the walk is the answer; without it the readers give the refusals, and then the answer is no.
 -- Assumes nothing.
-use borrow.Author.Rules.{rules}
 use mathlib.Core.Path.{sym, ◌∙◌}
 use Rattle.form.specs.Read.{read_type}
 use Rattle.order.specs.Document.{is_instance_of}

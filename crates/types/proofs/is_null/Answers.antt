@@ -1,6 +1,5 @@
 -- `types::is_null` meets its contract: the reader's refusal first; the first byte of an accepted type says whether it is Null.
 -- Assumes nothing.
-use borrow.Author.Rules.{rules}
 use native.Mathlib.Omega.{arith}
 use Rattle.types.proofs.CallContracts.{was_refused, was_accepted, byte_there, null_refused, null_yes, null_no}
 use Rattle.types.proofs.is_null.Goals as goal

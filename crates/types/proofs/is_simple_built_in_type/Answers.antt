@@ -1,6 +1,5 @@
 -- `types::is_simple_built_in_type` meets its contract: the reader's refusal first; the first byte of an accepted type says whether it is a simple one.
 -- Assumes nothing.
-use borrow.Author.Rules.{rules}
 use native.Mathlib.Omega.{arith}
 use Rattle.types.proofs.CallContracts.{was_refused, was_accepted, byte_there, simple_refused, simple_yes, simple_no}
 use Rattle.types.proofs.is_simple_built_in_type.Goals as goal

@@ -1,6 +1,5 @@
 -- `types::refuse` meets its contract: the readers' refusals, self first, then no.
 -- Assumes nothing.
-use borrow.Author.Rules.{rules}
 use mathlib.Core.Path.{sym}
 use mathlib.Core.Bool.{false}
 use Rattle.form.specs.Read.{read_type}

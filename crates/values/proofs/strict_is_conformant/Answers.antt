@@ -1,6 +1,5 @@
 -- `values::strict_is_conformant` meets its contract: a yes of the walk is the answer; without it the readers give the refusals, and then the answer is no.
 -- Assumes nothing.
-use borrow.Author.Rules.{rules}
 use mathlib.Core.Path.{sym, ◌∙◌}
 use Rattle.form.specs.Read.{read_type, read_value}
 use Rattle.order.specs.Order.{strict_order}

@@ -1,6 +1,5 @@
 -- `values::table_is_conformant` meets its contract: a table that does not load is refused first; otherwise the walk under its reading, then the readers, as without a table.
 -- Assumes nothing.
-use borrow.Author.Rules.{rules}
 use mathlib.Core.Path.{sym, ap, ◌∙◌}
 use Rattle.form.specs.Read.{read_type, read_value}
 use Rattle.order.specs.Order.{order_of}

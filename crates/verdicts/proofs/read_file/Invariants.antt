@@ -1,5 +1,4 @@
 -- `verdicts::read_file` is safe and ends: the measure is the number of turns left. Assumes nothing.
-use borrow.Author.Rules.{rules}
 use Prim.Native.Nat.{◌≤◌}
 use Rattle.verdicts.proofs.read_file.Given as goal
 

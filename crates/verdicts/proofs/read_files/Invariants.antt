@@ -1,5 +1,4 @@
 -- `verdicts::read_files` is safe and ends: the measure is the number of files left. Assumes nothing.
-use borrow.Author.Rules.{rules}
 use Prim.Native.Nat.{◌≤◌, ◌-◌}
 use Rattle.verdicts.proofs.read_files.Given as goal
 

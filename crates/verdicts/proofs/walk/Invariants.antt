@@ -1,5 +1,4 @@
 -- `verdicts::walk` is safe and ends: each turn goes on. Assumes nothing.
-use borrow.Author.Rules.{rules}
 use Prim.Native.Nat.{◌≤◌, ◌-◌}
 use lib.ListN.{length}
 use Rattle.verdicts.proofs.walk.Given as goal

@@ -1,6 +1,5 @@
 -- `form::bytes::word_at` meets its contract: the two bytes from `at` on are the number's low and high byte (`word_is`).
 -- Assumes nothing.
-use borrow.Author.Rules.{rules}
 use mathlib.Core.Path.{sym, ◌∙◌}
 use native.Mathlib.Omega.{arith}
 use Rattle.form.proofs.Numbers.{word_is}

@@ -1,6 +1,5 @@
 -- `form::commands::leaf_size` meets its contract: one byte more than the width of a leaf, and no leaf has so many that it is taken for none.
 -- Assumes nothing.
-use borrow.Author.Rules.{rules}
 use native.Mathlib.Omega.{arith}
 use Rattle.form.proofs.CommandKinds.{sized_leaf, sized_none}
 use Rattle.form.proofs.commands.leaf_size.Goals as goal

@@ -1,6 +1,5 @@
 -- `form::commands::leaf_type` meets its contract: null, a leaf below 09, a decimal number, and what is no leaf, each by one law.
 -- Assumes nothing.
-use borrow.Author.Rules.{rules}
 use native.Mathlib.Omega.{arith}
 use Rattle.form.proofs.CommandKinds.{null_type_lem, decimal_type, low_type, no_type, leaf_high}
 use Rattle.form.proofs.commands.leaf_type.Goals as goal

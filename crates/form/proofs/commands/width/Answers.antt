@@ -1,7 +1,5 @@
 -- `form::commands::width` meets its contract: a leaf's width is `leaf_width`'s, that of a single command is computed, that of a range by a test at each byte of it.
 -- Assumes nothing.
-use borrow.Author.Rules.{rules}
-use mathlib.Core.Logic.{⊎_elim}
 use Rattle.form.proofs.CommandKinds.{leaf_low, leaf_decimal, range_width, width_other, low_is}
 use mathlib.Core.Path.{sym, ap}
 use native.Mathlib.Omega.{arith}

@@ -1,7 +1,7 @@
 -- The cycle `form::walk::walk_value`, `walk_items`, `walk_entries` meets its contracts; the measure is twice the level that is left, one more for the loops.
 -- One template for all: each return hands on what a callee told, or what the reader's equation says of the command; each turn of a loop is one law of Loops, over the child's walk.
 -- Assumes nothing.
-use Prim.Native.Nat.{ℕ, ◌<◌, ◌+◌, ◌*◌, ◌-◌, ◌≤◌, max}
+use Prim.Native.Nat.{ℕ, ◌<◌, ◌+◌, ◌-◌, ◌≤◌, max}
 use borrow.Author.Rules.{rules}
 use native.Mathlib.Omega.{arith}
 use mathlib.Core.Path.{refl, ap, ◌∙◌}
@@ -14,7 +14,7 @@ use Rattle.form.specs.Form.{level_v, level_vals, level_entries}
 use Rattle.form.specs.Layout.{k_range, k_list, k_context, of_value, kind_of, operands_v, operands}
 use Rattle.form.specs.Read.{read_v, read_run, read_named, read_vals, read_entries, ascending}
 use Rattle.form.specs.Walks.{walk_of, walk_by}
-use Rattle.form.proofs.Loops.{DeepInv, deep_start, deep_turn, deep_is, none_told, level_some, run_empty, named_empty, fits}
+use Rattle.form.proofs.Loops.{deep_start, deep_turn, deep_is, none_told, level_some, run_empty, named_empty, fits}
 use Rattle.form.proofs.Loops.{items_short, items_walk, items_fault, items_end, names_end, names_none, names_fall, names_short}
 use Rattle.form.proofs.Loops.{names_walk, names_fault}
 use Rattle.form.proofs.WalkAnswers.{told_stop, told_parent, told_whole, on_whole, ample, part_room}

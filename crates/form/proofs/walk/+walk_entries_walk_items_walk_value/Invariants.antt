@@ -1,23 +1,10 @@
 -- The cycle `form::walk::walk_value`, `walk_items`, `walk_entries` meets its contracts; the measure is twice the level that is left, one more for the loops.
-use Prim.Native.Nat.{ℕ, ◌<◌, ◌+◌, ◌*◌, ◌-◌, ◌≤◌, max}
-use borrow.Author.Rules.{rules}
-use native.Mathlib.Omega.{arith}
-use mathlib.Core.Path.{refl, ap, ◌∙◌}
-use mathlib.Core.List.{List}
-use lib.ListN.{length, get_or}
-use Rattle.form.specs.Limits.{name_width}
-use Rattle.form.specs.Faults.{Shape, Level}
-use Rattle.form.specs.Trees.{no_entries, entry, no_items, item, is_short_leaf}
-use Rattle.form.specs.Form.{level_v, level_vals, level_entries}
-use Rattle.form.specs.Layout.{k_range, k_list, k_context, of_value, kind_of, operands_v, operands}
-use Rattle.form.specs.Read.{read_v, read_run, read_named, read_vals, read_entries, ascending}
-use Rattle.form.specs.Walks.{walk_of, walk_by}
-use Rattle.form.proofs.Loops.{DeepInv, deep_start, deep_turn, deep_is, none_told, level_some, run_empty, named_empty, fits}
-use Rattle.form.proofs.Loops.{items_short, items_walk, items_fault, items_end, names_end, names_none, names_fall, names_short}
-use Rattle.form.proofs.Loops.{names_walk, names_fault}
-use Rattle.form.proofs.WalkAnswers.{told_stop, told_parent, told_whole, on_whole, ample, part_room}
-use Rattle.form.proofs.ValueLaws.{value_level, leaf_level, entries_law, entries_flat, vals_law, vals_flat, v_level, v_range_first}
-use Rattle.form.proofs.ValueLaws.{v_range_second, v_range_is, v_list_is, v_context_is}
+use Prim.Native.Nat.{ℕ, ◌+◌, ◌*◌, ◌-◌}
+use Rattle.form.specs.Trees.{no_entries, entry, no_items, item}
+use Rattle.form.specs.Form.{level_vals, level_entries}
+use Rattle.form.specs.Read.{read_v, read_run, read_named, ascending}
+use Rattle.form.specs.Walks.{walk_by}
+use Rattle.form.proofs.Loops.{DeepInv}
 use Rattle.form.proofs.walk.+walk_entries_walk_items_walk_value.Given as goal
 
 abbrev pub decreases-walk_entries : goal.decreases-walk_entries

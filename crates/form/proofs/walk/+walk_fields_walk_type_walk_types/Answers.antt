@@ -1,12 +1,11 @@
 -- The cycle `form::walk::walk_type`, `walk_types`, `walk_fields` meets its contracts; the measure is twice the level that is left, one more for the loops.
 -- One template for all: each return hands on what a callee told, or what the reader's equation says of the command; each turn of a loop is one law of Loops, over the child's walk.
 -- Assumes nothing.
-use Prim.Native.Nat.{ℕ, ◌<◌, ◌+◌, ◌*◌, ◌-◌}
+use Prim.Native.Nat.{ℕ, ◌+◌, ◌-◌}
 use borrow.Author.Rules.{rules}
 use native.Mathlib.Omega.{arith}
 use mathlib.Core.Path.{refl}
 use mathlib.Core.List.{List}
-use mathlib.Core.Logic.{⊎_elim}
 use Rattle.form.specs.Limits.{name_width}
 use Rattle.form.specs.Faults.{Shape, Level}
 use Rattle.form.specs.Trees.{no_fields, field, no_params, param, simple}
@@ -14,7 +13,7 @@ use Rattle.form.specs.Form.{level, level_fields, level_tys}
 use Rattle.form.specs.Layout.{t_context, t_function, of_type, kind_of, operands_t, operands}
 use Rattle.form.specs.Read.{read_t, read_run, read_named, read_tys, read_fields, ascending}
 use Rattle.form.specs.Walks.{walk_by}
-use Rattle.form.proofs.Runs.{RunInv, run_start}
+use Rattle.form.proofs.Runs.{run_start}
 use Rattle.form.proofs.WalkAnswers.{told_stop, told_ended, told_parent, ample, scant, part_room}
 use Rattle.form.proofs.Loops.{fits, items_short, items_walk, items_fault, items_end, names_end, names_none, names_fall, names_short}
 use Rattle.form.proofs.Loops.{names_walk, names_fault}
@@ -111,18 +110,16 @@ walk_type-returns-then-left-eq0 t c =
     c.fault-then-left-eq0.ensures.0 c.fault-then-left-eq0.ensures.1
 
 pub walk_type-walk_types-requires : goal.walk_type-walk_types-requires
-walk_type-walk_types-requires t c =
-    (
-      search rules,
-      (search rules, part_room c.args.s.now 1 (omega arith) (omega (arith, c.well_formed))),
-    )
+walk_type-walk_types-requires t c = (
+  search rules,
+  (search rules, part_room c.args.s.now 1 (omega arith) (omega (arith, c.well_formed))),
+)
 
 pub walk_type-walk_types-requires-in-43 : goal.walk_type-walk_types-requires-in-43
-walk_type-walk_types-requires-in-43 t c =
-    (
-      search rules,
-      (search rules, part_room c.args.s.now 1 (omega arith) (omega (arith, c.well_formed))),
-    )
+walk_type-walk_types-requires-in-43 t c = (
+  search rules,
+  (search rules, part_room c.args.s.now 1 (omega arith) (omega (arith, c.well_formed))),
+)
 
 pub walk_type-returns-then-s-lt3 : goal.walk_type-returns-then-s-lt3
 walk_type-returns-then-s-lt3 t c =
@@ -150,11 +147,10 @@ walk_type-returns-then-s-lt2 t c =
     c.fault-then-s-lt2.ensures.0 c.fault-then-s-lt2.ensures.1
 
 pub walk_type-walk_types-requires-in-45 : goal.walk_type-walk_types-requires-in-45
-walk_type-walk_types-requires-in-45 t c =
-    (
-      search rules,
-      (search rules, part_room c.args.s.now 2 (omega arith) (omega (arith, c.well_formed))),
-    )
+walk_type-walk_types-requires-in-45 t c = (
+  search rules,
+  (search rules, part_room c.args.s.now 2 (omega arith) (omega (arith, c.well_formed))),
+)
 
 pub walk_type-returns-in-42 : goal.walk_type-returns-in-42
 walk_type-returns-in-42 t c =

@@ -1,24 +1,10 @@
 -- The cycle `form::walk::walk_type`, `walk_types`, `walk_fields` meets its contracts; the measure is twice the level that is left, one more for the loops.
-use Prim.Native.Nat.{ℕ, ◌<◌, ◌+◌, ◌*◌, ◌-◌}
-use borrow.Author.Rules.{rules}
-use native.Mathlib.Omega.{arith}
-use mathlib.Core.Path.{refl}
-use mathlib.Core.List.{List}
-use mathlib.Core.Logic.{⊎_elim}
-use Rattle.form.specs.Limits.{name_width}
-use Rattle.form.specs.Faults.{Shape, Level}
-use Rattle.form.specs.Trees.{no_fields, field, no_params, param, simple}
-use Rattle.form.specs.Form.{level, level_fields, level_tys}
-use Rattle.form.specs.Layout.{t_context, t_function, of_type, kind_of, operands_t, operands}
-use Rattle.form.specs.Read.{read_t, read_run, read_named, read_tys, read_fields, ascending}
+use Prim.Native.Nat.{ℕ, ◌+◌, ◌*◌, ◌-◌}
+use Rattle.form.specs.Trees.{no_fields, field, no_params, param}
+use Rattle.form.specs.Form.{level_fields, level_tys}
+use Rattle.form.specs.Read.{read_t, read_run, read_named, ascending}
 use Rattle.form.specs.Walks.{walk_by}
-use Rattle.form.proofs.Runs.{RunInv, run_start}
-use Rattle.form.proofs.WalkAnswers.{told_stop, told_ended, told_parent, ample, scant, part_room}
-use Rattle.form.proofs.Loops.{fits, items_short, items_walk, items_fault, items_end, names_end, names_none, names_fall, names_short}
-use Rattle.form.proofs.Loops.{names_walk, names_fault}
-use Rattle.form.proofs.CommandKinds.{kind_simple}
-use Rattle.form.proofs.TypeLaws.{simple_level, fields_law, fields_flat, tys_law, tys_flat, t_none, t_level, t_short, t_other}
-use Rattle.form.proofs.TypeLaws.{t_simple_lem, t_one_run, t_context_lem, t_function_lem}
+use Rattle.form.proofs.Runs.{RunInv}
 use Rattle.form.proofs.walk.+walk_fields_walk_type_walk_types.Given as goal
 
 abbrev pub decreases-walk_fields : goal.decreases-walk_fields

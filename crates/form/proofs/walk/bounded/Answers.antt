@@ -1,9 +1,7 @@
 -- `form::walk::bounded` meets its contract: two tests, one after the other.
 -- Assumes nothing.
-use borrow.Author.Rules.{rules}
 use Prim.Native.Nat.{◌+◌, ◌-◌}
 use lib.ListN.{length, get_or}
-use native.Mathlib.Omega.{arith}
 use borrow.Author.Tests.{le-leb, lt-leb}
 use Rattle.form.proofs.walk.bounded.Goals as goal
 

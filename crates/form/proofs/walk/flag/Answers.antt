@@ -1,6 +1,5 @@
 -- `form::walk::flag` meets its contract: an operand byte within its bound ends the leaf after two bytes, one beyond it is a fault.
 -- Assumes nothing.
-use borrow.Author.Rules.{rules}
 use native.Mathlib.Omega.{arith}
 use borrow.Author.Tests.{le-leb, lt-leb}
 use Rattle.form.specs.Faults.{Shape}

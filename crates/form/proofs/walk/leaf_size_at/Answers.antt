@@ -1,6 +1,5 @@
 -- `form::walk::leaf_size_at` meets its contract: where no such leaf's command stands there is none, and each arm's size and tests are those of the command that stands there.
 -- Assumes nothing.
-use borrow.Author.Rules.{rules}
 use Prim.Native.Nat.{ℕ, ◌+◌, ◌-◌}
 use mathlib.Core.Path.{refl, sym, ap, ◌∙◌}
 use native.Mathlib.Omega.{arith}

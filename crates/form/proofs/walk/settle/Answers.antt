@@ -1,6 +1,5 @@
 -- `form::walk::settle` meets its contract: the answer to a whole, by the walk's size against the length.
 -- Assumes nothing.
-use borrow.Author.Rules.{rules}
 use native.Mathlib.Omega.{arith}
 use Rattle.form.proofs.Whole.{settled_fault, settled_end, settled_left}
 use Rattle.form.proofs.walk.settle.Goals as goal

@@ -1,7 +1,6 @@
 -- `form::walk::simple_at` meets its contract: 1 where the command is that of a simple type, 0 where the level, the byte or such a command is missing.
 -- Assumes nothing.
 use native.Mathlib.Omega.{arith}
-use borrow.Author.Rules.{rules}
 use Rattle.form.proofs.Leaves.{simple_none, simple_some}
 use Rattle.form.proofs.walk.simple_at.Goals as goal
 

@@ -12,7 +12,6 @@ use Rattle.form.specs.Layout.{k_range, k_list, k_context, k_definition, k_built_
 use Rattle.form.specs.Read.{read_t, read_tys, read_params}
 use Rattle.form.specs.Walks.{walk_by, pair_walk, flag_walk}
 use Rattle.form.proofs.CommandKinds.{arm, leaf_low, leaf_decimal}
-use mathlib.Core.Logic.{⊎_elim}
 use Rattle.form.proofs.WalkAnswers.{told_stop, told_ended, told_parent, told_within, part_room, no_parent}
 use Rattle.form.proofs.ValueLaws.{v_none, v_level, v_short, v_other, v_leaf_is, v_built_in_is, v_definition, v_type_is, v_irrelevant_is}
 use Rattle.form.proofs.walk.walk_other.Goals as goal

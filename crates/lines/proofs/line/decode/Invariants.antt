@@ -1,5 +1,4 @@
 -- `lines::line::decode` meets its contract: the digits that were read are two for each byte; the data keep their length. Assumes nothing.
-use borrow.Author.Rules.{rules}
 use Prim.Native.Nat.{◌+◌, ◌≤◌, ◌-◌}
 use lib.ListN.{length}
 use mathlib.Core.Path.{◌≡◌}

@@ -1,5 +1,4 @@
 -- `lines::line::read` meets its contract: each turn goes on; the data keep their length. Assumes nothing.
-use borrow.Author.Rules.{rules}
 use Prim.Native.Nat.{◌≤◌, ◌-◌}
 use lib.ListN.{length}
 use mathlib.Core.Path.{◌≡◌}

@@ -1,9 +1,7 @@
 -- `lines::text::encode` meets its contract: the output keeps its length. Assumes nothing.
-use borrow.Author.Rules.{rules}
 use Prim.Native.Nat.{◌≤◌, ◌-◌}
-use lib.ListN.{length, length-set}
+use lib.ListN.{length}
 use mathlib.Core.Path.{◌≡◌}
-use native.Mathlib.Omega.{arith}
 use Rattle.lines.proofs.text.encode.Given as goal
 
 abbrev pub invariant-loop-k : goal.invariant-loop-k

@@ -1,5 +1,4 @@
 -- `lines::text::line_end` meets its contract: the measure is what is left of the length. Assumes nothing.
-use borrow.Author.Rules.{rules}
 use Prim.Native.Nat.{◌≤◌, ◌-◌}
 use lib.ListN.{length}
 use Rattle.lines.proofs.text.line_end.Given as goal

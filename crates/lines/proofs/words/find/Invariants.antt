@@ -1,5 +1,4 @@
 -- `lines::words::find` is safe and ends: the measure is the number of words left. Assumes nothing.
-use borrow.Author.Rules.{rules}
 use Prim.Native.Nat.{◌≤◌, ◌-◌}
 use Rattle.lines.proofs.words.find.Given as goal
 

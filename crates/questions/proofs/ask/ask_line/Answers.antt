@@ -1,7 +1,6 @@
 -- `questions::ask::ask_line` meets its contract: where no word stands, `close` leaves the line as it is, so nothing is asked.
 -- Assumes nothing.
 use mathlib.Core.Path.{◌∙◌}
-use borrow.Author.Rules.{rules}
 use Rattle.questions.proofs.ask.ask_line.Goals as goal
 
 pub returns-then-whole-ne0 : goal.returns-then-whole-ne0

@@ -1,9 +1,7 @@
 -- `questions::ask::read_path` meets its contract: the measure is the number of names left. Assumes nothing.
-use borrow.Author.Rules.{rules}
 use Prim.Native.Nat.{◌≤◌, ◌-◌}
 use lib.ListN.{length}
 use mathlib.Core.Path.{◌≡◌}
-use native.Mathlib.Omega.{arith}
 use Rattle.questions.proofs.ask.read_path.Given as goal
 
 abbrev pub invariant-loop-k : goal.invariant-loop-k

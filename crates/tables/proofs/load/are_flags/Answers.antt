@@ -1,9 +1,6 @@
 -- `tables::load::are_flags` meets its contract: what is left of the bytes decides what all of them decide (`Flags`).
 -- Assumes nothing.
-use Rattle.tables.proofs.Loops.{Flags, flags_start, flags_fails, flags_next, flags_end}
-use lib.ListN.{length}
-use Prim.Native.Nat.{◌-◌}
-use borrow.Author.Rules.{rules}
+use Rattle.tables.proofs.Loops.{flags_start, flags_fails, flags_next, flags_end}
 use native.Mathlib.Omega.{arith}
 use Rattle.tables.proofs.load.are_flags.Goals as goal
 

@@ -1,9 +1,7 @@
 -- `tables::load::are_flags` meets its contract: what is left of the bytes decides what all of them decide (`Flags`).
-use Rattle.tables.proofs.Loops.{Flags, flags_start, flags_fails, flags_next, flags_end}
+use Rattle.tables.proofs.Loops.{Flags}
 use lib.ListN.{length}
 use Prim.Native.Nat.{◌-◌}
-use borrow.Author.Rules.{rules}
-use native.Mathlib.Omega.{arith}
 use Rattle.tables.proofs.load.are_flags.Given as goal
 
 abbrev pub invariant-loop-i : goal.invariant-loop-i

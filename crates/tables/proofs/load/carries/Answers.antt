@@ -1,6 +1,5 @@
 -- `tables::load::carries` meets its contract: each return is a case of the definition's test of two rows.
 -- Assumes nothing.
-use borrow.Author.Rules.{rules}
 use Rattle.tables.proofs.CallContracts.{carries_own, carries_none, mutual_rows, carries_through}
 use Rattle.tables.proofs.load.carries.Goals as goal
 

@@ -1,12 +1,10 @@
 -- `tables::load::is_joined_at` meets its contract: what is left of the types before it decides (`Checking`).
 -- Assumes nothing.
 use mathlib.Core.Path.{sym, ◌∙◌}
-use Rattle.tables.proofs.Loops.{Checking, checking_start, checking_fails, checking_next, checking_end}
-use Prim.Native.Nat.{◌-◌}
+use Rattle.tables.proofs.Loops.{checking_start, checking_fails, checking_next, checking_end}
 use lib.ListN.{get_or}
 use lib.Bits.{bit_and}
-use Rattle.tables.specs.Rows.{is_row, joined_at}
-use borrow.Author.Rules.{rules}
+use Rattle.tables.specs.Rows.{is_row}
 use native.Mathlib.Omega.{arith}
 use Rattle.tables.proofs.load.is_joined_at.Goals as goal
 

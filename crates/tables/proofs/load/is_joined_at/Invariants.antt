@@ -1,13 +1,9 @@
 -- `tables::load::is_joined_at` meets its contract: what is left of the types before it decides (`Checking`).
-use borrow.Author.Tests.{not-true, not-false}
-use mathlib.Core.Path.{sym, ◌∙◌}
-use Rattle.tables.proofs.Loops.{Checking, checking_start, checking_fails, checking_next, checking_end}
+use Rattle.tables.proofs.Loops.{Checking}
 use Prim.Native.Nat.{◌-◌}
 use lib.ListN.{get_or}
 use lib.Bits.{bit_and}
 use Rattle.tables.specs.Rows.{is_row, joined_at}
-use borrow.Author.Rules.{rules}
-use native.Mathlib.Omega.{arith}
 use Rattle.tables.proofs.load.is_joined_at.Given as goal
 
 abbrev pub invariant-loop-j : goal.invariant-loop-j

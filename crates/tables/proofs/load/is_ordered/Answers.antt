@@ -1,10 +1,8 @@
 -- `tables::load::is_ordered` meets its contract: what is left of the ten types decides (`Checking`).
 -- Assumes nothing.
 use mathlib.Core.Path.{sym, ◌∙◌}
-use Rattle.tables.proofs.Loops.{Checking, checking_start, checking_fails, checking_next, checking_end}
-use Prim.Native.Nat.{◌-◌}
-use Rattle.tables.specs.Rows.{ordered_at, all_from}
-use borrow.Author.Rules.{rules}
+use Rattle.tables.proofs.Loops.{checking_start, checking_fails, checking_next, checking_end}
+use Rattle.tables.specs.Rows.{ordered_at}
 use native.Mathlib.Omega.{arith}
 use Rattle.tables.proofs.load.is_ordered.Goals as goal
 

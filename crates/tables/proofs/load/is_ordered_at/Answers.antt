@@ -1,11 +1,9 @@
 -- `tables::load::is_ordered_at` meets its contract: three bits, then the loop over the ten types (`Checking`).
 -- Assumes nothing.
 use mathlib.Core.Path.{sym, ◌∙◌}
-use Rattle.tables.proofs.Loops.{Checking, checking_start, checking_fails, checking_next, checking_end}
+use Rattle.tables.proofs.Loops.{checking_start, checking_fails, checking_next, checking_end}
 use Rattle.tables.proofs.CallContracts.{order_own, order_null, order_any, order_rest}
-use Prim.Native.Nat.{◌-◌}
-use Rattle.tables.specs.Rows.{carries_at, all_from}
-use borrow.Author.Rules.{rules}
+use Rattle.tables.specs.Rows.{carries_at}
 use native.Mathlib.Omega.{arith}
 use Rattle.tables.proofs.load.is_ordered_at.Goals as goal
 

@@ -1,12 +1,9 @@
 -- `tables::load::is_row` meets its contract: what is left of the rows decides (`Finding`).
 -- Assumes nothing.
-use Rattle.tables.proofs.Loops.{Finding, finding_start, finding_found, finding_next, finding_end}
-use Prim.Native.Nat.{◌-◌}
+use Rattle.tables.proofs.Loops.{finding_start, finding_found, finding_next, finding_end}
 use lib.ListN.{get_or}
 use lib.Dec.{eqb}
 use borrow.Author.Tests.{eq-eqb, ne_eqb}
-use Rattle.tables.specs.Rows.{is_row}
-use borrow.Author.Rules.{rules}
 use native.Mathlib.Omega.{arith}
 use Rattle.tables.proofs.load.is_row.Goals as goal
 

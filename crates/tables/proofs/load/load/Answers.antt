@@ -1,6 +1,5 @@
 -- `tables::load::load` meets its contract: the tests come in the sequence of the refusals; what they test of the rows is what document 02 asks (`ordered_rows_lem`, `joined_rows_lem`).
 -- Assumes nothing.
-use borrow.Author.Rules.{rules}
 use mathlib.Core.Path.{sym, ap, ◌∙◌}
 use Rattle.tables.proofs.CallContracts.{loads_refused_length, loads_refused_byte, loads_refused_order, loads_refused_join, loads_done, rows_are}
 use Rattle.form.specs.Outcome.{done}
@@ -28,12 +27,11 @@ row-requires-2 c =
     (c.if-table-ne-TABLE_BYTES.false, omega arith, (sym c.are_flags.ensures ∙ c.if-not-are_flags.false))
 
 pub row-requires-3 : goal.row-requires-3
-row-requires-3 c =
-    (
-      c.if-table-ne-TABLE_BYTES.false,
-      omega arith,
-      (sym c.are_flags.ensures ∙ c.if-not-are_flags.false),
-    )
+row-requires-3 c = (
+  c.if-table-ne-TABLE_BYTES.false,
+  omega arith,
+  (sym c.are_flags.ensures ∙ c.if-not-are_flags.false),
+)
 
 pub row-requires-4 : goal.row-requires-4
 row-requires-4 c =

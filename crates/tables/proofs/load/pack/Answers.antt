@@ -1,10 +1,9 @@
 -- `tables::load::pack` meets its contract: 64 bits, the highest first (`Packing`).
 -- Assumes nothing.
-use Rattle.tables.proofs.Loops.{Packing, packing_start, packing_room, packing_next, packing_end}
+use Rattle.tables.proofs.Loops.{packing_start, packing_room, packing_next, packing_end}
 use Rattle.order.specs.Table.{place}
 use Rattle.order.proofs.Packed.{place_lt}
 use Prim.Native.Nat.{◌-◌}
-use borrow.Author.Rules.{rules}
 use native.Mathlib.Omega.{arith}
 use Rattle.tables.proofs.load.pack.Goals as goal
 

@@ -1,6 +1,5 @@
 -- `tables::load::place` meets its contract: 0 on the diagonal, otherwise the byte.
 -- Assumes nothing.
-use borrow.Author.Rules.{rules}
 use Rattle.tables.proofs.CallContracts.{place_diagonal, place_other}
 use Rattle.order.proofs.Packed.{flag}
 use Prim.Native.Nat.{◌+◌, ◌*◌, ◌/◌, ◌%◌}

@@ -1,11 +1,7 @@
 -- `tables::load::row` meets its contract: ten bits, the highest first (`Packing`).
-use Rattle.tables.proofs.Loops.{Packing, packing_start, packing_room, packing_next, packing_end}
-use Rattle.order.proofs.Packed.{flag}
-use Prim.Native.Nat.{ℕ, ◌+◌, ◌*◌, ◌-◌}
+use Rattle.tables.proofs.Loops.{Packing}
+use Prim.Native.Nat.{◌+◌, ◌*◌}
 use lib.ListN.{get_or}
-use mathlib.Core.Path.{ap}
-use borrow.Author.Rules.{rules}
-use native.Mathlib.Omega.{arith}
 use Rattle.tables.proofs.load.row.Given as goal
 
 abbrev pub invariant-loop-j : goal.invariant-loop-j

@@ -1,6 +1,5 @@
 -- `tables::readings::conforms` meets its contract: the table's bit, or Null, or Any, or equal, in the definition's sequence.
 -- Assumes nothing.
-use borrow.Author.Rules.{rules}
 use Rattle.tables.proofs.Related.{below_related, below_null, below_any, below_same}
 use Rattle.tables.proofs.readings.conforms.Goals as goal
 

@@ -1,6 +1,5 @@
 -- `tables::readings::is_below` meets its contract: the direction turns the two arguments.
 -- Assumes nothing.
-use borrow.Author.Rules.{rules}
 use Prim.Native.Nat.{◌-◌}
 use mathlib.Core.Path.{sym, ap, ◌∙◌}
 use Rattle.order.specs.Order.{toward, below_in}

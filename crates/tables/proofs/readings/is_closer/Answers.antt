@@ -1,6 +1,5 @@
 -- `tables::readings::is_closer` meets its contract: three tests, in the definition's sequence.
 -- Assumes nothing.
-use borrow.Author.Rules.{rules}
 use Prim.Native.Nat.{◌-◌}
 use mathlib.Core.Path.{sym, ap, ◌∙◌}
 use mathlib.Core.Bool.{◌&&◌}

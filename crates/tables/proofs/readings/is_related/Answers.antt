@@ -1,6 +1,5 @@
 -- `tables::readings::is_related` meets its contract: the tests come in the definition's sequence; two of the eight types keep the bit's place below 64.
 -- Assumes nothing.
-use borrow.Author.Rules.{rules}
 use mathlib.Core.Path.{sym, ◌∙◌}
 use Rattle.tables.proofs.Related.{inner_range, related_document, related_row, related_column, related_bit}
 use native.Mathlib.Omega.{arith}

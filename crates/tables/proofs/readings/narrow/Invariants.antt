@@ -1,10 +1,8 @@
 -- `tables::readings::narrow` meets its contract: what is left of the loop gives what all of it gives (`Narrowing`).
-use Rattle.tables.proofs.Related.{bound_code, Narrowing, narrowing_start, narrowing_taken, narrowing_left, narrowing_end}
+use Rattle.tables.proofs.Related.{Narrowing}
 use Prim.Native.Nat.{◌-◌}
 use Rattle.form.specs.Trees.{code}
 use Rattle.order.specs.Order.{top, toward, closer, narrowed}
-use borrow.Author.Rules.{rules}
-use native.Mathlib.Omega.{arith}
 use Rattle.tables.proofs.readings.narrow.Given as goal
 
 abbrev pub invariant-loop-u : goal.invariant-loop-u

@@ -1,6 +1,5 @@
 -- `tables::readings::nearest` meets its contract: without a table, and outside the eight types, the greatest type; otherwise the loop.
 -- Assumes nothing.
-use borrow.Author.Rules.{rules}
 use mathlib.Core.Path.{sym, ◌∙◌}
 use Rattle.tables.proofs.Related.{inner_range, nearest_document, nearest_row, nearest_column, nearest_found}
 use native.Mathlib.Omega.{arith}
@@ -24,13 +23,12 @@ returns-then-not-is_inner-2 c =
     (sym c.is_inner.ensures ∙ c.if-not-is_inner.false) (sym c.is_inner-2.ensures ∙ c.if-not-is_inner-2.true)
 
 pub narrow-requires : goal.narrow-requires
-narrow-requires c =
-    (
-      omega
-          (arith, (inner_range c.args.c c.is_inner.result c.is_inner.ensures c.if-not-is_inner.false).0),
-      omega
-          (arith, (inner_range c.args.d c.is_inner-2.result c.is_inner-2.ensures c.if-not-is_inner-2.false).0),
-    )
+narrow-requires c = (
+  omega
+      (arith, (inner_range c.args.c c.is_inner.result c.is_inner.ensures c.if-not-is_inner.false).0),
+  omega
+      (arith, (inner_range c.args.d c.is_inner-2.result c.is_inner-2.ensures c.if-not-is_inner-2.false).0),
+)
 
 pub returns : goal.returns
 returns c =

@@ -2,30 +2,26 @@
 -- One template for all: the loops keep that the verdict on the whole is that on what is left, behind what was passed (`NamesGo`, `SigGo`); every 0 is a law that the test fails
 -- or that one of the two is not read.
 -- Assumes nothing.
-use Prim.Native.Nat.{ℕ, ◌<◌, ◌+◌, ◌*◌, ◌-◌, ◌≤◌}
+use Prim.Native.Nat.{ℕ, ◌<◌, ◌+◌, ◌≤◌}
 use borrow.Author.Rules.{rules}
 use native.Mathlib.Omega.{arith}
 use mathlib.Core.Path.{◌≡◌, refl, sym, ◌∙◌}
 use mathlib.Core.Bool.{false}
-use mathlib.Core.Logic.{⊎_elim, inl, inr}
+use mathlib.Core.Logic.{inl, inr}
 use lib.ListN.{length}
 use Rattle.form.specs.Limits.{name_width}
 use Rattle.form.proofs.WalkAnswers.{part_room}
 use Rattle.order.specs.Order.{order_of}
 use Rattle.order.proofs.Ends.{reading_ends}
 use Rattle.order.specs.Types.{le}
-use Rattle.order.specs.Size.{size, size_fields}
-use Rattle.types.specs.At.{type_at, fields_at, sig_at, size_sig}
-use Rattle.types.specs.Conform.{conform_by, entries, ignores_at, le_sig, any_two}
-use Rattle.form.specs.Trees.{no_fields, field}
-use Rattle.order.specs.Ascending.{AscFields}
+use Rattle.types.specs.Conform.{ignores_at, any_two}
 use Rattle.types.proofs.Pairs.{pair, pair_in, sized_in}
-use Rattle.types.proofs.SortedNames.{readable_type, fields_run, NamesGo, names_start, cut_a, cut_b, falls_a, names_left, names_done}
+use Rattle.types.proofs.SortedNames.{readable_type, fields_run, names_start, cut_a, cut_b, falls_a, names_left, names_done}
 use Rattle.types.proofs.SortedNames.{names_missing, names_unread, names_skip, b_more, names_apart, names_common}
 use Rattle.types.proofs.EntryTests.{fields_tests}
 use Rattle.types.proofs.TypeConformance.{simple_pair, behind_pair, sized_part, unsized_part, no_level, no_a, no_b, no_command_lem, beyond}
 use Rattle.types.proofs.TypeConformance.{no_context, no_function, no_other, no_counts, met_table, met_null, met_any, met_simple, met_list, met_range}
-use Rattle.types.proofs.TypeConformance.{met_context, met_function, behind_yes, behind_no, passed_over, SigGo, sig_start, sig_turn}
+use Rattle.types.proofs.TypeConformance.{met_context, met_function, behind_yes, behind_no, passed_over, sig_start, sig_turn}
 use Rattle.types.proofs.TypeConformance.{sig_apart, sig_done, sig_last_apart, compared_strict, compared_some}
 use Rattle.types.proofs.compare.+conform_fields_conform_inner_conform_sig_conforms.Goals as goal
 use Rattle.types.proofs.compare.+conform_fields_conform_inner_conform_sig_conforms.Goals.{conform_fields-Joined-j-m, conform_fields-then-j-m+else-b-bt-lt-NAME_WIDTH, conform_fields-else-j-m, conform_sig-Joined-count-eq0, conform_sig-then-count-eq0+else-not-is_strict, conform_sig-else-count-eq0}
@@ -33,16 +29,16 @@ use Rattle.types.proofs.compare.+conform_fields_conform_inner_conform_sig_confor
 there : (t : ℕ) (c : conform_fields-Joined-j-m t) → c.loop-i.j < c.args.m → c.loop-i.bt + name_width ≤ length c.args.b.now
 there t c h =
     elim c.if-j-m.branch [
-      conform_fields-then-j-m+else-b-bt-lt-NAME_WIDTH w ↦ omega (arith, w.if-b-bt-lt-NAME_WIDTH.false, h)
-    | conform_fields-else-j-m w ↦ absurd (omega (arith, w.if-j-m.false, h))
+      | conform_fields-then-j-m+else-b-bt-lt-NAME_WIDTH w ↦ omega (arith, w.if-b-bt-lt-NAME_WIDTH.false, h)
+      | conform_fields-else-j-m w ↦ absurd (omega (arith, w.if-j-m.false, h))
     ]
 
 looked_at : (t : ℕ) (c : conform_sig-Joined-count-eq0 t) → ignores_at (order_of c.args.reading) c.args.count ≡ false
 looked_at t c =
     elim c.if-count-eq0.branch [
-      conform_sig-then-count-eq0+else-not-is_strict w ↦
-        compared_strict (order_of c.args.reading) c.args.count (sym w.is_strict.ensures ∙ w.if-not-is_strict.false)
-    | conform_sig-else-count-eq0 w ↦ compared_some (order_of c.args.reading) c.args.count w.if-count-eq0.false
+      | conform_sig-then-count-eq0+else-not-is_strict w ↦
+          compared_strict (order_of c.args.reading) c.args.count (sym w.is_strict.ensures ∙ w.if-not-is_strict.false)
+      | conform_sig-else-count-eq0 w ↦ compared_some (order_of c.args.reading) c.args.count w.if-count-eq0.false
     ]
 
 pub conform_fields-loop-i-init : goal.conform_fields-loop-i-init
@@ -626,24 +622,22 @@ conforms-returns-then-e-f t c =
     c.if-e-eq-NULL_TYPE.false c.if-f-eq-ANY_TYPE.false c.is_related.result c.is_related.ensures c.if-is_related.false
 
 pub conforms-conform_inner-requires : goal.conforms-conform_inner-requires
-conforms-conform_inner-requires t c =
-    (
-      search rules,
-      (
-        part_room c.args.a.now 1 (omega arith) (omega (arith, c.well_formed)),
-        part_room c.args.b.now 1 (omega arith) (omega (arith, c.well_formed)),
-      ),
-    )
+conforms-conform_inner-requires t c = (
+  search rules,
+  (
+    part_room c.args.a.now 1 (omega arith) (omega (arith, c.well_formed)),
+    part_room c.args.b.now 1 (omega arith) (omega (arith, c.well_formed)),
+  ),
+)
 
 pub conforms-conform_inner-requires-in-43 : goal.conforms-conform_inner-requires-in-43
-conforms-conform_inner-requires-in-43 t c =
-    (
-      search rules,
-      (
-        part_room c.args.a.now 1 (omega arith) (omega (arith, c.well_formed)),
-        part_room c.args.b.now 1 (omega arith) (omega (arith, c.well_formed)),
-      ),
-    )
+conforms-conform_inner-requires-in-43 t c = (
+  search rules,
+  (
+    part_room c.args.a.now 1 (omega arith) (omega (arith, c.well_formed)),
+    part_room c.args.b.now 1 (omega arith) (omega (arith, c.well_formed)),
+  ),
+)
 
 pub conforms-returns-then-a-lt3 : goal.conforms-returns-then-a-lt3
 conforms-returns-then-a-lt3 t c =
@@ -661,14 +655,13 @@ conforms-returns-then-b-lt3 t c =
     (λ x y. omega arith)
 
 pub conforms-conform_fields-requires : goal.conforms-conform_fields-requires
-conforms-conform_fields-requires t c =
-    (
-      search rules,
-      (
-        part_room c.args.a.now 3 (omega arith) (omega (arith, c.well_formed)),
-        part_room c.args.b.now 3 (omega arith) (omega (arith, c.well_formed)),
-      ),
-    )
+conforms-conform_fields-requires t c = (
+  search rules,
+  (
+    part_room c.args.a.now 3 (omega arith) (omega (arith, c.well_formed)),
+    part_room c.args.b.now 3 (omega arith) (omega (arith, c.well_formed)),
+  ),
+)
 
 pub conforms-returns-then-a-lt2 : goal.conforms-returns-then-a-lt2
 conforms-returns-then-a-lt2 t c =
@@ -692,14 +685,13 @@ conforms-returns-then-k-b t c =
     (sym c.if-e-f.false ∙ c.in-45.is) c.if-k-b.true
 
 pub conforms-conform_sig-requires : goal.conforms-conform_sig-requires
-conforms-conform_sig-requires t c =
-    (
-      search rules,
-      (
-        part_room c.args.a.now 2 (omega arith) (omega (arith, c.well_formed)),
-        part_room c.args.b.now 2 (omega arith) (omega (arith, c.well_formed)),
-      ),
-    )
+conforms-conform_sig-requires t c = (
+  search rules,
+  (
+    part_room c.args.a.now 2 (omega arith) (omega (arith, c.well_formed)),
+    part_room c.args.b.now 2 (omega arith) (omega (arith, c.well_formed)),
+  ),
+)
 
 pub conforms-returns-in-42 : goal.conforms-returns-in-42
 conforms-returns-in-42 t c =

@@ -1,30 +1,14 @@
 -- The cycle `types::compare::conforms`, `conform_inner`, `conform_sig`, `conform_fields` meets its contracts; the measure is twice the level that is left, one more for the other three.
-use Prim.Native.Nat.{ℕ, ◌<◌, ◌+◌, ◌*◌, ◌-◌, ◌≤◌}
-use borrow.Author.Rules.{rules}
-use borrow.Author.Tests.{not-true, not-false}
-use native.Mathlib.Omega.{arith}
-use mathlib.Core.Path.{◌≡◌, refl, sym, ◌∙◌}
-use mathlib.Core.Bool.{false}
-use mathlib.Core.Logic.{⊎_elim, inl, inr}
-use lib.ListN.{length}
-use Rattle.form.specs.Limits.{name_width}
-use Rattle.form.proofs.WalkAnswers.{part_room}
+use Prim.Native.Nat.{◌+◌, ◌*◌, ◌-◌}
 use Rattle.order.specs.Order.{order_of}
-use Rattle.order.proofs.Ends.{reading_ends}
 use Rattle.order.specs.Types.{le}
 use Rattle.order.specs.Size.{size, size_fields}
 use Rattle.types.specs.At.{type_at, fields_at, sig_at, size_sig}
-use Rattle.types.specs.Conform.{conform_by, entries, ignores_at, le_sig, any_two}
+use Rattle.types.specs.Conform.{conform_by, entries, ignores_at, le_sig}
 use Rattle.form.specs.Trees.{no_fields, field}
 use Rattle.order.specs.Ascending.{AscFields}
-use Rattle.types.proofs.Pairs.{pair, pair_in, sized_in}
-use Rattle.types.proofs.SortedNames.{readable_type, fields_run, NamesGo, names_start, cut_a, cut_b, falls_a, names_left, names_done}
-use Rattle.types.proofs.SortedNames.{names_missing, names_unread, names_skip, b_more, names_apart, names_common}
-use Rattle.types.proofs.EntryTests.{fields_tests}
-use Rattle.types.proofs.TypeConformance.{simple_pair, behind_pair, sized_part, unsized_part, no_level, no_a, no_b, no_command_lem, beyond}
-use Rattle.types.proofs.TypeConformance.{no_context, no_function, no_other, no_counts, met_table, met_null, met_any, met_simple, met_list, met_range}
-use Rattle.types.proofs.TypeConformance.{met_context, met_function, behind_yes, behind_no, passed_over, SigGo, sig_start, sig_turn}
-use Rattle.types.proofs.TypeConformance.{sig_apart, sig_done, sig_last_apart, compared_strict, compared_some}
+use Rattle.types.proofs.SortedNames.{NamesGo}
+use Rattle.types.proofs.TypeConformance.{SigGo}
 use Rattle.types.proofs.compare.+conform_fields_conform_inner_conform_sig_conforms.Given as goal
 
 abbrev pub decreases-conform_fields : goal.decreases-conform_fields

@@ -1,6 +1,5 @@
 -- `types::compare::passes` meets its contract: the pass answers yes exactly where both sizes are the lengths of the two arguments, within the limit.
 -- Assumes nothing.
-use borrow.Author.Rules.{rules}
 use Rattle.order.specs.Order.{order_of}
 use Rattle.order.specs.Types.{le}
 use Rattle.types.specs.Calls.{is_conformant_by}

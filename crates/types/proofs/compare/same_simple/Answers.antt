@@ -1,6 +1,5 @@
 -- `types::compare::same_simple` meets its contract: a simple type by the short way, and the same command on the other side.
 -- Assumes nothing.
-use borrow.Author.Rules.{rules}
 use native.Mathlib.Omega.{arith}
 use Rattle.types.proofs.TypeConformance.{simple_none, simple_end, simple_apart, simple_both}
 use Rattle.types.proofs.compare.same_simple.Goals as goal

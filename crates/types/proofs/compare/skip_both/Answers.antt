@@ -1,6 +1,5 @@
 -- `types::compare::skip_both` meets its contract: both sizes where both are read, 0 where one is not.
 -- Assumes nothing.
-use borrow.Author.Rules.{rules}
 use Rattle.types.specs.Conform.{any_two}
 use Rattle.types.proofs.TypeConformance.{sized, unsized, two_read, never}
 use Rattle.types.proofs.compare.skip_both.Goals as goal

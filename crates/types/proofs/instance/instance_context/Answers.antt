@@ -1,6 +1,5 @@
 -- `types::instance::instance_context` meets its contract: the pass over both lists of names answers yes exactly where both sizes are the lengths of the two arguments.
 -- Assumes nothing.
-use borrow.Author.Rules.{rules}
 use native.Mathlib.Omega.{arith}
 use Rattle.form.specs.Limits.{type_levels}
 use Rattle.form.proofs.WalkAnswers.{part_room}
@@ -24,11 +23,10 @@ unfolding instance_of
 returns-then-b-ne-CONTEXT_TYPE c = context_apart c.args.a.now c.args.b.now c.requires.3 c.if-b-ne-CONTEXT_TYPE.true
 
 pub instance_fields-size-requires : goal.instance_fields-size-requires
-instance_fields-size-requires c =
-    (
-      part_room c.args.a.now 3 (omega arith) (omega (arith, c.well_formed)),
-      part_room c.args.b.now 3 (omega arith) (omega (arith, c.well_formed)),
-    )
+instance_fields-size-requires c = (
+  part_room c.args.a.now 3 (omega arith) (omega (arith, c.well_formed)),
+  part_room c.args.b.now 3 (omega arith) (omega (arith, c.well_formed)),
+)
 
 pub returns-then-size-eq0 : goal.returns-then-size-eq0
 unfolding instance_of

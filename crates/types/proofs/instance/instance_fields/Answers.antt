@@ -1,20 +1,13 @@
 -- `types::instance::instance_fields` meets its contract: two ascending lists of names in step, as in conformance, with Null or the equal type in place of conformance.
 -- Assumes nothing.
-use Prim.Native.Nat.{◌+◌, ◌-◌, ◌<◌, ◌≤◌}
-use borrow.Author.Rules.{rules}
+use Prim.Native.Nat.{◌+◌, ◌<◌, ◌≤◌}
 use native.Mathlib.Omega.{arith}
 use mathlib.Core.Path.{refl}
-use mathlib.Core.Logic.{⊎_elim}
 use lib.ListN.{length}
 use Rattle.form.specs.Limits.{name_width}
 use Rattle.order.specs.Document.{null_or_same}
-use Rattle.order.specs.Size.{size, size_fields}
-use Rattle.types.specs.At.{type_at, fields_at}
-use Rattle.types.specs.Conform.{conform_by, entries}
-use Rattle.form.specs.Trees.{no_fields, field}
-use Rattle.order.specs.Ascending.{AscFields}
 use Rattle.types.proofs.Pairs.{pair, pair_in, sized_in}
-use Rattle.types.proofs.SortedNames.{readable_type, fields_run, NamesGo, names_start, cut_a, cut_b, falls_a, names_left, names_done}
+use Rattle.types.proofs.SortedNames.{readable_type, fields_run, names_start, cut_a, cut_b, falls_a, names_left, names_done}
 use Rattle.types.proofs.SortedNames.{names_missing, names_unread, names_skip, b_more, names_apart, names_common}
 use Rattle.types.proofs.EntryTests.{fields_tests}
 use Rattle.types.proofs.TypeConformance.{sized_part, unsized_part}
@@ -24,8 +17,8 @@ use Rattle.types.proofs.instance.instance_fields.Goals.{Joined-j-m, then-j-m+els
 there : (c : Joined-j-m) → c.loop-i.j < c.args.m → c.loop-i.bt + name_width ≤ length c.args.b.now
 there c h =
     elim c.if-j-m.branch [
-      then-j-m+else-b-bt-lt-NAME_WIDTH w ↦ omega (arith, w.if-b-bt-lt-NAME_WIDTH.false, h)
-    | else-j-m w ↦ absurd (omega (arith, w.if-j-m.false, h))
+      | then-j-m+else-b-bt-lt-NAME_WIDTH w ↦ omega (arith, w.if-b-bt-lt-NAME_WIDTH.false, h)
+      | else-j-m w ↦ absurd (omega (arith, w.if-j-m.false, h))
     ]
 
 pub loop-i-init : goal.loop-i-init

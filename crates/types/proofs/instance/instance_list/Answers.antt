@@ -1,7 +1,6 @@
 -- `types::instance::instance_list` meets its contract: a list of Any takes every list type, and two types are equal exactly when their bytes are,
 -- since accepted types are their encodings.
 -- Assumes nothing.
-use borrow.Author.Rules.{rules}
 use mathlib.Core.Bool.{true≢false}
 use mathlib.Core.Path.{sym, ◌∙◌}
 use Rattle.form.proofs.Whole.{bytes_of}

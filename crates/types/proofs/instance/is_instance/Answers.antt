@@ -1,6 +1,5 @@
 -- `types::instance::is_instance` meets its contract: within the limits by the first command; what is no list and no context is an instance of nothing.
 -- Assumes nothing.
-use borrow.Author.Rules.{rules}
 use Rattle.order.specs.Document.{is_instance_of}
 use Rattle.types.specs.Calls.{instance_of}
 use Rattle.types.proofs.TwoArguments.{long_first, long_second}

@@ -1,6 +1,5 @@
 -- `types::instance::null_or_same` meets its contract: both are passed over; then Null at the front of the first, or equal bytes, which are equal types.
 -- Assumes nothing.
-use borrow.Author.Rules.{rules}
 use mathlib.Core.Path.{sym, ◌∙◌}
 use mathlib.Core.Bool.{true≢false}
 use Rattle.form.proofs.Numbers.{take_length}

@@ -1,6 +1,5 @@
 -- `types::walk::skip` meets its contract: the short way past a simple type, or the walk, says the size.
 -- Assumes nothing.
-use borrow.Author.Rules.{rules}
 use mathlib.Core.Path.{◌∙◌}
 use Rattle.types.proofs.Entries.{skip_is, skip_short}
 use Rattle.types.proofs.walk.skip.Goals as goal

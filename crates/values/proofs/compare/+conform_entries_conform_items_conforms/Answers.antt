@@ -2,30 +2,23 @@
 -- One template for all: the loops keep that the verdict on the whole is that on what is left, behind what was passed (`NamesGo`, `ItemsGo`); every 0 is a law that the value
 -- does not conform or that one of the two is not read.
 -- Assumes nothing.
-use Prim.Native.Nat.{ℕ, ◌<◌, ◌+◌, ◌*◌, ◌-◌, ◌≤◌}
+use Prim.Native.Nat.{ℕ, ◌<◌, ◌+◌, ◌-◌, ◌≤◌}
 use native.Mathlib.Omega.{arith}
 use mathlib.Core.Path.{refl}
-use mathlib.Core.Logic.{⊎_elim}
 use lib.ListN.{length}
 use Rattle.form.specs.Limits.{name_width}
-use Rattle.form.specs.Trees.{no_entries, entry}
 use Rattle.form.proofs.WalkAnswers.{part_room}
 use Rattle.order.specs.Order.{order_of}
-use Rattle.order.specs.Size.{size_val, size_entries}
 use Rattle.order.specs.Values as order
 use Rattle.order.proofs.Ends.{reading_ends}
-use Rattle.types.specs.At.{type_at, fields_at}
 use Rattle.types.proofs.Pairs.{pair, pair_in, sized_in}
-use Rattle.types.proofs.SortedNames.{readable_type, NamesGo, names_start, cut_a, cut_b, falls_a, names_left, names_done, names_missing}
+use Rattle.types.proofs.SortedNames.{readable_type, names_start, cut_a, cut_b, falls_a, names_left, names_done, names_missing}
 use Rattle.types.proofs.SortedNames.{names_unread, names_skip, b_more, names_apart, names_common}
 use Rattle.types.proofs.TypeConformance.{sized_part}
-use Rattle.values.specs.At.{value_at, items_at, entries_at}
-use Rattle.values.specs.Held.{entries_conform, held_items, held_entries}
 use Rattle.values.proofs.ValueConformance.{readable_value, sized_value, unsized_value, leaf_pair, told_other, other_short, other_rest}
 use Rattle.values.proofs.ValueConformance.{met_any, no_level, no_type, range_apart, list_apart, context_apart, no_interval, no_fields_there}
 use Rattle.values.proofs.ValueConformance.{met_range, met_list, met_context}
-use Rattle.values.proofs.Items.{ItemsGo, items_start, items_apart, items_fit, items_turn, items_done, items_unread, items_none}
-use Rattle.values.proofs.Reading.{Above}
+use Rattle.values.proofs.Items.{items_start, items_apart, items_fit, items_turn, items_done, items_unread, items_none}
 use Rattle.values.proofs.Entries.{entries_run, entries_tests, entries_left, entries_none, entries_low}
 use borrow.Author.Rules.{rules}
 use Rattle.values.proofs.compare.+conform_entries_conform_items_conforms.Goals as goal
@@ -34,8 +27,8 @@ use Rattle.values.proofs.compare.+conform_entries_conform_items_conforms.Goals.{
 there : (t : ℕ) (c : conform_entries-Joined-j-m t) → c.loop-i.j < c.args.m → c.loop-i.bt + name_width ≤ length c.args.t.now
 there t c h =
     elim c.if-j-m.branch [
-      conform_entries-then-j-m+else-t-bt-lt-NAME_WIDTH w ↦ omega (arith, w.if-t-bt-lt-NAME_WIDTH.false, h)
-    | conform_entries-else-j-m w ↦ absurd (omega (arith, w.if-j-m.false, h))
+      | conform_entries-then-j-m+else-t-bt-lt-NAME_WIDTH w ↦ omega (arith, w.if-t-bt-lt-NAME_WIDTH.false, h)
+      | conform_entries-else-j-m w ↦ absurd (omega (arith, w.if-j-m.false, h))
     ]
 
 pub conform_entries-returns-then-m-gt0 : goal.conform_entries-returns-then-m-gt0
@@ -145,16 +138,15 @@ conform_entries-overflow_add-j t c =
     )
 
 pub conform_entries-leaf-k-requires : goal.conform_entries-leaf-k-requires
-conform_entries-leaf-k-requires t c =
-    (
-      omega (arith, c.loop-i.invariant, c.if-v-at-lt-NAME_WIDTH.false),
-      (there t (goal.at.conform_entries-leaf-k-requires t c).Joined-j-m
-          (b_more c.loop-i.invariant 3 0 c.loop-i-test.true
-          (omega (arith, c.loop-i.invariant, c.if-v-at-lt-NAME_WIDTH.false)) c.name_at-name.result c.next_name-next.result
-          c.name_at-name.ensures.0 c.if-name-least.false c.name_at-name.ensures.1
-          c.next_name-next.ensures.value c.if-name-next.false c.if-next-name.false)),
-      c.requires.2,
-    )
+conform_entries-leaf-k-requires t c = (
+  omega (arith, c.loop-i.invariant, c.if-v-at-lt-NAME_WIDTH.false),
+  (there t (goal.at.conform_entries-leaf-k-requires t c).Joined-j-m
+      (b_more c.loop-i.invariant 3 0 c.loop-i-test.true
+      (omega (arith, c.loop-i.invariant, c.if-v-at-lt-NAME_WIDTH.false)) c.name_at-name.result c.next_name-next.result
+      c.name_at-name.ensures.0 c.if-name-least.false c.name_at-name.ensures.1
+      c.next_name-next.ensures.value c.if-name-next.false c.if-next-name.false)),
+  c.requires.2,
+)
 
 pub conform_entries-overflow_add-at-then-k-ne0 : goal.conform_entries-overflow_add-at-then-k-ne0
 conform_entries-overflow_add-at-then-k-ne0 t c =
@@ -350,8 +342,7 @@ conform_items-loop-i-init t c =
     items_start (order_of args.reading) (args.left - 1) args.left args.v.now args.n args.t.now
 
 pub conform_items-leaf-k-requires : goal.conform_items-leaf-k-requires
-conform_items-leaf-k-requires t c =
-    (
+conform_items-leaf-k-requires t c = (
   omega (arith, c.loop-i.invariant),
   omega arith,
   c.requires.2,
@@ -475,15 +466,14 @@ conforms-returns-then-v-gt3-2 t c =
     (λ i j. omega arith)
 
 pub conforms-conform_items-requires : goal.conforms-conform_items-requires
-conforms-conform_items-requires t c =
-    (
-      search rules,
-      (
-        part_room c.args.v.now 3 (omega arith) (omega (arith, c.well_formed)),
-        part_room c.args.t.now 1 (omega arith) (omega (arith, c.well_formed)),
-        omega arith,
-      ),
-    )
+conforms-conform_items-requires t c = (
+  search rules,
+  (
+    part_room c.args.v.now 3 (omega arith) (omega (arith, c.well_formed)),
+    part_room c.args.t.now 1 (omega arith) (omega (arith, c.well_formed)),
+    omega arith,
+  ),
+)
 
 pub conforms-returns-then-d-ne-LIST_TYPE : goal.conforms-returns-then-d-ne-LIST_TYPE
 conforms-returns-then-d-ne-LIST_TYPE t c =
@@ -493,15 +483,14 @@ conforms-returns-then-d-ne-LIST_TYPE t c =
     c.if-d-eq-ANY_TYPE.false c.if-d-ne-LIST_TYPE.true
 
 pub conforms-conform_items-requires-in-10 : goal.conforms-conform_items-requires-in-10
-conforms-conform_items-requires-in-10 t c =
-    (
-      search rules,
-      (
-        part_room c.args.v.now 3 (omega arith) (omega (arith, c.well_formed)),
-        part_room c.args.t.now 1 (omega arith) (omega (arith, c.well_formed)),
-        omega arith,
-      ),
-    )
+conforms-conform_items-requires-in-10 t c = (
+  search rules,
+  (
+    part_room c.args.v.now 3 (omega arith) (omega (arith, c.well_formed)),
+    part_room c.args.t.now 1 (omega arith) (omega (arith, c.well_formed)),
+    omega arith,
+  ),
+)
 
 pub conforms-returns-then-d-ne-CONTEXT_TYPE : goal.conforms-returns-then-d-ne-CONTEXT_TYPE
 conforms-returns-then-d-ne-CONTEXT_TYPE t c =
@@ -518,15 +507,14 @@ conforms-returns-then-t-lt3 t c =
     (λ h. omega arith)
 
 pub conforms-conform_entries-requires : goal.conforms-conform_entries-requires
-conforms-conform_entries-requires t c =
-    (
-      search rules,
-      (
-        part_room c.args.v.now 3 (omega arith) (omega (arith, c.well_formed)),
-        part_room c.args.t.now 3 (omega arith) (omega (arith, c.well_formed)),
-        omega arith,
-      ),
-    )
+conforms-conform_entries-requires t c = (
+  search rules,
+  (
+    part_room c.args.v.now 3 (omega arith) (omega (arith, c.well_formed)),
+    part_room c.args.t.now 3 (omega arith) (omega (arith, c.well_formed)),
+    omega arith,
+  ),
+)
 
 pub conforms-conform_other-requires-in_default : goal.conforms-conform_other-requires-in_default
 conforms-conform_other-requires-in_default t c =

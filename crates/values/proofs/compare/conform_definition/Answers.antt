@@ -6,14 +6,11 @@ use mathlib.Core.Path.{refl}
 use Rattle.form.specs.Limits.{name_width}
 use Rattle.order.specs.Order.{order_of}
 use Rattle.order.specs.Types.{cmp}
-use Rattle.types.specs.At.{sig_at}
 use Rattle.types.proofs.SortedNames.{readable_type}
 use Rattle.types.proofs.Pairs.{pair}
-use Rattle.values.specs.At.{definition_at}
-use Rattle.values.specs.Held.{parameter_way, held_definition}
-use Rattle.values.proofs.Definitions.{DefinitionGo, definition_start, name_there, param_apart, param_fits, param_turn, result_apart}
+use Rattle.values.specs.Held.{parameter_way}
+use Rattle.values.proofs.Definitions.{definition_start, name_there, param_apart, param_fits, param_turn, result_apart}
 use Rattle.values.proofs.Definitions.{result_fits, result_yes}
-use borrow.Author.Rules.{rules}
 use Rattle.values.proofs.compare.conform_definition.Goals as goal
 
 pub loop-i-init : goal.loop-i-init

@@ -1,10 +1,8 @@
 -- `values::compare::conform_other` meets its contract, by the value's command: Any takes all, a null conforms to every type that is read, a leaf to its own type
 -- and to those that a table has above it, a definition by its types, all else to none.
 -- Assumes nothing.
-use borrow.Author.Rules.{rules}
 use mathlib.Core.Path.{◌≡◌, ◌∙◌}
 use mathlib.Core.Bool.{true}
-use mathlib.Core.Logic.{⊎_elim}
 use lib.ListN.{get_or}
 use Rattle.form.specs.Layout.{is_leaf_command}
 use Rattle.form.proofs.CommandKinds.{leaf_low, leaf_decimal, leaf_high}

@@ -1,6 +1,5 @@
 -- `values::compare::conform_parameter` meets its contract: the own parameter's type is held to the target's, strict the target's to the own one, with the two sizes changed over.
 -- Assumes nothing.
-use borrow.Author.Rules.{rules}
 use mathlib.Core.Path.{sym, ◌∙◌}
 use Rattle.order.specs.Order.{order_of}
 use Rattle.values.proofs.Definitions.{parameter_plain, parameter_apart, parameter_swapped}

@@ -1,6 +1,5 @@
 -- `values::compare::leaf` meets its contract: a leaf of data by the short way, and the type's command: its own, Any, or any simple one for a null.
 -- Assumes nothing.
-use borrow.Author.Rules.{rules}
 use mathlib.Core.Path.{sym, ◌∙◌}
 use Prim.Native.Nat.{◌-◌}
 use native.Mathlib.Omega.{arith}

@@ -1,6 +1,5 @@
 -- `values::compare::passes` meets its contract: the pass answers yes exactly where both sizes are the lengths of the two arguments, within the limit.
 -- Assumes nothing.
-use borrow.Author.Rules.{rules}
 use Rattle.order.specs.Order.{order_of}
 use Rattle.order.specs.Values.{conforms}
 use Rattle.types.proofs.TwoArguments.{long_first, long_second, apart, over_first, told_whole}

@@ -1,6 +1,5 @@
 -- `values::walk::pass` meets its contract: the short way past a leaf of data, whose level is 1, or the walk.
 -- Assumes nothing.
-use borrow.Author.Rules.{rules}
 use Rattle.values.proofs.Reading.{pass_short}
 use Rattle.values.proofs.walk.pass.Goals as goal
 

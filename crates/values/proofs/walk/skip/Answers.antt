@@ -1,6 +1,5 @@
 -- `values::walk::skip` meets its contract: the pass says the size.
 -- Assumes nothing.
-use borrow.Author.Rules.{rules}
 use mathlib.Core.Path.{◌∙◌}
 use Rattle.values.proofs.Reading.{skip_is}
 use Rattle.values.proofs.walk.skip.Goals as goal

@@ -1,5 +1,4 @@
 -- `verdicts::say::put_bytes` is safe and ends: the measure is the number of bytes left; the buffer keeps its length. Assumes nothing.
-use borrow.Author.Rules.{rules}
 use Prim.Native.Nat.{◌≤◌, ◌-◌}
 use lib.ListN.{length}
 use mathlib.Core.Path.{◌≡◌}
