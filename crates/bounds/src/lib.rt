@@ -1,4 +1,6 @@
 // Common supertype, common subtype and reduced form of types over the byte form.
+#![tactic(auto)]
+
 ghost use Rattle.std.specs.Prelude.{◌+◌, ◌<◌, ◌/◌, length};
 ghost use Rattle.form.specs.Answers.{Built};
 ghost use Rattle.order.specs.Order.{up, toward, order_of};

@@ -1,4 +1,6 @@
 // Coercion over the byte form: `Value::coerced`.
+#![tactic(auto)]
+
 ghost use Rattle.std.specs.Prelude.{length};
 ghost use Rattle.form.specs.Answers.{Built};
 ghost use Rattle.values.specs.Calls.{Accepted};

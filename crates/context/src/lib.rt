@@ -1,4 +1,6 @@
 // context.rs: updates of a context, over the byte form. The walks and the builders below are seen through their contracts only.
+#![tactic(auto)]
+
 ghost use Rattle.std.specs.Prelude.{false, ◌-◌, ◌<◌, length};
 ghost use Rattle.form.specs.Answers.{Built};
 ghost use Rattle.context.specs.Calls.{create_entries_call, apply_entries_call, set_entry_call, set_null_call, zip_call, overwrite_call, remove_entry_call, move_entry_call};

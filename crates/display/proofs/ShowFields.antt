@@ -14,7 +14,7 @@ use Rattle.form.specs.Limits.{most_bytes, name_width}
 use Rattle.form.specs.Form.{num_at}
 use Rattle.form.specs.Trees.{Fields}
 use Rattle.form.proofs.Runs.{behind}
-use Rattle.order.specs.Size.{size, size_fields}
+use Rattle.order.specs.Size.{size_fields}
 use Rattle.types.specs.At.{type_at, fields_at, Ok}
 use Rattle.types.proofs.Reading.{ok_got}
 use Rattle.types.proofs.ChildAt.{entry_behind, entry_ok}
@@ -25,7 +25,7 @@ use Rattle.display.specs.declared.Shown.{Shown}
 use Rattle.display.specs.declared.Shown.TheVariants.{Yes, No}
 use Rattle.display.specs.declared.Span.{Span}
 use Rattle.display.specs.declared.Span.TheVariants as span-is
-use Rattle.display.specs.Texts.{colon, nth, text, text_fields}
+use Rattle.display.specs.Texts.{colon, nth, text_fields}
 use Rattle.display.specs.Tables.{read_table}
 use Rattle.display.specs.Writing.{gap, label, cut, Inside, Located, Locates, Gave, Shows, of_types, of_fields}
 use Rattle.display.proofs.ShowPieces.{gap_length}

@@ -10,7 +10,6 @@ use native.Mathlib.Omega.{arith}
 use lib.ListN.{length, drop, length-append}
 use borrow.Rule.Slice.PartMut.{put_mid}
 use Rattle.form.specs.Limits.{most_bytes}
-use Rattle.order.specs.Size.{size}
 use Rattle.types.specs.At.{type_at, sig_at, Sig, size_sig, Ok}
 use Rattle.types.proofs.Reading.{is_ok, ok_got}
 use Rattle.output.proofs.FillLaws.{length_fill, fill_then, put_then}

@@ -1,4 +1,6 @@
 // Display of types over the byte form, with the texts of names from the caller's table: types.rs.
+#![tactic(auto)]
+
 ghost use Rattle.std.specs.Prelude.{◌≡◌, ◌+◌, ◌<◌, ◌≤◌, ◌^◌, length, get_or};
 ghost use Rattle.form.specs.Limits.{most_bytes};
 ghost use Rattle.form.specs.Form.{num_at};

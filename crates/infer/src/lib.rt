@@ -1,4 +1,6 @@
 // Types of values over the byte form: the least type, and the type as the Rust infers it.
+#![tactic(auto)]
+
 ghost use Rattle.std.specs.Prelude.{true, length};
 ghost use Rattle.form.specs.Answers.{Built};
 ghost use Rattle.order.specs.Order.{order_of};

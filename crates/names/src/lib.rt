@@ -1,4 +1,6 @@
 // Names over the byte form: names.rs, and of types.rs the names of the built-in types.
+#![tactic(auto)]
+
 ghost use Rattle.std.specs.Prelude.{◌≡◌, ◌+◌, ◌<◌, ◌≤◌, ◌^◌, length, take, drop};
 ghost use Rattle.form.specs.Trees.{decode};
 ghost use Rattle.form.specs.Answers.{Built};

@@ -1,4 +1,6 @@
 // Paths into a context over the byte form: the reading half of context.rs.
+#![tactic(auto)]
+
 ghost use Rattle.std.specs.Prelude.{◌≡◌, ◌+◌, ◌<◌};
 ghost use Rattle.form.specs.Answers.{verdict};
 ghost use Rattle.paths.specs.Places.{found, extent_of, Lent};

@@ -1,4 +1,6 @@
 // Ranges, built-in functions and the small questions of values.rs, over the byte form.
+#![tactic(auto)]
+
 ghost use Rattle.std.specs.Prelude.{◌≡◌, length};
 ghost use Rattle.form.specs.Answers.{verdict, Built};
 ghost use Rattle.ranges.specs.Calls.{is_null_call, is_number_call, is_string_call, is_list_call, is_range_call};

@@ -1,7 +1,7 @@
 -- The definitions of the calls: refusals in document 01's order, then the answer.
 -- Assumes nothing.
 use Rattle.std.specs.Prelude.{List, ℕ}
-use Rattle.form.specs.Outcome.{Outcome, ◌>>=◌, ◌>>◌, or_refuse}
+use Rattle.form.specs.Outcome.{Outcome, ◌>>=◌, or_refuse}
 use Rattle.form.specs.Read.{read_type, read_value}
 use Rattle.retrieval.specs.Retrieve.{get_value_checked, get_conformant_value}
 use Rattle.output.specs.Result.{checked_result}

@@ -1,4 +1,6 @@
 // Retrieval by a type over the byte form: `get_value_checked` and `get_conformant_value` of types.rs.
+#![tactic(auto)]
+
 ghost use Rattle.std.specs.Prelude.{length};
 ghost use Rattle.form.specs.Answers.{Built};
 ghost use Rattle.values.specs.Calls.{Accepted};

@@ -1,4 +1,6 @@
 // The builders of an updated context: what context.rs changes in place is written anew. The walks below are seen through their contracts only.
+#![tactic(auto)]
+
 ghost use Rattle.std.specs.Prelude.{◌≡◌, ◌+◌, ◌-◌, ◌<◌, ◌≤◌, max, length};
 ghost use Rattle.form.specs.Limits.{name_width, name_end, most_bytes, most_names, value_levels};
 ghost use Rattle.types.specs.At.{Ok};

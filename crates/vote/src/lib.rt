@@ -1,1 +1,3 @@
+#![tactic(auto)]
+
 // The statements of the vote: specs/Vote.antt. There is no code.

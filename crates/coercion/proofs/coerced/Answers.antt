@@ -1,6 +1,5 @@
 -- `coercion::coerced` meets its contract: a value that conforms is handed on; otherwise the readers give the refusals, and then the rules give the result.
 -- Assumes nothing.
-use borrow.Author.Rules.{rules}
 use mathlib.Core.Path.{sym, ap, ◌∙◌, subst}
 use lib.ListN.{length}
 use Rattle.form.specs.Answers.{checked, Built}

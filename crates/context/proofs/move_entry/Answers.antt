@@ -53,12 +53,12 @@ move_in-requires c =
     let hit = taken-some1.hit in record {
       le_at = (omega (arith, hit.start), omega (arith, hit_start hit bytes-of1), hit_inside hit bytes-of1, omega (arith, c.word_at-count.ensures.1));
       ok = rest_ok c-now args.out.now args.name opened1 bytes-of1 _ _ hit (c.word_at-count.result - 1)
-            (omega (arith, c.word_at-count.ensures.0, some_entry hit bytes-of1));
+          (omega (arith, c.word_at-count.ensures.0, some_entry hit bytes-of1));
       ok_2 = part_ok c-now args.out.now args.name opened1 bytes-of1 _ _ hit (c.word_at-count.result - 1)
-              (omega (arith, c.word_at-count.ensures.0, some_entry hit bytes-of1));
+          (omega (arith, c.word_at-count.ensures.0, some_entry hit bytes-of1));
       small = move_small c-now args.out.now args.name opened1 bytes-of1 _ refl;
       cut_value = part_level c-now args.out.now args.name opened1 bytes-of1 _ _ hit (c.word_at-count.result - 1)
-                  (omega (arith, c.word_at-count.ensures.0, some_entry hit bytes-of1)) _ taken-some1.old;
+          (omega (arith, c.word_at-count.ensures.0, some_entry hit bytes-of1)) _ taken-some1.old;
       c_in_bounds = c.if-c-le512.true;
     }
 
@@ -83,12 +83,12 @@ move_in-requires-2 c =
     let hit = taken-some1.hit in record {
       le_at = (omega (arith, hit.start), omega (arith, hit_start hit bytes-of1), hit_inside hit bytes-of1, omega (arith, c.word_at-count.ensures.1));
       ok = rest_ok c-now args.out.now name opened1 bytes-of1 _ _ hit (c.word_at-count.result - 1)
-            (omega (arith, c.word_at-count.ensures.0, some_entry hit bytes-of1));
+          (omega (arith, c.word_at-count.ensures.0, some_entry hit bytes-of1));
       ok_2 = part_ok c-now args.out.now name opened1 bytes-of1 _ _ hit (c.word_at-count.result - 1)
-              (omega (arith, c.word_at-count.ensures.0, some_entry hit bytes-of1));
+          (omega (arith, c.word_at-count.ensures.0, some_entry hit bytes-of1));
       small = move_small c-now args.out.now name opened1 bytes-of1 _ refl;
       cut_value = part_level c-now args.out.now name opened1 bytes-of1 _ _ hit (c.word_at-count.result - 1)
-                  (omega (arith, c.word_at-count.ensures.0, some_entry hit bytes-of1)) _ taken-some1.old;
+          (omega (arith, c.word_at-count.ensures.0, some_entry hit bytes-of1)) _ taken-some1.old;
       c_in_bounds = short c-now args.out.now name opened1 bytes-of1;
     }
 

@@ -1,15 +1,14 @@
 -- The cycle `display::show`, `show_inner`, `show_context`, `show_function`, `show_fields`, `show_sig` meets its contracts; three times the level, and at most 2 more, falls at each call.
 -- One template for all: a text stands between the two pieces around its part; the loops keep what is left of the tree and what was written of its text.
 -- Assumes nothing.
-use Prim.Native.Nat.{ℕ, ◌<◌, ◌+◌, ◌-◌, ◌*◌}
+use Prim.Native.Nat.{◌+◌}
 use mathlib.Core.Path.{refl}
 use Rattle.display.proofs.ShowContract.{behind_short, wrap_ok, wrap_no, wrap_ends, wrap_done, wrap_open}
 use Rattle.display.proofs.ShowNodes.{first_byte, a_level, first_low, simple_done, list_ok, range_ok, list_done, range_done}
 use Rattle.display.proofs.ShowNodes.{last_is, in_inner, context_three, in_context, function_two, in_function}
-use Rattle.display.proofs.ShowFields.{FieldsInv, fields_start, fields_kept, name_there, type_there, name_missing, name_inside, name_room}
+use Rattle.display.proofs.ShowFields.{fields_start, fields_kept, name_there, type_there, name_missing, name_inside, name_room}
 use Rattle.display.proofs.ShowFields.{type_kept, type_missing, field_ends, field_next, fields_done}
-use Rattle.display.proofs.ShowSigs.{SigInv, sig_start, param_there, param_kept, param_missing, param_ends, param_next, result_there, result_kept, result_missing, result_ends, sig_done}
-use borrow.Author.Rules.{rules}
+use Rattle.display.proofs.ShowSigs.{sig_start, param_there, param_kept, param_missing, param_ends, param_next, result_there, result_kept, result_missing, result_ends, sig_done}
 use native.Mathlib.Omega.{arith}
 use Rattle.form.specs.Limits.{name_width}
 use Rattle.display.proofs.+show_show_context_show_fields_show_function_show_inner_show_sig.Goals as goal

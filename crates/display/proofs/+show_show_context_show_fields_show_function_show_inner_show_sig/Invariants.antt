@@ -1,15 +1,7 @@
 -- The cycle `display::show`, `show_inner`, `show_context`, `show_function`, `show_fields`, `show_sig` meets its contracts; three times the level, and at most 2 more, falls at each call.
-use Prim.Native.Nat.{ℕ, ◌<◌, ◌+◌, ◌-◌, ◌*◌}
-use mathlib.Core.Path.{refl}
-use Rattle.display.proofs.ShowContract.{behind_short, wrap_ok, wrap_no, wrap_ends, wrap_done, wrap_open}
-use Rattle.display.proofs.ShowNodes.{first_byte, a_level, first_low, simple_done, list_ok, range_ok, list_done, range_done}
-use Rattle.display.proofs.ShowNodes.{last_is, in_inner, context_three, in_context, function_two, in_function}
-use Rattle.display.proofs.ShowFields.{FieldsInv, fields_start, fields_kept, name_there, type_there, name_missing, name_inside, name_room}
-use Rattle.display.proofs.ShowFields.{type_kept, type_missing, field_ends, field_next, fields_done}
-use Rattle.display.proofs.ShowSigs.{SigInv, sig_start, param_there, param_kept, param_missing, param_ends, param_next, result_there, result_kept, result_missing, result_ends, sig_done}
-use borrow.Author.Rules.{rules}
-use native.Mathlib.Omega.{arith}
-use Rattle.form.specs.Limits.{name_width}
+use Prim.Native.Nat.{◌+◌, ◌-◌, ◌*◌}
+use Rattle.display.proofs.ShowFields.{FieldsInv}
+use Rattle.display.proofs.ShowSigs.{SigInv}
 use Rattle.display.proofs.+show_show_context_show_fields_show_function_show_inner_show_sig.Given as goal
 
 abbrev pub decreases-show : goal.decreases-show

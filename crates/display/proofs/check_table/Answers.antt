@@ -1,9 +1,7 @@
 -- `display::check_table` meets its contract: the loop keeps that the table is readable exactly when the texts that are left, behind the one before them, are.
 -- Assumes nothing.
-use Prim.Native.Nat.{◌-◌}
 use Rattle.names.proofs.Reader.{left_ended, left_short, left_cut}
-use Rattle.display.proofs.Tables.{Tabled, table_long, table_empty, table_start, table_untidy, table_first, table_descends, table_ascends}
-use borrow.Author.Rules.{rules}
+use Rattle.display.proofs.Tables.{table_long, table_empty, table_start, table_untidy, table_first, table_descends, table_ascends}
 use native.Mathlib.Omega.{arith}
 use Rattle.display.proofs.check_table.Goals as goal
 use Rattle.display.proofs.check_table.Goals.{then-i-gt0+else-not-is_less, else-i-gt0}

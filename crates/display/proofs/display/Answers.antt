@@ -1,6 +1,5 @@
 -- `display::display` meets its contract: the type is refused first, then the table; of both accepted the text is written.
 -- Assumes nothing.
-use borrow.Author.Rules.{rules}
 use Rattle.types.proofs.CallContracts.{was_refused, was_accepted}
 use Rattle.display.proofs.DisplayCall.{display_first, display_second, display_accepted}
 use Rattle.display.proofs.display.Goals as goal

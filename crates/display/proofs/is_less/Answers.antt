@@ -1,11 +1,7 @@
 -- `display::is_less` meets its contract: the loop keeps that the texts compare as what is left of them.
 -- Assumes nothing.
-use Rattle.display.specs.Tables.{less_text}
 use Rattle.display.proofs.Tables.{less_ended, less_short, less_differs, less_next}
-use mathlib.Core.Path.{◌≡◌, refl}
-use lib.ListN.{length, drop}
-use Prim.Native.Nat.{◌-◌}
-use borrow.Author.Rules.{rules}
+use mathlib.Core.Path.{refl}
 use native.Mathlib.Omega.{arith}
 use Rattle.display.proofs.is_less.Goals as goal
 

@@ -1,11 +1,7 @@
 -- `display::is_printable` meets its contract: the loop keeps that all bytes are printable exactly when those that are left are.
 -- Assumes nothing.
-use Rattle.display.specs.Tables.{printable}
 use Rattle.display.proofs.Tables.{printable_ended, printable_below, printable_above, printable_next}
-use mathlib.Core.Path.{◌≡◌, refl}
-use lib.ListN.{length, drop}
-use Prim.Native.Nat.{◌-◌}
-use borrow.Author.Rules.{rules}
+use mathlib.Core.Path.{refl}
 use native.Mathlib.Omega.{arith}
 use Rattle.display.proofs.is_printable.Goals as goal
 

@@ -1,6 +1,5 @@
 -- `display::is_tidy` meets its contract: printable first, then the first and the last byte.
 -- Assumes nothing.
-use borrow.Author.Rules.{rules}
 use Rattle.display.proofs.Tables.{untidy, tidy_empty, untidy_first, tidy_last}
 use Rattle.display.proofs.is_tidy.Goals as goal
 

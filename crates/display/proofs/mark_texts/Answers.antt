@@ -1,8 +1,6 @@
 -- `display::mark_texts` meets its contract: the loop keeps that each mark so far stands at its text, and that the next text stands at `at`.
 -- Assumes nothing.
-use Prim.Native.Nat.{◌-◌}
-use Rattle.display.proofs.Marks.{MarkInv, table_two, mark_start, mark_fits, mark_next, mark_done}
-use borrow.Author.Rules.{rules}
+use Rattle.display.proofs.Marks.{table_two, mark_start, mark_fits, mark_next, mark_done}
 use native.Mathlib.Omega.{arith}
 use Rattle.display.proofs.mark_texts.Goals as goal
 

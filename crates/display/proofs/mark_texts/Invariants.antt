@@ -1,8 +1,6 @@
 -- `display::mark_texts` meets its contract: the loop keeps that each mark so far stands at its text, and that the next text stands at `at`.
 use Prim.Native.Nat.{◌-◌}
-use Rattle.display.proofs.Marks.{MarkInv, table_two, mark_start, mark_fits, mark_next, mark_done}
-use borrow.Author.Rules.{rules}
-use native.Mathlib.Omega.{arith}
+use Rattle.display.proofs.Marks.{MarkInv}
 use Rattle.display.proofs.mark_texts.Given as goal
 
 abbrev pub invariant-loop-i : goal.invariant-loop-i

@@ -1,6 +1,5 @@
 -- `display::put_gap` meets its contract: no piece in front of the first entry, one piece in front of the others.
 -- Assumes nothing.
-use borrow.Author.Rules.{rules}
 use Rattle.display.proofs.ShowPieces.{gap_none, gap_some}
 use Rattle.display.proofs.put_gap.Goals as goal
 

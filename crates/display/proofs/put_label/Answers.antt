@@ -1,6 +1,5 @@
 -- `display::put_label` meets its contract: three pieces put one behind the other are put as one.
 -- Assumes nothing.
-use borrow.Author.Rules.{rules}
 use Rattle.display.proofs.ShowPieces.{gap_length, label_put}
 use native.Mathlib.Omega.{arith}
 use Rattle.display.proofs.put_label.Goals as goal

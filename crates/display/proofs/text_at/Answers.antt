@@ -1,7 +1,6 @@
 -- `display::text_at` meets its contract: the mark says where the text stands; beyond the count there is none.
 -- Assumes nothing.
 use Rattle.display.proofs.Marks.{table_two, not_there, text_fits, text_found}
-use borrow.Author.Rules.{rules}
 use native.Mathlib.Omega.{arith}
 use Rattle.display.proofs.text_at.Goals as goal
 

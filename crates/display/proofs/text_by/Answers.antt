@@ -1,6 +1,5 @@
 -- `display::text_by` meets its contract: the text stands whole in the spare place and is handed on, or a second run over the output says the same.
 -- Assumes nothing.
-use borrow.Author.Rules.{rules}
 use mathlib.Core.Path.{sym}
 use lib.Seq.{length-take-le}
 use Rattle.display.proofs.DisplayCall.{type_short, type_ok, table_ok, call_err, call_handed, call_short, call_again, call_done}

@@ -1,6 +1,5 @@
 -- `display::write_text` meets its contract: the marks have room: a table has at most 8,192 texts.
 -- Assumes nothing.
-use borrow.Author.Rules.{rules}
 use mathlib.Core.Path.{refl}
 use Rattle.display.proofs.Marks.{table_two, table_few, room_for}
 use Rattle.display.proofs.DisplayCall.{table_ok}

@@ -1,6 +1,5 @@
 -- `names::add_part` meets its contract: what trim hands back is put, and both facts are carried over to the trimmed part.
 -- Assumes nothing.
-use borrow.Author.Rules.{rules}
 use Rattle.names.proofs.NameNew.{trimmed_room, part_added}
 use Rattle.names.proofs.add_part.Goals as goal
 

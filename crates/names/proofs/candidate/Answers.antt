@@ -16,14 +16,13 @@ pub returns-in-116 : goal.returns-in-116
 returns-in-116 c = only_first _ 5 4 0x74 c.in-4.is c.in-116.is refl (omega arith)
 
 pub returns-in_default-s : goal.returns-in_default-s
-returns-in_default-s c =
-    only_null _ c.in-4.is c.in_default-s.in_default-s-own.rest.0.1 c.in_default-s.in_default-s-own.rest.1
+returns-in_default-s c = only_null _ c.in-4.is (λ e. omega arith) (λ e. omega arith)
 
 pub returns-in-110 : goal.returns-in-110
 returns-in-110 c = only_first _ 2 6 0x6E c.in-6.is c.in-110.is refl (omega arith)
 
 pub returns-in_default-s-2 : goal.returns-in_default-s-2
-returns-in_default-s-2 c = only_string _ c.in-6.is c.in_default-s-2.in_default-s-2-own.rest.1
+returns-in_default-s-2 c = only_string _ c.in-6.is (λ e. omega arith)
 
 pub returns-in-7 : goal.returns-in-7
 returns-in-7 c = only_long _ 1 7 c.in-7.is refl (omega arith)
@@ -39,5 +38,5 @@ returns-in-25 c = only_long _ 8 25 c.in-25.is refl (omega arith)
 
 pub returns-in_default : goal.returns-in_default
 returns-in_default c =
-    let rest = c.in_default.in_default-own.rest.0 in
-    only_none _ rest.0.0.0.0.0.1 rest.0.0.0.0.1 rest.0.0.0.1 rest.0.0.1 rest.0.1 rest.1 c.in_default.in_default-own.rest.1
+    only_none _ (λ e. omega arith) (λ e. omega arith) (λ e. omega arith) (λ e. omega arith) (λ e. omega arith)
+    (λ e. omega arith) (λ e. omega arith)

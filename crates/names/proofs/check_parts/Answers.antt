@@ -1,11 +1,7 @@
 -- `names::check_parts` meets its contract: the loop keeps that the parts are readable exactly when those that are left are.
 -- Assumes nothing.
-use Rattle.names.specs.Parts.{in_parts, read_parts}
-use mathlib.Core.Option.{none}
-use Prim.Native.Nat.{◌-◌}
-use Rattle.names.proofs.Reader.{Left, left_ended, left_short, left_cut}
+use Rattle.names.proofs.Reader.{left_ended, left_short, left_cut}
 use Rattle.names.proofs.Parts.{parts_long, parts_empty, parts_start, parts_bad, parts_next}
-use borrow.Author.Rules.{rules}
 use native.Mathlib.Omega.{arith}
 use Rattle.names.proofs.check_parts.Goals as goal
 

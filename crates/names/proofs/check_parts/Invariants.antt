@@ -2,10 +2,7 @@
 use Rattle.names.specs.Parts.{in_parts, read_parts}
 use mathlib.Core.Option.{none}
 use Prim.Native.Nat.{◌-◌}
-use Rattle.names.proofs.Reader.{Left, left_ended, left_short, left_cut}
-use Rattle.names.proofs.Parts.{parts_long, parts_empty, parts_start, parts_bad, parts_next}
-use borrow.Author.Rules.{rules}
-use native.Mathlib.Omega.{arith}
+use Rattle.names.proofs.Reader.{Left}
 use Rattle.names.proofs.check_parts.Given as goal
 
 abbrev pub invariant-loop-i : goal.invariant-loop-i

@@ -1,6 +1,5 @@
 -- `names::from_str` meets its contract: the candidate is the only name that the text can be, so one comparison decides.
 -- Assumes nothing.
-use borrow.Author.Rules.{rules}
 use Rattle.names.proofs.BuiltInNames.{no_candidate, candidate_hit, candidate_missed}
 use Rattle.names.proofs.from_str.Goals as goal
 

@@ -1,8 +1,9 @@
 -- `names::has_name` meets its contract: byte strings are equal exactly when the call says so, and each arm has the name of its number.
 -- Assumes nothing.
 use borrow.Author.Rules.{rules}
+use native.Mathlib.Omega.{arith}
 use mathlib.Core.Path.{refl}
-use Rattle.names.proofs.BuiltInNames.{has_named, last_name}
+use Rattle.names.proofs.BuiltInNames.{has_named}
 use Rattle.names.proofs.has_name.Goals as goal
 
 pub returns-in-0 : goal.returns-in-0
@@ -34,9 +35,4 @@ returns-in-8 c = has_named 8 c.args.k c.in-8.is _ _ refl _ c.same-in-8.ensures
 
 pub returns-in_default : goal.returns-in_default
 returns-in_default c =
-    let rest = c.in_default.in_default-own.rest in
-    let x1 = rest.0.0.0.0 in
-    has_named 9 c.args.k
-    (last_name c.args.k c.requires x1.0.0.0.0.1 x1.0.0.0.1 x1.0.0.1 x1.0.1 x1.1 rest.0.0.0.1 rest.0.0.1
-    rest.0.1 rest.1)
-    _ _ refl _ c.same-in_default.ensures
+    has_named 9 c.args.k (omega arith) _ _ refl _ c.same-in_default.ensures

@@ -1,6 +1,5 @@
 -- `names::is_built_in_type_name` meets its contract: the answer of `from_str`, read as yes or no.
 -- Assumes nothing.
-use borrow.Author.Rules.{rules}
 use Rattle.names.proofs.BuiltInNames.{built_in_yes, built_in_no}
 use Rattle.names.proofs.is_built_in_type_name.Goals as goal
 

@@ -1,13 +1,7 @@
 -- `names::is_plain` meets its contract: the loop keeps that all bytes are plain exactly when the largest so far and those that are left are.
 -- Assumes nothing.
-use mathlib.Core.Path.{◌≡◌, refl}
-use mathlib.Core.Bool.{◌&&◌}
-use lib.ListN.{length, drop}
-use lib.Dec.{leb}
-use Prim.Native.Nat.{◌-◌}
-use Rattle.names.specs.Parts.{plain}
+use mathlib.Core.Path.{refl}
 use Rattle.names.proofs.Parts.{plain_ended, plain_max, plain_min}
-use borrow.Author.Rules.{rules}
 use native.Mathlib.Omega.{arith}
 use Rattle.names.proofs.is_plain.Goals as goal
 use Rattle.names.proofs.is_plain.Goals.{then-most-b, else-most-b}

@@ -1,14 +1,10 @@
 -- `names::is_plain` meets its contract: the loop keeps that all bytes are plain exactly when the largest so far and those that are left are.
-use mathlib.Core.Logic.{⊎_elim}
-use mathlib.Core.Path.{◌≡◌, refl}
+use mathlib.Core.Path.{◌≡◌}
 use mathlib.Core.Bool.{◌&&◌}
 use lib.ListN.{length, drop}
 use lib.Dec.{leb}
 use Prim.Native.Nat.{◌-◌}
 use Rattle.names.specs.Parts.{plain}
-use Rattle.names.proofs.Parts.{plain_ended, plain_max, plain_min}
-use borrow.Author.Rules.{rules}
-use native.Mathlib.Omega.{arith}
 use Rattle.names.proofs.is_plain.Given as goal
 
 abbrev pub invariant-loop-i : goal.invariant-loop-i

@@ -1,6 +1,5 @@
 -- `names::name_by` meets its contract: the name is not longer than its parts, so it stands whole in the spare place and is handed on.
 -- Assumes nothing.
-use borrow.Author.Rules.{rules}
 use mathlib.Core.Path.{sym}
 use lib.Seq.{length-take-le}
 use Rattle.names.proofs.NameNew.{name_fits, name_handed}

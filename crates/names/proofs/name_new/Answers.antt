@@ -1,6 +1,5 @@
 -- `names::name_new` meets its contract: parts that are not read are refused; of others the spare place is long enough.
 -- Assumes nothing.
-use borrow.Author.Rules.{rules}
 use Rattle.names.proofs.NameNew.{parts_refused, parts_ok, parts_most}
 use native.Mathlib.Omega.{arith}
 use Rattle.names.proofs.name_new.Goals as goal

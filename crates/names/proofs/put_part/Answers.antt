@@ -1,6 +1,5 @@
 -- `names::put_part` meets its contract: two pieces put one behind the other are put as one.
 -- Assumes nothing.
-use borrow.Author.Rules.{rules}
 use Rattle.names.proofs.NameNew.{part_joined, part_parted}
 use Rattle.names.proofs.put_part.Goals as goal
 

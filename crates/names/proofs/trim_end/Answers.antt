@@ -1,7 +1,6 @@
 -- `names::trim_end` meets its contract: the loop keeps that the first i bytes, trimmed at the end, are all bytes trimmed there.
 -- Assumes nothing.
-use Rattle.names.proofs.TrimLoops.{Ending, ending, ending_ended, ending_read, ending_next, ending_done}
-use borrow.Author.Rules.{rules}
+use Rattle.names.proofs.TrimLoops.{ending, ending_ended, ending_read, ending_next, ending_done}
 use native.Mathlib.Omega.{arith}
 use Rattle.names.proofs.trim_end.Goals as goal
 

@@ -1,7 +1,5 @@
 -- `names::trim_end` meets its contract: the loop keeps that the first i bytes, trimmed at the end, are all bytes trimmed there.
-use Rattle.names.proofs.TrimLoops.{Ending, ending, ending_ended, ending_read, ending_next, ending_done}
-use borrow.Author.Rules.{rules}
-use native.Mathlib.Omega.{arith}
+use Rattle.names.proofs.TrimLoops.{Ending}
 use Rattle.names.proofs.trim_end.Given as goal
 
 abbrev pub invariant-loop-i : goal.invariant-loop-i

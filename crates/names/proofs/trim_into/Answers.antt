@@ -1,6 +1,5 @@
 -- `names::trim_into` meets its contract: above the limit the refusal, otherwise what `trim` gives is handed on.
 -- Assumes nothing.
-use borrow.Author.Rules.{rules}
 use Rattle.names.proofs.TrimLoops.{trim_long, trim_given}
 use Rattle.names.proofs.trim_into.Goals as goal
 

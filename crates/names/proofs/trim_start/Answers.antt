@@ -1,9 +1,6 @@
 -- `names::trim_start` meets its contract: the loop keeps that the bytes from i on, trimmed at the front, are all bytes trimmed there.
 -- Assumes nothing.
-use lib.ListN.{length}
-use Prim.Native.Nat.{◌-◌}
-use Rattle.names.proofs.TrimLoops.{Starting, starting, starting_ended, starting_next, starting_done}
-use borrow.Author.Rules.{rules}
+use Rattle.names.proofs.TrimLoops.{starting, starting_ended, starting_next, starting_done}
 use native.Mathlib.Omega.{arith}
 use Rattle.names.proofs.trim_start.Goals as goal
 

@@ -1,9 +1,7 @@
 -- `names::trim_start` meets its contract: the loop keeps that the bytes from i on, trimmed at the front, are all bytes trimmed there.
 use lib.ListN.{length}
 use Prim.Native.Nat.{◌-◌}
-use Rattle.names.proofs.TrimLoops.{Starting, starting, starting_ended, starting_next, starting_done}
-use borrow.Author.Rules.{rules}
-use native.Mathlib.Omega.{arith}
+use Rattle.names.proofs.TrimLoops.{Starting}
 use Rattle.names.proofs.trim_start.Given as goal
 
 abbrev pub invariant-loop-i : goal.invariant-loop-i

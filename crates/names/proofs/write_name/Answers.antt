@@ -1,8 +1,6 @@
 -- `names::write_name` meets its contract: the loop keeps that the name so far and the parts that are left make the whole name.
 -- Assumes nothing.
-use Prim.Native.Nat.{◌-◌}
-use Rattle.names.proofs.NameNew.{Naming, naming_byte, naming_starts, naming_kept, naming_within, naming_ended, naming_read, naming_add, naming_end, naming_most, naming_room, naming_next}
-use borrow.Author.Rules.{rules}
+use Rattle.names.proofs.NameNew.{naming_byte, naming_starts, naming_kept, naming_within, naming_ended, naming_read, naming_add, naming_end, naming_most, naming_room, naming_next}
 use native.Mathlib.Omega.{arith}
 use Rattle.names.proofs.write_name.Goals as goal
 

@@ -1,8 +1,6 @@
 -- `names::write_name` meets its contract: the loop keeps that the name so far and the parts that are left make the whole name.
 use Prim.Native.Nat.{◌-◌}
-use Rattle.names.proofs.NameNew.{Naming, naming_byte, naming_starts, naming_kept, naming_within, naming_ended, naming_read, naming_add, naming_end, naming_most, naming_room, naming_next}
-use borrow.Author.Rules.{rules}
-use native.Mathlib.Omega.{arith}
+use Rattle.names.proofs.NameNew.{Naming}
 use Rattle.names.proofs.write_name.Given as goal
 
 abbrev pub invariant-loop-index : goal.invariant-loop-index

@@ -1,6 +1,5 @@
 -- `ranges::bif_feel_type` meets its contract: a position over 85 is refused; the bytes of each arm are those of the function's type.
 -- Assumes nothing.
-use borrow.Author.Rules.{rules}
 use Rattle.ranges.proofs.Builtins.{bif_refused, bif_done, of_abs, of_sqrt, of_others}
 use Rattle.ranges.proofs.bif_feel_type.Goals as goal
 

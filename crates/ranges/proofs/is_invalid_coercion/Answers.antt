@@ -1,6 +1,5 @@
 -- `ranges::is_invalid_coercion` meets its contract: the reader's refusal first; then the command is that of null and the byte behind it is 1.
 -- Assumes nothing.
-use borrow.Author.Rules.{rules}
 use Rattle.ranges.proofs.Questions.{asked_refused, fine, some_byte, null_leads, lead_byte, lead_done, lead_no}
 use Rattle.ranges.specs.Ranges.{of_leaf, null_with}
 use Rattle.ranges.proofs.is_invalid_coercion.Goals as goal

@@ -1,6 +1,5 @@
 -- `ranges::is_number` meets its contract: the reader's refusal first; the command of an accepted value tells whether it is a number, whole or decimal.
 -- Assumes nothing.
-use borrow.Author.Rules.{rules}
 use Rattle.ranges.proofs.Questions.{asked_refused, fine, some_byte, number_done}
 use Rattle.ranges.specs.Ranges.{of_leaf, a_number}
 use Rattle.ranges.proofs.is_number.Goals as goal

@@ -1,6 +1,5 @@
 -- `ranges::is_true` meets its contract: the reader's refusal first; then the command is that of a boolean and the byte behind it is 1.
 -- Assumes nothing.
-use borrow.Author.Rules.{rules}
 use Rattle.ranges.proofs.Questions.{asked_refused, fine, some_byte, boolean_leads, lead_byte, lead_done, lead_no}
 use mathlib.Core.Bool.{true}
 use Rattle.ranges.specs.Ranges.{of_leaf, the_boolean}

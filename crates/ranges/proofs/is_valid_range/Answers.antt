@@ -1,6 +1,5 @@
 -- `ranges::is_valid_range` meets its contract: the reader's refusal first; what is no range is not valid, of a range the ends decide.
 -- Assumes nothing.
-use borrow.Author.Rules.{rules}
 use Rattle.ranges.proofs.Questions.{asked_refused, fine, some_byte, range_no, ranged, range_done}
 use Rattle.ranges.specs.Ranges.{is_valid_range}
 use Rattle.ranges.proofs.is_valid_range.Goals as goal

@@ -1,6 +1,5 @@
 -- `ranges::opened` meets its contract: a byte over 3 is refused; the test on the byte is the definition's.
 -- Assumes nothing.
-use borrow.Author.Rules.{rules}
 use Rattle.ranges.proofs.Questions.{interval_refused, interval_done}
 use Rattle.ranges.specs.Ranges as ranges
 use Rattle.ranges.proofs.opened.Goals as goal

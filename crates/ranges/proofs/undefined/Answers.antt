@@ -1,6 +1,5 @@
 -- `ranges::undefined` meets its contract: of the four interval types 1 and 3 are the odd ones.
 -- Assumes nothing.
-use borrow.Author.Rules.{rules}
 use Rattle.ranges.proofs.Questions.{interval_refused, interval_done, odd_is}
 use Rattle.ranges.specs.Ranges as ranges
 use Rattle.ranges.proofs.undefined.Goals as goal

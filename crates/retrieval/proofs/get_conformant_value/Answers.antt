@@ -1,6 +1,5 @@
 -- `retrieval::get_conformant_value` meets its contract: of a value that conforms both calls answer alike; otherwise there is a refusal or null.
 -- Assumes nothing.
-use borrow.Author.Rules.{rules}
 use mathlib.Core.Path.{sym, ◌∙◌, subst}
 use lib.ListN.{length}
 use Rattle.form.specs.Answers.{Built}

@@ -1,6 +1,5 @@
 -- `retrieval::get_value_checked` meets its contract: the refusals of both readers in their order, then what the builder writes.
 -- Assumes nothing.
-use borrow.Author.Rules.{rules}
 use mathlib.Core.Path.{sym, ap, ◌∙◌}
 use Rattle.form.specs.Answers.{checked}
 use Rattle.types.proofs.CallContracts.{was_refused, was_accepted}

@@ -28,7 +28,7 @@ overflow_add-result t c =
 pub returns : goal.returns
 returns t c =
     let e =
-        nested_next _ _ _ _ _ _ _ _ _ c.if-path-eq0.false c.name_number.ensures.0
-        c.write_to_name-p.ensures.value c.write_to_name-p.ensures.out_after c.min-q.ensures c.write_nested.ensures.value
-        c.write_nested.ensures.out_after in
+    nested_next _ _ _ _ _ _ _ _ _ c.if-path-eq0.false c.name_number.ensures.0
+    c.write_to_name-p.ensures.value c.write_to_name-p.ensures.out_after c.min-q.ensures c.write_nested.ensures.value
+    c.write_nested.ensures.out_after in
     record { value = e.0; out_after = e.1 }

@@ -10,8 +10,8 @@ use Rattle.updates.proofs.splice.Goals.{Joined-cut-eq0, then-cut-eq0, else-cut-e
 counted : (c : Joined-cut-eq0) → c.if-cut-eq0.count ≡ count_after c.args.c.now c.args.cut
 counted c =
     elim c.if-cut-eq0.branch [
-      then-cut-eq0 w ↦ count_more c.args.c.now c.args.cut _ _ c.word_at-count.ensures.0 w.if-cut-eq0.true w.count-is
-    | else-cut-eq0 w ↦ count_kept c.args.c.now c.args.cut _ _ c.word_at-count.ensures.0 w.if-cut-eq0.false w.count-is
+      | then-cut-eq0 w ↦ count_more c.args.c.now c.args.cut _ _ c.word_at-count.ensures.0 w.if-cut-eq0.true w.count-is
+      | else-cut-eq0 w ↦ count_kept c.args.c.now c.args.cut _ _ c.word_at-count.ensures.0 w.if-cut-eq0.false w.count-is
     ]
 
 pub slice_bounds-fill-end : goal.slice_bounds-fill-end

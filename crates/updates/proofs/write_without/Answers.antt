@@ -8,6 +8,6 @@ pub returns : goal.returns
 returns c =
     let pre = c.requires in
     let e =
-        closed_is _ _ _ _ _ _ _ _ pre.0 (omega (arith, pre.1, pre.2)) c.write_front.ensures c.put.ensures.value
-        c.put.ensures.out_after in
+    closed_is _ _ _ _ _ _ _ _ pre.0 (omega (arith, pre.1, pre.2)) c.write_front.ensures c.put.ensures.value
+    c.put.ensures.out_after in
     record { value = e.0; out_after = e.1 }

@@ -35,11 +35,10 @@ measure-overflow_sub-left t c =
     )
 
 pub measure-measure-m-requires : goal.measure-measure-m-requires
-measure-measure-m-requires t c =
-    (
-      omega (arith, c.decreases, some_left _ c.args.s.now c.requires),
-      within_ok (in_wrapped _ c.args.s.now c.requires c.if-c-lt-LIST_TYPE.false c.if-c-lt-CONTEXT_TYPE.true),
-    )
+measure-measure-m-requires t c = (
+  omega (arith, c.decreases, some_left _ c.args.s.now c.requires),
+  within_ok (in_wrapped _ c.args.s.now c.requires c.if-c-lt-LIST_TYPE.false c.if-c-lt-CONTEXT_TYPE.true),
+)
 
 pub measure-overflow_add-result : goal.measure-overflow_add-result
 measure-overflow_add-result t c =
@@ -90,11 +89,10 @@ measure-overflow_sub-left-then-c-eq-CONTEXT_TYPE t c =
     )
 
 pub measure-measure_fields-m-requires : goal.measure-measure_fields-m-requires
-measure-measure_fields-m-requires t c =
-    (
-      omega (arith, c.decreases, some_left _ c.args.s.now c.requires),
-      within_ok (in_context _ c.args.s.now c.requires c.if-c-eq-CONTEXT_TYPE.true _ c.word_at.ensures.0),
-    )
+measure-measure_fields-m-requires t c = (
+  omega (arith, c.decreases, some_left _ c.args.s.now c.requires),
+  within_ok (in_context _ c.args.s.now c.requires c.if-c-eq-CONTEXT_TYPE.true _ c.word_at.ensures.0),
+)
 
 pub measure-overflow_add-result-then-c-eq-CONTEXT_TYPE : goal.measure-overflow_add-result-then-c-eq-CONTEXT_TYPE
 measure-overflow_add-result-then-c-eq-CONTEXT_TYPE t c =
@@ -152,13 +150,12 @@ measure-overflow_sub-left-2 t c =
     )
 
 pub measure-measure_sig-m-requires : goal.measure-measure_sig-m-requires
-measure-measure_sig-m-requires t c =
-    (
-      omega (arith, c.decreases, some_left _ c.args.s.now c.requires),
-      within_ok
-          (in_function (function_at _ c.args.s.now c.requires c.if-c-lt-CONTEXT_TYPE.false c.if-c-eq-CONTEXT_TYPE.false) c.if-n-eq0.false _
-          c.wide.ensures.0),
-    )
+measure-measure_sig-m-requires t c = (
+  omega (arith, c.decreases, some_left _ c.args.s.now c.requires),
+  within_ok
+      (in_function (function_at _ c.args.s.now c.requires c.if-c-lt-CONTEXT_TYPE.false c.if-c-eq-CONTEXT_TYPE.false) c.if-n-eq0.false _
+      c.wide.ensures.0),
+)
 
 pub measure-overflow_add-result-2 : goal.measure-overflow_add-result-2
 measure-overflow_add-result-2 t c =

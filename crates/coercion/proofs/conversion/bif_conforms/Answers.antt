@@ -1,6 +1,5 @@
 -- `coercion::conversion::bif_conforms` meets its contract: Abs and Sqrt have the one function type, and the type Any of all others conforms to Any alone.
 -- Assumes nothing.
-use borrow.Author.Rules.{rules}
 use Rattle.coercion.proofs.Rules.{bif_function, bif_sqrt, bif_any, type_byte}
 use Rattle.coercion.proofs.conversion.bif_conforms.Goals as goal
 

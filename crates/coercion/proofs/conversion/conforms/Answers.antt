@@ -1,6 +1,5 @@
 -- `coercion::conversion::conforms` meets its contract: the size that the pass over both answers is not 0 exactly when both are read and the value conforms.
 -- Assumes nothing.
-use borrow.Author.Rules.{rules}
 use Rattle.coercion.proofs.Rules.{value_says}
 use Rattle.coercion.proofs.conversion.conforms.Goals as goal
 

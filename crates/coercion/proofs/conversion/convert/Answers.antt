@@ -1,6 +1,5 @@
 -- `coercion::conversion::convert` meets its contract: the rules are asked in their order, and each return is the result of its rule.
 -- Assumes nothing.
-use borrow.Author.Rules.{rules}
 use mathlib.Core.Path.{subst}
 use lib.ListN.{length}
 use Rattle.form.specs.Answers.{Built}
@@ -60,11 +59,10 @@ pub meets_inner-requires : goal.meets_inner-requires
 meets_inner-requires c = c.requires.ready.both
 
 pub wrap-requires : goal.wrap-requires
-wrap-requires c =
-    (
-      long_value c.args.t.now c.args.v.now c.requires.ready.both,
-      low_value c.args.t.now c.args.v.now c.requires.ready.both _ c.requires.ready.level,
-    )
+wrap-requires c = (
+  long_value c.args.t.now c.args.v.now c.requires.ready.both,
+  low_value c.args.t.now c.args.v.now c.requires.ready.both _ c.requires.ready.level,
+)
 
 pub returns-then-meets_inner : goal.returns-then-meets_inner
 returns-then-meets_inner c =

@@ -1,6 +1,5 @@
 -- `coercion::conversion::function_conforms` meets its contract: the four bytes are the type of Abs, and the pass over both types says whether it conforms.
 -- Assumes nothing.
-use borrow.Author.Rules.{rules}
 use Rattle.coercion.proofs.Rules.{function_says}
 use Rattle.coercion.proofs.conversion.function_conforms.Goals as goal
 

@@ -1,6 +1,5 @@
 -- `coercion::conversion::meets_inner` meets its contract: a list type's inner type stands behind one byte.
 -- Assumes nothing.
-use borrow.Author.Rules.{rules}
 use Rattle.coercion.proofs.Rules.{first_type_lem, inner_no, inner_says}
 use Rattle.coercion.proofs.conversion.meets_inner.Goals as goal
 

@@ -1,6 +1,5 @@
 -- `coercion::conversion::takes_item` meets its contract: the count is that of the items, and the one item stands behind three bytes.
 -- Assumes nothing.
-use borrow.Author.Rules.{rules}
 use Rattle.coercion.proofs.Rules.{list_three, item_no, item_says}
 use Rattle.coercion.proofs.conversion.takes_item.Goals as goal
 

@@ -1,6 +1,5 @@
 -- `coercion::conversion::wrap` meets its contract: a one-item list has three bytes in front of its item and one level more.
 -- Assumes nothing.
-use borrow.Author.Rules.{rules}
 use Rattle.coercion.proofs.Rules.{wrap_second, wrap_third, wrap_long, wrap_deep, wrap_short, wrap_three, wrap_room, wrap-same, wrap_done}
 use Rattle.coercion.proofs.conversion.wrap.Goals as goal
 

@@ -63,7 +63,7 @@ join_in-requires c =
       ok = join_context args.all args.c.now args.o.now args.out.now value-accepted1 value-accepted2 c.if-c-ne-CONTEXT.false;
       ok_2 = join-context2 args.all args.c.now args.o.now args.out.now value-accepted1 value-accepted2 c.if-c-ne-CONTEXT.false c.if-o-ne-CONTEXT.false;
       c_len_bound = join-small args.all args.c.now args.o.now args.out.now value-accepted1 value-accepted2 c.if-c-ne-CONTEXT.false c.if-o-ne-CONTEXT.false
-              c.check_value.ensures.bytes c.check_value-2.ensures.bytes;
+          c.check_value.ensures.bytes c.check_value-2.ensures.bytes;
       most_bytes_in_bounds = few_room _ _ c.if-c-o-le512.true refl;
     }
 
@@ -88,7 +88,7 @@ join_in-requires-2 c =
       ok = join_context args.all args.c.now args.o.now args.out.now value-accepted1 value-accepted2 c.if-c-ne-CONTEXT.false;
       ok_2 = join-context2 args.all args.c.now args.o.now args.out.now value-accepted1 value-accepted2 c.if-c-ne-CONTEXT.false c.if-o-ne-CONTEXT.false;
       c_len_bound = join-small args.all args.c.now args.o.now args.out.now value-accepted1 value-accepted2 c.if-c-ne-CONTEXT.false c.if-o-ne-CONTEXT.false
-              c.check_value.ensures.bytes c.check_value-2.ensures.bytes;
+          c.check_value.ensures.bytes c.check_value-2.ensures.bytes;
       most_bytes_in_bounds = all_room _ _ refl;
     }
 

@@ -31,7 +31,7 @@ place-requires c =
           c.write_without-k.ensures.value c.write_without-k.ensures.out_after pre.c_in_bounds pre.ok;
       ok_2 = pre.ok_2;
       small = cut_small c.args.count c.args.c.now cut.at (cut.at + cut.gone) pre.le_at.0 (omega (arith, pre.le_at.1)) pre.le_at.2 _ _ _
-              c.write_without-k.ensures.value c.write_without-k.ensures.out_after pre.c_in_bounds c.args.path.now pre.small;
+          c.write_without-k.ensures.value c.write_without-k.ensures.out_after pre.c_in_bounds c.args.path.now pre.small;
       surveyed = whole_surveyed value_levels _ c.args.path.now _ _ c.survey-way.ensures.surveyed;
       level_value = pre.cut_value;
     }

@@ -24,8 +24,8 @@ use Rattle.infer.proofs.builder.+write_entries_write_items_write_type.Goals.{wri
 leaf_arm : (t : ℕ) (c : write_type-After-width-in-0-to-8 t) → is_leaf_command (get_or c.args.v.now 0 0) ≡ true
 leaf_arm t c =
     elim c.in-0-to-8-1.branch [
-      write_type-in-16-1 w ↦ leaf_decimal (get_or c.args.v.now 0 0) (omega arith)
-    | write_type-in_default+then-c-lt9 w ↦ leaf_low (get_or c.args.v.now 0 0) (omega arith)
+      | write_type-in-16-1 w ↦ leaf_decimal (get_or c.args.v.now 0 0) (omega arith)
+      | write_type-in_default+then-c-lt9 w ↦ leaf_low (get_or c.args.v.now 0 0) (omega arith)
     ]
 
 pub write_entries-loop-i-init : goal.write_entries-loop-i-init
@@ -215,15 +215,14 @@ write_items-returns-then-n-eq0 t c =
     }
 
 pub write_items-write_type-e-requires : goal.write_items-write_type-e-requires
-write_items-write_type-e-requires t c =
-    (
-      omega (arith, c.decreases),
-      (
-        items_first (order_of c.args.reading) c.args.least c.args.equal c.args.left c.args.v.now c.args.n c.args.out.now c.args.spare.now
-            c.requires.fit_items (bytes_of c.args.v.now c.type_inv.v) c.requires.left_le_value_levels c.if-n-eq0.false,
-        omega arith,
-      ),
-    )
+write_items-write_type-e-requires t c = (
+  omega (arith, c.decreases),
+  (
+    items_first (order_of c.args.reading) c.args.least c.args.equal c.args.left c.args.v.now c.args.n c.args.out.now c.args.spare.now
+        c.requires.fit_items (bytes_of c.args.v.now c.type_inv.v) c.requires.left_le_value_levels c.if-n-eq0.false,
+    omega arith,
+  ),
+)
 
 pub write_items-loop-i-init : goal.write_items-loop-i-init
 write_items-loop-i-init t c =
@@ -298,14 +297,13 @@ write_items-slice_bounds-write_type-start-in-loop-i t c =
     )
 
 pub write_items-write_type-e-requires-in-loop-i : goal.write_items-write_type-e-requires-in-loop-i
-write_items-write_type-e-requires-in-loop-i t c =
-    (
-      omega (arith, c.decreases),
-      (
-        item_fits c.loop-i.invariant (bytes_of c.args.v.now c.type_inv.v) c.loop-i-test.true,
-        omega arith,
-      ),
-    )
+write_items-write_type-e-requires-in-loop-i t c = (
+  omega (arith, c.decreases),
+  (
+    item_fits c.loop-i.invariant (bytes_of c.args.v.now c.type_inv.v) c.loop-i-test.true,
+    omega arith,
+  ),
+)
 
 pub write_items-overflow_add-at-in-loop-i : goal.write_items-overflow_add-at-in-loop-i
 write_items-overflow_add-at-in-loop-i t c =
@@ -501,8 +499,7 @@ write_type-overflow_sub-left-in-10 t c =
 pub write_type-write_items-e-requires-in-10 : goal.write_type-write_items-e-requires-in-10
 write_type-write_items-e-requires-in-10 t c =
     let args = c.args in
-    let bytes-of1 = bytes_of args.v.now c.type_inv.v in
-    (
+    let bytes-of1 = bytes_of args.v.now c.type_inv.v in (
       omega (arith, c.decreases, level_left (order_of args.reading) args.least args.left args.v.now args.out.now args.spare.now c.requires.fit_val bytes-of1),
       (
         part_fits
@@ -635,8 +632,7 @@ write_type-overflow_sub-left-in-11 t c =
 pub write_type-write_entries-e-requires : goal.write_type-write_entries-e-requires
 write_type-write_entries-e-requires t c =
     let args = c.args in
-    let bytes-of1 = bytes_of args.v.now c.type_inv.v in
-    (
+    let bytes-of1 = bytes_of args.v.now c.type_inv.v in (
       omega (arith, c.decreases, level_left (order_of args.reading) args.least args.left args.v.now args.out.now args.spare.now c.requires.fit_val bytes-of1),
       (
         part_fits

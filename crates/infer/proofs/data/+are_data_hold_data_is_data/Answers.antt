@@ -20,8 +20,8 @@ use Rattle.infer.proofs.data.+are_data_hold_data_is_data.Goals.{is_data-After-wi
 leaf_arm : (t : ℕ) (c : is_data-After-width t) → is_leaf_command (get_or c.args.v.now 0 0) ≡ true
 leaf_arm t c =
     elim c.in-0-to-8-1.branch [
-      is_data-in-16-1 w ↦ leaf_decimal (get_or c.args.v.now 0 0) (omega arith)
-    | is_data-in_default+then-c-lt9 w ↦ leaf_low (get_or c.args.v.now 0 0) (omega arith)
+      | is_data-in-16-1 w ↦ leaf_decimal (get_or c.args.v.now 0 0) (omega arith)
+      | is_data-in_default+then-c-lt9 w ↦ leaf_low (get_or c.args.v.now 0 0) (omega arith)
     ]
 
 pub are_data-loop-i-init : goal.are_data-loop-i-init

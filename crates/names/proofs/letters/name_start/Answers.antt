@@ -1,6 +1,5 @@
 -- `names::letters::name_start` meets its contract: the table of starts is right at every place, which one computed test says.
 -- Assumes nothing.
-use borrow.Author.Rules.{rules}
 use Rattle.names.proofs.LetterTable.{start_is, start_small}
 use native.Mathlib.Omega.{arith}
 use Rattle.names.proofs.letters.name_start.Goals as goal

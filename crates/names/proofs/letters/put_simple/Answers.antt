@@ -1,6 +1,5 @@
 -- `names::letters::put_simple` meets its contract: the letters from one start to the next are the name.
 -- Assumes nothing.
-use borrow.Author.Rules.{rules}
 use Rattle.names.specs.BuiltInNames.{letters_of}
 use Rattle.names.proofs.LetterTable.{name_ends, simple_put}
 use native.Mathlib.Omega.{arith}

@@ -33,8 +33,7 @@ survey-returns-then-s-ne-CONTEXT t c =
     record { told = a.0; surveyed = a.1 }
 
 pub survey-survey_entries-requires : goal.survey-survey_entries-requires
-survey-survey_entries-requires t c =
-    (
+survey-survey_entries-requires t c = (
   search rules,
   (
     c.if-s-lt3.false,

@@ -1,6 +1,5 @@
 -- `ranges::compare::exponent_at` meets its contract: a decimal's exponent is its last byte, which stands within the bytes; a whole number has 0.
 -- Assumes nothing.
-use borrow.Author.Rules.{rules}
 use native.Mathlib.Omega.{arith}
 use Rattle.ranges.proofs.Numbers.{exponent_inside, decimal_exponent, whole_exponent}
 use Rattle.ranges.proofs.compare.exponent_at.Goals as goal

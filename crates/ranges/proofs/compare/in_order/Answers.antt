@@ -1,6 +1,5 @@
 -- `ranges::compare::in_order` meets its contract: by the interval bytes, then by the commands of both ends; each return is one law of Ends.
 -- Assumes nothing.
-use borrow.Author.Rules.{rules}
 use native.Mathlib.Omega.{arith}
 use Rattle.ranges.proofs.Numbers.{coefficient_inside}
 use Rattle.ranges.proofs.Ends.{number_start, low_sorted, past_numbers, start_inside, start_three, end_three, start_off, null_near, null_inside, null_null, null_other, end_near}

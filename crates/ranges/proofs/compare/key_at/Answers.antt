@@ -1,6 +1,5 @@
 -- `ranges::compare::key_at` meets its contract: four words, the low one first, are the number of the eight bytes.
 -- Assumes nothing.
-use borrow.Author.Rules.{rules}
 use Rattle.ranges.proofs.Keys.{key_is}
 use Rattle.ranges.proofs.compare.key_at.Goals as goal
 

@@ -2,7 +2,6 @@
 -- Each return is one law of DecimalOrder.
 -- Assumes nothing.
 use mathlib.Core.Path.{◌∙◌}
-use borrow.Author.Rules.{rules}
 use Rattle.ranges.proofs.DecimalOrder.{same_exponent, both_positive, positive_negative, negative_positive, both_negative}
 use Rattle.ranges.proofs.decimals.decimal_le.Goals as goal
 

@@ -1,6 +1,5 @@
 -- `ranges::decimals::power` meets its contract: the table is right at every place, which one computed test says.
 -- Assumes nothing.
-use borrow.Author.Rules.{rules}
 use Rattle.ranges.proofs.Ratios.{power_is}
 use Rattle.ranges.proofs.decimals.power.Goals as goal
 

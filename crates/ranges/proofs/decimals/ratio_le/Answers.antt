@@ -1,6 +1,5 @@
 -- `ranges::decimals::ratio_le` meets its contract: a power of ten is not 0, a remainder in units of 10^-18 is below 10^18, and each return is one law of Ratios.
 -- Assumes nothing.
-use borrow.Author.Rules.{rules}
 use native.Mathlib.Omega.{arith}
 use Rattle.ranges.proofs.Ratios.{ten_pos, scale_fits, ratio_apart, ratio_same}
 use Rattle.ranges.proofs.decimals.ratio_le.Goals as goal

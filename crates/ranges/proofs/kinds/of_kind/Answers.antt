@@ -1,6 +1,5 @@
 -- `ranges::kinds::of_kind` meets its contract: the reader's refusal first; the first byte of an accepted value is its tree's command.
 -- Assumes nothing.
-use borrow.Author.Rules.{rules}
 use Rattle.ranges.proofs.Questions.{asked_refused, fine, some_byte, kind_done}
 use lib.Dec.{eqb}
 use Rattle.form.specs.Widths.{command}

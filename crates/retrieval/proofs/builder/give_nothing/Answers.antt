@@ -1,6 +1,5 @@
 -- `retrieval::builder::give_nothing` meets its contract: the refusals of both readers in their order; then null, with trace 0 for the type Null and 2 for a value that does not conform.
 -- Assumes nothing.
-use borrow.Author.Rules.{rules}
 use mathlib.Core.Path.{sym, ap, ◌∙◌, subst}
 use lib.ListN.{length}
 use Rattle.form.specs.Answers.{checked, Built}

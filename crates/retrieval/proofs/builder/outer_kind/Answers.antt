@@ -1,6 +1,5 @@
 -- `retrieval::builder::outer_kind` meets its contract: one law for each arm of the type's command.
 -- Assumes nothing.
-use borrow.Author.Rules.{rules}
 use native.Mathlib.Omega.{arith}
 use Rattle.retrieval.proofs.ByCommand.{kind_any, kind_range, kind_function, kind_simple, kind_below, kind_above}
 use Rattle.retrieval.proofs.builder.outer_kind.Goals as goal

@@ -1,6 +1,5 @@
 -- `retrieval::builder::retrieve_by` meets its contract: the retrieved value is no longer than the value, so it stands whole in the spare place and is handed on.
 -- Assumes nothing.
-use borrow.Author.Rules.{rules}
 use native.Mathlib.Omega.{arith}
 use lib.ListN.{length-take}
 use Rattle.retrieval.proofs.CallContracts.{call_err, call_room, call_done, type_ok, value_ok}

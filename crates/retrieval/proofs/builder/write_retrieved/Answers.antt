@@ -1,6 +1,5 @@
 -- `retrieval::builder::write_retrieved` meets its contract: either spare place is as long as the value.
 -- Assumes nothing.
-use borrow.Author.Rules.{rules}
 use Rattle.retrieval.proofs.CallContracts.{value_short}
 use Rattle.retrieval.proofs.builder.write_retrieved.Goals as goal
 
