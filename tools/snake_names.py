@@ -71,8 +71,9 @@ def declared(text):
 
 
 def is_own(path):
-    """A file of specs/ or a file of lemmas: not the proof of one function."""
-    return os.path.basename(path) not in ("Proof.antt", "Answers.antt", "Invariants.antt")
+    """A file of specs/ or a file of lemmas: not the proof of one function, which stands in a folder of its own."""
+    folder, name = os.path.split(path)
+    return name not in ("Proof.antt", "Answers.antt", "Invariants.antt") or os.path.basename(folder) in ("specs", "proofs")
 
 
 def table():

@@ -12,13 +12,13 @@ fn main() {
     let dir = match env::var_os("FEEL_LIB_DIR") {
         Some(dir) => PathBuf::from(dir),
         None => PathBuf::from(env::var_os("CARGO_MANIFEST_DIR").expect("set by cargo"))
-            .join("../../target/staticlib"),
+            .join("../../crates/feel/out"),
     };
     let library = dir.join("libfeel.a");
     println!("cargo:rerun-if-changed={}", library.display());
     assert!(
         library.exists(),
-        "{} is not there: run `rt staticlib feel` in the repository root, or set FEEL_LIB_DIR to \
+        "{} is not there: run `rt lib` in crates/feel, or set FEEL_LIB_DIR to \
          the folder that has it (an absolute path)",
         library.display()
     );

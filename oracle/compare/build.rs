@@ -15,13 +15,13 @@ fn main() {
     }
     let dir = match env::var_os("FEEL_LIB_DIR") {
         Some(dir) => PathBuf::from(dir),
-        None => folder("CARGO_MANIFEST_DIR").join("../../target/staticlib"),
+        None => folder("CARGO_MANIFEST_DIR").join("../../crates/feel/out"),
     };
     let library = dir.join("libfeel.a");
     println!("cargo:rerun-if-changed={}", library.display());
     assert!(
         library.exists(),
-        "{} is not there: run `rt staticlib feel` in the repository root, or set FEEL_LIB_DIR, \
+        "{} is not there: run `rt lib` in crates/feel, or set FEEL_LIB_DIR, \
          or use `--features self-check`",
         library.display()
     );

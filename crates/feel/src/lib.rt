@@ -1,4 +1,6 @@
 // The exported C functions. Each answers one number: specs/Numbers.antt has the convention, include/feel.h the words for callers.
+#![tactic(auto)]
+
 ghost use Rattle.std.specs.Prelude.{◌≡◌, length};
 ghost use Rattle.form.specs.Answers.{checked, verdict, written};
 ghost use Rattle.form.specs.Read.{check_value, check_type};

@@ -1,6 +1,6 @@
 -- The names of the built-in types: equal texts, the one name that a text can be, and whether it is one.
 -- Idea: length and first letter tell the ten names apart, so at most one is compared.
--- Index: `same_text_lem`, `text_same`, `has_named` (equal texts); `only_long`, `only_first`, `only_null`, `only_string`, `only_none` (the one name that a text can be);
+-- Index: `same_text_lem`, `text_same`, `has_named`, `last_name` (equal texts); `only_long`, `only_first`, `only_null`, `only_string`, `only_none` (the one name that a text can be);
 -- `no_candidate`, `candidate_hit`, `candidate_missed` (`from_str`); `named_cons`, `named_read`, `built_in_yes`, `built_in_no` (whether it is one).
 -- Assumes nothing.
 use Prim.Native.Nat.{ℕ, zero, suc, ◌+◌, ◌<◌, ◌≤◌}
@@ -49,6 +49,16 @@ same_is false s t f = go (same_text s t) refl
 -- ---- the k-th name
 pub has_named : (j k : ℕ) → k ≡ j → (s t : List ℕ) → t ≡ name_of (decode j) → (r : Bool) → (r ≡ true → s ≡ t) × (s ≡ t → r ≡ true) → r ≡ same_text s (name_of (decode k))
 has_named j k e s t n r f = same_is r s t f ∙ ap (same_text s) (n ∙ ap (λ (i : ℕ). name_of (decode i)) (sym e))
+
+-- none of the first nine is the last
+five_on : (k : ℕ) → (k ≡ 0 → ⊥) → (k ≡ 1 → ⊥) → (k ≡ 2 → ⊥) → (k ≡ 3 → ⊥) → (k ≡ 4 → ⊥) → 5 ≤ k
+five_on k a b c d e = omega arith
+
+last_of : (k : ℕ) → 5 ≤ k → k < 10 → (k ≡ 5 → ⊥) → (k ≡ 6 → ⊥) → (k ≡ 7 → ⊥) → (k ≡ 8 → ⊥) → k ≡ 9
+last_of k h i a b c d = omega arith
+
+pub last_name : (k : ℕ) → k < 10 → (k ≡ 0 → ⊥) → (k ≡ 1 → ⊥) → (k ≡ 2 → ⊥) → (k ≡ 3 → ⊥) → (k ≡ 4 → ⊥) → (k ≡ 5 → ⊥) → (k ≡ 6 → ⊥) → (k ≡ 7 → ⊥) → (k ≡ 8 → ⊥) → k ≡ 9
+last_name k h n0 n1 n2 n3 n4 n5 n6 n7 n8 = last_of k (five_on k n0 n1 n2 n3 n4) h n5 n6 n7 n8
 
 -- ---- one name behind the other
 simples_at : (k : ℕ) → k < 10 → drop k simples ≡ decode k ∷ drop (suc k) simples

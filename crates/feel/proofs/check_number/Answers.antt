@@ -1,7 +1,6 @@
 -- `feel::check_number` meets its contract: by the answer, the level or the refusal behind the high word.
 -- Assumes nothing.
 use mathlib.Core.Path.{sym, ap}
-use borrow.Author.Rules.{rules}
 use Rattle.form.specs.Answers.{checked}
 use Rattle.form.specs.declared.Checked.{Checked}
 use Rattle.feel.specs.Numbers.{numbered}

@@ -1,7 +1,6 @@
 -- `feel::count_number` meets its contract: by the answer, the count or the refusal behind the high word.
 -- Assumes nothing.
 use mathlib.Core.Path.{sym, ap}
-use borrow.Author.Rules.{rules}
 use Rattle.paths.specs.Calls.{count}
 use Rattle.paths.specs.declared.Count.{Count}
 use Rattle.feel.specs.Numbers.{numbered}

@@ -1,7 +1,6 @@
 -- `feel::feel_check_type` meets its contract: the call is `form::check_type`, and its answer becomes its number: the level, or the refusal.
 -- Assumes nothing.
 use mathlib.Core.Path.{ap, ◌∙◌}
-use borrow.Author.Rules.{rules}
 use Rattle.feel.specs.Numbers.{numbered}
 use Rattle.feel.proofs.feel_check_type.Goals as goal
 

@@ -1,7 +1,6 @@
 -- `feel::feel_context_contains_deep` meets its contract: the call is `paths::contains_deep`, and its verdict becomes its number.
 -- Assumes nothing.
 use mathlib.Core.Path.{ap, ◌∙◌}
-use borrow.Author.Rules.{rules}
 use Rattle.feel.specs.Numbers.{judged}
 use Rattle.feel.proofs.feel_context_contains_deep.Goals as goal
 

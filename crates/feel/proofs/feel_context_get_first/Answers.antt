@@ -1,7 +1,6 @@
 -- `feel::feel_context_get_first` meets its contract: the call is `paths::first_place`; an accepted context is short, so the place and the length of a part have 16 bits each.
 -- Assumes nothing.
 use mathlib.Core.Path.{ap, ◌∙◌}
-use borrow.Author.Rules.{rules}
 use Rattle.form.proofs.Whole.{bytes_of}
 use Rattle.paths.specs.Places.{found}
 use Rattle.feel.specs.Numbers.{parted}

@@ -1,7 +1,6 @@
 -- `feel::feel_context_remove_entry` meets its contract: the call is `context::remove_entry`, which writes the output; the length or the refusal becomes its number.
 -- Assumes nothing.
 use mathlib.Core.Path.{ap, ◌∙◌}
-use borrow.Author.Rules.{rules}
 use Rattle.feel.specs.Numbers.{numbered}
 use Rattle.feel.proofs.feel_context_remove_entry.Goals as goal
 

@@ -3,7 +3,6 @@
 use Prim.Native.Nat.{◌%◌}
 use mathlib.Core.Path.{sym, ap, ◌∙◌}
 use lib.Dec.{eqb}
-use borrow.Author.Rules.{rules}
 use Rattle.ranges.specs.Ranges as ranges
 use Rattle.ranges.proofs.Questions.{interval_same, odd_is}
 use Rattle.feel.specs.Numbers.{judged}

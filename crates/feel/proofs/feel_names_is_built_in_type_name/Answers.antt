@@ -2,7 +2,6 @@
 -- Assumes nothing.
 use mathlib.Core.Path.{ap, ◌∙◌}
 use mathlib.Core.Bool.{Bool}
-use borrow.Author.Rules.{rules}
 use Rattle.form.specs.Outcome.{done}
 use Rattle.feel.specs.Numbers.{judged}
 use Rattle.feel.proofs.feel_names_is_built_in_type_name.Goals as goal

@@ -1,7 +1,6 @@
 -- `feel::feel_names_trim` meets its contract: the call is `names::trim_into`, which writes the output; the length or the refusal becomes its number.
 -- Assumes nothing.
 use mathlib.Core.Path.{ap, ◌∙◌}
-use borrow.Author.Rules.{rules}
 use Rattle.feel.specs.Numbers.{numbered}
 use Rattle.feel.proofs.feel_names_trim.Goals as goal
 

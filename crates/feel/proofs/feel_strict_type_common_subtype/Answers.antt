@@ -1,6 +1,5 @@
 -- `feel::feel_strict_type_common_subtype` meets its contract: the call is `bounds::strict_common_subtype`, which writes the output; the length or the refusal becomes its number.
 -- Assumes nothing.
-use borrow.Author.Rules.{rules}
 use mathlib.Core.Path.{ap, ◌∙◌}
 use Rattle.feel.specs.Numbers.{numbered}
 use Rattle.feel.proofs.feel_strict_type_common_subtype.Goals as goal

@@ -1,6 +1,5 @@
 -- `feel::feel_strict_value_least_type` meets its contract: the call is `infer::strict_least_type`, which writes the output; the length or the refusal becomes its number.
 -- Assumes nothing.
-use borrow.Author.Rules.{rules}
 use mathlib.Core.Path.{ap, ◌∙◌}
 use Rattle.feel.specs.Numbers.{numbered}
 use Rattle.feel.proofs.feel_strict_value_least_type.Goals as goal

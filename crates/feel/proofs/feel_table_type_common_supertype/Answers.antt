@@ -1,6 +1,5 @@
 -- `feel::feel_table_type_common_supertype` meets its contract: the call is `bounds::table_common_supertype`, which writes the output; the length or the refusal becomes its number.
 -- Assumes nothing.
-use borrow.Author.Rules.{rules}
 use mathlib.Core.Path.{ap, ◌∙◌}
 use Rattle.feel.specs.Numbers.{numbered}
 use Rattle.feel.proofs.feel_table_type_common_supertype.Goals as goal

@@ -1,6 +1,5 @@
 -- `feel::feel_type_get_conformant_value` meets its contract: the call is `retrieval::get_conformant_value`, which writes the output; the length or the refusal becomes its number.
 -- Assumes nothing.
-use borrow.Author.Rules.{rules}
 use mathlib.Core.Path.{ap, ◌∙◌}
 use Rattle.feel.specs.Numbers.{numbered}
 use Rattle.feel.proofs.feel_type_get_conformant_value.Goals as goal

@@ -1,7 +1,6 @@
 -- `feel::feel_type_is_simple_built_in_type` meets its contract: the call is `types::is_simple_built_in_type`, and its verdict becomes its number.
 -- Assumes nothing.
 use mathlib.Core.Path.{ap, ◌∙◌}
-use borrow.Author.Rules.{rules}
 use Rattle.feel.specs.Numbers.{judged}
 use Rattle.feel.proofs.feel_type_is_simple_built_in_type.Goals as goal
 

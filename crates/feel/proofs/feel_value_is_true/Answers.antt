@@ -1,7 +1,6 @@
 -- `feel::feel_value_is_true` meets its contract: the call is `ranges::is_true`, and its verdict becomes its number.
 -- Assumes nothing.
 use mathlib.Core.Path.{ap, ◌∙◌}
-use borrow.Author.Rules.{rules}
 use Rattle.feel.specs.Numbers.{judged}
 use Rattle.feel.proofs.feel_value_is_true.Goals as goal
 

@@ -2,7 +2,6 @@
 -- Assumes nothing.
 use native.Mathlib.Omega.{arith}
 use mathlib.Core.Path.{sym, ap}
-use borrow.Author.Rules.{rules}
 use Rattle.paths.specs.Places.{found}
 use Rattle.paths.specs.declared.Found.{Found}
 use Rattle.feel.specs.Numbers.{parted}

@@ -1,7 +1,6 @@
 -- `feel::interval_number` meets its contract: a byte over 3 is refused; otherwise yes or no becomes its number.
 -- Assumes nothing.
 use mathlib.Core.Path.{refl, ap, ◌∙◌}
-use borrow.Author.Rules.{rules}
 use Rattle.ranges.proofs.Questions.{interval_refused, interval_done}
 use Rattle.feel.specs.Numbers.{judged}
 use Rattle.feel.proofs.interval_number.Goals as goal

@@ -1,7 +1,6 @@
 -- `feel::verdict_number` meets its contract: by the verdict, 1 or 0 or the refusal behind the high word.
 -- Assumes nothing.
 use mathlib.Core.Path.{sym, ap}
-use borrow.Author.Rules.{rules}
 use Rattle.form.specs.Answers.{verdict}
 use Rattle.form.specs.declared.Verdict.{Verdict}
 use Rattle.feel.specs.Numbers.{judged}

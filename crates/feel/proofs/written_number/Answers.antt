@@ -1,7 +1,6 @@
 -- `feel::written_number` meets its contract: by the answer, the length or the refusal behind the high word.
 -- Assumes nothing.
 use mathlib.Core.Path.{sym, ap}
-use borrow.Author.Rules.{rules}
 use Rattle.form.specs.Answers.{written}
 use Rattle.form.specs.declared.Written.{Written}
 use Rattle.feel.specs.Numbers.{numbered}

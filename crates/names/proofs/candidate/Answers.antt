@@ -1,6 +1,5 @@
 -- `names::candidate` meets its contract: each arm is the one name of its length and first letter.
 -- Assumes nothing.
-use borrow.Author.Rules.{rules}
 use mathlib.Core.Path.{refl}
 use Rattle.names.proofs.BuiltInNames.{only_long, only_first, only_null, only_string, only_none}
 use native.Mathlib.Omega.{arith}

@@ -1,6 +1,5 @@
 -- `names::has_name` meets its contract: byte strings are equal exactly when the call says so, and each arm has the name of its number.
 -- Assumes nothing.
-use borrow.Author.Rules.{rules}
 use native.Mathlib.Omega.{arith}
 use mathlib.Core.Path.{refl}
 use Rattle.names.proofs.BuiltInNames.{has_named}
