@@ -14,7 +14,7 @@ use Rattle.order.specs.Ascending.{Asc}
 use Rattle.order.proofs.Conform.{cmp_flip, cmp_reduce, reduce_reduce, cmp_refl, cmp_trans, antisym}
 use Rattle.order.proofs.Bound.{key}
 use Rattle.order.proofs.Bools.{and_comm, and_assoc}
-use Rattle.order.proofs.Answers.{asc-sup}
+use Rattle.order.proofs.Answers.{asc_sup}
 
 module _ (O : Order) (L : Laws O) where
   -- a type conforms as its reduced form does, on either side
@@ -85,15 +85,15 @@ module _ (O : Order) (L : Laws O) where
   -- so whatever meets the supertype's equation is the supertype, and it does not matter in which order types are taken together
   pub sup_only : (a b x : Ty) → Asc a → Asc b → Asc x → reduce O x ≡ x → ((c : Ty) → le O x c ≡ le O a c && le O b c) → x ≡ sup O a b
   sup_only a b x v w u r h =
-      by_conformance x (sup O a b) u (asc-sup O a b v w) r (sup_reduced a b) (λ c. h c ∙ sym (le_sup a b c))
+      by_conformance x (sup O a b) u (asc_sup O a b v w) r (sup_reduced a b) (λ c. h c ∙ sym (le_sup a b c))
 
   pub sup_comm : (a b : Ty) → Asc a → Asc b → sup O a b ≡ sup O b a
   sup_comm a b v w =
-      sup_only b a (sup O a b) w v (asc-sup O a b v w) (sup_reduced a b) (λ c. le_sup a b c ∙ and_comm (le O a c) (le O b c))
+      sup_only b a (sup O a b) w v (asc_sup O a b v w) (sup_reduced a b) (λ c. le_sup a b c ∙ and_comm (le O a c) (le O b c))
 
   pub sup_assoc : (a b c : Ty) → Asc a → Asc b → Asc c → sup O (sup O a b) c ≡ sup O a (sup O b c)
   sup_assoc a b c u v w =
-      sup_only a (sup O b c) (sup O (sup O a b) c) u (asc-sup O b c v w) (asc-sup O (sup O a b) c (asc-sup O a b u v) w) (sup_reduced (sup O a b) c)
+      sup_only a (sup O b c) (sup O (sup O a b) c) u (asc_sup O b c v w) (asc_sup O (sup O a b) c (asc_sup O a b u v) w) (sup_reduced (sup O a b) c)
       (λ t.
       le_sup (sup O a b) c t ∙ ap (λ x. x && le O c t) (le_sup a b t) ∙ and_assoc (le O a t) (le O b t) (le O c t)
       ∙ ap (λ x. le O a t && x) (sym (le_sup b c t)))

@@ -19,7 +19,7 @@ use Rattle.order.specs.Values.{types_of, to_range, to_list, to_context, conforms
 use Rattle.order.proofs.Simple.{and_left, and_right}
 use Rattle.order.proofs.Bools.{and_assoc, and_true}
 use Rattle.order.proofs.Conform.{all_ext, reduce_reduce}
-use Rattle.order.proofs.Answers.{asc-reduce, asc-sup}
+use Rattle.order.proofs.Answers.{asc_reduce, asc_sup}
 use Rattle.order.proofs.WellFormed.{asc_of}
 use Rattle.order.proofs.Laws.{le_sup, le_reduce_left, le_refl, mutual_reduce}
 
@@ -117,17 +117,17 @@ module _ (O : Order) where
 
     pub asc_least : (v : Val) → WfV v → Asc (least O v)
     asc_least (v_leaf l) h = tt
-    asc_least (v_range i j v w) h = asc-sup O (least O v) (least O w) (asc_least v h.1.1.0) (asc_least w h.1.1.1)
+    asc_least (v_range i j v w) h = asc_sup O (least O v) (least O w) (asc_least v h.1.1.0) (asc_least w h.1.1.1)
     asc_least (v_list vs) h = asc_items vs (leaf null) h.1 tt
     asc_least (v_context es) h = asc_entries es 0 h.1
-    asc_least (v_function ps b r) h = asc-reduce O (built (function (types_of ps) r)) (asc_params ps h.1.1.1, asc_of r h.1.1.0)
+    asc_least (v_function ps b r) h = asc_reduce O (built (function (types_of ps) r)) (asc_params ps h.1.1.1, asc_of r h.1.1.0)
     asc_least (v_built_in b) h = tt
     asc_least (v_type a) h = tt
     asc_least v_irrelevant h = tt
 
     pub asc_items : (vs : Vals) (t : Ty) → WfVals vs → Asc t → Asc (least_items O vs t)
     asc_items no_items t h w = w
-    asc_items (item v vs) t h w = asc_items vs (sup O t (least O v)) h.1 (asc-sup O t (least O v) w (asc_least v h.0))
+    asc_items (item v vs) t h w = asc_items vs (sup O t (least O v)) h.1 (asc_sup O t (least O v) w (asc_least v h.0))
 
     asc_entries : (es : Entries) (k : ℕ) → WfEntries es k → AscFields (least_entries O es) k
     asc_entries no_entries k h = tt

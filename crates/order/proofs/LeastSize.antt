@@ -20,7 +20,7 @@ use Rattle.order.specs.Types.{sup}
 use Rattle.order.specs.Ascending.{Asc}
 use Rattle.order.specs.Size.{size, size_fields, size_tys, size_leaf, size_params, size_val, size_vals, size_entries}
 use Rattle.order.specs.Values.{types_of, least, least_items, least_entries}
-use Rattle.order.proofs.Answers.{asc-sup}
+use Rattle.order.proofs.Answers.{asc_sup}
 use Rattle.order.proofs.Holds.{Holds, HoldsFields, HoldsTys, holds_sup, holds_reduce}
 use Rattle.order.proofs.Size.{length_enc, size_sup, size_reduce, level_sup, level_reduce}
 use Rattle.order.proofs.WellFormed.{Fits, fits_of, wf_of}
@@ -116,7 +116,7 @@ module _ (O : Order) where
     size_items no_items t h g = omega arith
     size_items (item v vs) t h g =
         let x = size_sup O t (least O v) g in
-        let y = size_items vs (sup O t (least O v)) h.1 (asc-sup O t (least O v) g (asc_least O v h.0)) in
+        let y = size_items vs (sup O t (least O v)) h.1 (asc_sup O t (least O v) g (asc_least O v h.0)) in
         omega (arith, size_least v h.0)
 
     size_least_entries : (es : Entries) (k : ℕ) → WfEntries es k → size_fields (least_entries O es) ≤ size_entries es

@@ -31,7 +31,7 @@ use Rattle.order.proofs.Simple.{flat_laws, fixed_laws, same_eq}
 use Rattle.order.proofs.Bools.{and_false, and_assoc, and_true, or_cases}
 use Rattle.order.proofs.Conform.{has_look, flip_tys, all_ext, look_below}
 use Rattle.order.proofs.Bound.{cmp_other, bound_other}
-use Rattle.order.proofs.Answers.{asc-merge, asc-weaken, merge-first, merge-second, merge-both}
+use Rattle.order.proofs.Answers.{asc_merge, asc_weaken, merge_first, merge_second, merge_both}
 use Rattle.order.proofs.Laws.{le_sup}
 use Rattle.order.proofs.Equal.{eq_bytes}
 use Rattle.order.proofs.Least.{le_null, le_any}
@@ -74,17 +74,17 @@ module _ (O : Order) where
   pub sub_fields_first : (n : ℕ) (a : Ty) (fs gs : Fields) → AscFields fs (suc n) → AscFields gs (suc n)
       → sub_fields O (field n a fs) gs ≡ field n (reduce O a) (sub_fields O fs gs)
   unfolding reduce
-  sub_fields_first n a fs gs v w = ap (reduce_fields O) (merge-first O n a fs gs v w)
+  sub_fields_first n a fs gs v w = ap (reduce_fields O) (merge_first O n a fs gs v w)
 
   pub sub_fields_second : (fs : Fields) (m k : ℕ) (b : Ty) (gs : Fields) → AscFields fs k → m < k
       → sub_fields O fs (field m b gs) ≡ field m (reduce O b) (sub_fields O fs gs)
   unfolding reduce
-  sub_fields_second fs m k b gs w h = ap (reduce_fields O) (merge-second O fs m k b gs w h)
+  sub_fields_second fs m k b gs w h = ap (reduce_fields O) (merge_second O fs m k b gs w h)
 
   pub sub_fields_both : (n : ℕ) (a b : Ty) (fs gs : Fields) → AscFields fs (suc n)
       → sub_fields O (field n a fs) (field n b gs) ≡ field n (sub O a b) (sub_fields O fs gs)
   unfolding reduce
-  sub_fields_both n a b fs gs v = ap (reduce_fields O) (merge-both O n a b fs gs v)
+  sub_fields_both n a b fs gs v = ap (reduce_fields O) (merge_both O n a b fs gs v)
 
 -- ---- THE SENTENCES
 not_true : (q : Bool) → (q ≡ true → ⊥) → q ≡ false
@@ -268,8 +268,8 @@ look_merge : (n k : ℕ) (fs gs : Fields) → AscFields fs k → AscFields gs k
 unfolding bound lookup Asc
 look_merge n k no_fields gs v w = sym (either_none (λ x y. bound fixed down x y) (lookup n gs))
 look_merge n k (field m a fs) gs v w =
-    let u : AscFields fs k = asc-weaken fs k (suc m) (omega (arith, v.0)) v.2 in
-    look_place n m k a (λ b. bound fixed down a b) (merge fixed fs gs) (asc-merge fixed fs gs k u w)
+    let u : AscFields fs k = asc_weaken fs k (suc m) (omega (arith, v.0)) v.2 in
+    look_place n m k a (λ b. bound fixed down a b) (merge fixed fs gs) (asc_merge fixed fs gs k u w)
     ∙ ap (cond (eqb n m) (some (put_type (lookup m (merge fixed fs gs)) a (λ b. bound fixed down a b)))) (look_merge n k fs gs u w)
     ∙ look_put n m a fs gs (lookup m (merge fixed fs gs)) (eqb n m) refl
     (look_merge m k fs gs u w ∙ ap (λ o. in_either (λ x y. bound fixed down x y) (λ t. t) o (lookup m gs)) (look_below fixed fs (suc m) m v.2 (omega arith))

@@ -6,7 +6,7 @@ use Rattle.order.specs.Order.{Order, Laws, fixed}
 use Rattle.order.specs.Types.{sup, sub}
 use Rattle.order.specs.Theorems.{Theorems}
 use Rattle.order.proofs.Simple.{fixed_laws}
-use Rattle.order.proofs.Answers.{asc-sup, asc-sub}
+use Rattle.order.proofs.Answers.{asc_sup, asc_sub}
 use Rattle.order.proofs.Laws as laws
 use Rattle.order.proofs.Size.{length_enc, size_sup, size_sub, level_sup, level_sub}
 use Rattle.order.proofs.WellFormed.{asc_of, wf_sup, wf_sub}
@@ -18,9 +18,9 @@ theorems O L = record {
   transitive = laws.le_trans O L;
   supertype_key = laws.le_sup O L;
   subtype_key = laws.le_sub O L;
-  supertype_above = λ a b v w. let s = asc-sup O a b (asc_of a v) (asc_of b w) in (laws.sup_left O L a b s, laws.sup_right O L a b s);
+  supertype_above = λ a b v w. let s = asc_sup O a b (asc_of a v) (asc_of b w) in (laws.sup_left O L a b s, laws.sup_right O L a b s);
   supertype_least = laws.sup_least O L;
-  subtype_below = λ a b v w. let s = asc-sub O a b (asc_of a v) (asc_of b w) in (laws.sub_left O L a b s, laws.sub_right O L a b s);
+  subtype_below = λ a b v w. let s = asc_sub O a b (asc_of a v) (asc_of b w) in (laws.sub_left O L a b s, laws.sub_right O L a b s);
   subtype_greatest = laws.sub_greatest O L;
   each_other = λ a b v w. laws.mutual_reduce O L a b (asc_of a v) (asc_of b w);
   reduced_well_formed = wf_reduce O;

@@ -12,7 +12,7 @@ use Rattle.order.specs.Order.{Order}
 use Rattle.order.specs.Types.{sup, sub}
 use Rattle.order.specs.Ascending.{Asc, AscBuilt, AscFields, AscTys}
 use Rattle.order.specs.Size.{size, size_built, size_fields, size_tys}
-use Rattle.order.proofs.Answers.{asc-sup, asc-sub}
+use Rattle.order.proofs.Answers.{asc_sup, asc_sub}
 use Rattle.order.proofs.Holds.{Holds, HoldsBuilt, HoldsFields, HoldsTys, holds_sup, holds_sub}
 use Rattle.order.proofs.Size.{size_sup, size_sub}
 
@@ -91,7 +91,7 @@ mutual
 
 module _ (O : Order) (a b : Ty) (v : Wf a) (w : Wf b) (h : size a + size b < 65536) where
   pub wf_sup : Wf (sup O a b)
-  wf_sup = wf_of (sup O a b) (asc-sup O a b (asc_of a v) (asc_of b w)) (holds_sup (λ n. n < name_end) (λ c. c < 256) O a b (fits_of a v) (fits_of b w)) (omega (arith, size_sup O a b (asc_of a v)))
+  wf_sup = wf_of (sup O a b) (asc_sup O a b (asc_of a v) (asc_of b w)) (holds_sup (λ n. n < name_end) (λ c. c < 256) O a b (fits_of a v) (fits_of b w)) (omega (arith, size_sup O a b (asc_of a v)))
 
   pub wf_sub : Wf (sub O a b)
-  wf_sub = wf_of (sub O a b) (asc-sub O a b (asc_of a v) (asc_of b w)) (holds_sub (λ n. n < name_end) (λ c. c < 256) O a b (fits_of a v) (fits_of b w)) (omega (arith, size_sub O a b (asc_of a v)))
+  wf_sub = wf_of (sub O a b) (asc_sub O a b (asc_of a v) (asc_of b w)) (holds_sub (λ n. n < name_end) (λ c. c < 256) O a b (fits_of a v) (fits_of b w)) (omega (arith, size_sub O a b (asc_of a v)))
