@@ -5,7 +5,8 @@ ghost use Rattle.std.specs.Prelude.{◌+◌, ◌<◌, ◌/◌, length};
 ghost use Rattle.form.specs.Answers.{Built};
 ghost use Rattle.order.specs.Order.{up, toward, order_of};
 ghost use Rattle.lattice.specs.Writing.{answer};
-ghost use Rattle.bounds.specs.Calls.{combined, common_supertype, common_subtype, strict_common_supertype, strict_common_subtype, table_combined, table_common_supertype, table_common_subtype, reduced_call};
+ghost use Rattle.bounds.specs.Calls.{combined, common_supertype, common_subtype, strict_common_supertype, strict_common_subtype, table_combined, table_common_supertype};
+ghost use Rattle.bounds.specs.Calls.{table_common_subtype, reduced_call};
 
 mod sizes;
 

@@ -53,7 +53,8 @@ use Rattle.coercion.specs.Coerce.{failed, single, unchanged, sole_item_conforms,
 use Rattle.coercion.specs.Calls.{coerced_call, Ready, wrapped, Says, SaysAt, BifSays}
 use Rattle.coercion.proofs.Theorems.{same_if}
 use Rattle.output.specs.Result.{checked_result}
-use Rattle.values.proofs.Reading.{IsVal, is_null_lem, is_boolean_lem, is_number, is_string_lem, is_temporal_lem, is_range_lem, is_list_lem, is_context_lem, is_definition_lem, is_built_in_lem, is_type_lem, is_irrelevant_lem, is_decimal_lem}
+use Rattle.values.proofs.Reading.{IsVal, is_null_lem, is_boolean_lem, is_number, is_string_lem, is_temporal_lem, is_range_lem, is_list_lem, is_context_lem, is_definition_lem}
+use Rattle.values.proofs.Reading.{is_built_in_lem, is_type_lem, is_irrelevant_lem, is_decimal_lem}
 use Rattle.values.proofs.Reading.{is_val, as_list, as_definition, as_built_in}
 
 single_bytes : (w : Val) → enc_v (single w) ≡ 0x0A ∷ 1 ∷ 0 ∷ enc_v w

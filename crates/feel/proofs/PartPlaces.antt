@@ -41,7 +41,8 @@ pub halves_entry : (c : List ℕ) (n : ℕ) (x : Outcome (Option Piece)) → Byt
 halves_entry c n x bs e = halves_deep c (n ∷ []) x bs (e ∙ ap extent_of (sym (entry_call c n)))
 
 pub halves_first : (c : List ℕ) (x : Outcome (Option Piece)) → Bytes c → x ≡ extent_of (get_first_call c) → Halves x
-halves_first c x bs e = subst Halves (sym e) (halves c 0 (λ es. map (spot (3 + name_width)) (get_first es)) bs (lend_within c (get_first_call c) (extent_of (get_first_call c)) (stand_first c bs) refl))
+halves_first c x bs e = subst Halves (sym e) (halves c 0 (λ es. map (spot (3 + name_width)) (get_first es)) bs (lend_within c (get_first_call c) (extent_of (get_first_call c))
+    (stand_first c bs) refl))
 
 -- ---- their number
 pub part_halves : (f : Found) (p n : ℕ) → f ≡ found_is.Part p n → Halves (found f) → (p < 65536) × (n < 65536)

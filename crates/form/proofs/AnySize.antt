@@ -15,7 +15,8 @@ use Rattle.form.specs.Layout.{TypeKind, t_simple, t_list, t_range, t_context, t_
 use Rattle.form.specs.Limits.{name_width, most_bytes, type_levels, type_refusals}
 use Rattle.form.specs.Outcome.{done, refused, pick}
 use Rattle.form.specs.Form.{Bytes, num, level}
-use Rattle.form.specs.Read.{Got, got, bad, front, and_then, or_else, operand, named, read_run, read_named, read_fields, read_tys, ascending, counted, read_function, step_type, step_t, read_t, number_of}
+use Rattle.form.specs.Read.{Got, got, bad, front, and_then, or_else, operand, named, read_run, read_named, read_fields, read_tys, ascending, counted, read_function, step_type, step_t}
+use Rattle.form.specs.Read.{read_t, number_of}
 use Rattle.form.specs.Read.{all, read_type, read_any_type}
 use Rattle.form.specs.Faults.{Fault, Shape, Names, Level}
 use Rattle.form.proofs.Accepted.{refused_done}
@@ -72,7 +73,8 @@ module _ {X R : Type 0} (nil : R) (child : List ℕ → Got X) (l : ℕ) (ok : F
       operand_fair name_width (named cons (λ j. read_named nil cons next child c (next j)) child least) s
       (or_fair Names (leb least (num (take name_width s))) (and_then (cons (num (take name_width s))) name_width (drop name_width s) (read_named nil cons next child c (next (num (take name_width s))))
       (child (drop name_width s))) tt
-      (then_fair (cons (num (take name_width s))) name_width (drop name_width s) (read_named nil cons next child c (next (num (take name_width s)))) (child (drop name_width s)) (ok (drop name_width s) q)
+      (then_fair (cons (num (take name_width s))) name_width (drop name_width s) (read_named nil cons next child c (next (num (take name_width s)))) (child (drop name_width s)) (ok
+      (drop name_width s) q)
       (λ (n : ℕ). named_fair cons next c (next (num (take name_width s))) (drop n (drop name_width s)) (shorter n l (drop name_width s) q))))
 
 module _ (child : List ℕ → Got Ty) (l : ℕ) (ok : FairUp child l) where

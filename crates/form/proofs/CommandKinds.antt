@@ -14,7 +14,8 @@ use lib.Dec.{T, ltb, eqb, eqb→eq, ltb→lt}
 use borrow.Author.Tests.{ltb-false, ltb-true, eqb-true, eqb-false, lt-ltb, le-ltb, ne_eqb}
 use Rattle.form.specs.Outcome.{pick}
 use Rattle.form.proofs.Table.{every, steps, between}
-use Rattle.form.specs.Layout.{ValueKind, k_null, k_boolean, k_number, k_string, k_temporal, k_range, k_list, k_context, k_definition, k_built_in, k_type, k_irrelevant, k_decimal, TypeKind, t_simple, t_list}
+use Rattle.form.specs.Layout.{ValueKind, k_null, k_boolean, k_number, k_string, k_temporal, k_range, k_list, k_context, k_definition, k_built_in, k_type, k_irrelevant, k_decimal, TypeKind}
+use Rattle.form.specs.Layout.{t_simple, t_list}
 use Rattle.form.specs.Layout.{t_range, t_context, t_function, Kind, of_value, of_type, no_command, kind_of, operands, operands_v, operands_t, slot, no_width, width_of}
 use Rattle.form.specs.Layout.{is_leaf_command, leaf_type_command}
 

@@ -229,7 +229,8 @@ module _ {X R : Type 0} {encX : X → List ℕ} {goodX : X → Type 0} {lx : X �
       }))
   named_sound (suc c) least s bs z n e =
       operand_parts name_width (named cons (λ j. read_named nil cons next child c (next j)) child least) s z n e (λ h e₀.
-      or_else_parts Names (leb least (num (take name_width s))) (and_then (cons (num (take name_width s))) name_width (drop name_width s) (read_named nil cons next child c (next (num (take name_width s))))
+      or_else_parts Names (leb least (num (take name_width s))) (and_then (cons (num (take name_width s))) name_width (drop name_width s) (read_named nil cons next child c (next (num
+      (take name_width s))))
       (child (drop name_width s))) z n e₀ (λ t e₁.
       then_parts (cons (num (take name_width s))) name_width (drop name_width s) (read_named nil cons next child c (next (num (take name_width s)))) (child (drop name_width s)) z n e₁
       (λ x m px y j py pz pn.

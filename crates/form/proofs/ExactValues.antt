@@ -17,7 +17,8 @@ use Rattle.form.specs.Limits.{name_width, most_exponent}
 use Rattle.form.specs.Form.{bytes, num, bit, Bytes, enc, enc_params, enc_leaf, enc_v, enc_vals, enc_entries, level, level_params, level_v, level_vals, level_entries, Wf, WfParams, WfLeaf, WfV, WfVals}
 use Rattle.form.specs.Form.{WfEntries, count_params, count_vals, count_entries}
 use Rattle.form.specs.Layout.{ValueKind, Kind, kind_of}
-use Rattle.form.specs.Read.{Got, got, front, and_then, or_else, read_run, read_named, read_vals, read_entries, read_params, ascending, any_order, read_flag, read_key, read_range, signature, read_definition}
+use Rattle.form.specs.Read.{Got, got, front, and_then, or_else, read_run, read_named, read_vals, read_entries, read_params, ascending, any_order, read_flag, read_key, read_range, signature}
+use Rattle.form.specs.Read.{read_definition}
 use Rattle.form.specs.Read.{read_t, read_decimal, step_value, step_v, read_v}
 use Rattle.form.specs.Faults.{Shape}
 use Rattle.form.proofs.CommandKinds.{ViewV, is_null, is_boolean, is_number, is_string, is_temporal, is_range, is_list, is_context, is_definition, is_built_in, is_feel_type, is_irrelevant, is_decimal}

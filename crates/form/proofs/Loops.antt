@@ -87,7 +87,8 @@ module _ {X R : Type 0} (lx : X → ℕ) (lr : R → ℕ) (nil : R) (cons : ℕ 
 
       pub names_walk : (r t d : ℕ) → ToldAt lx child s (at + name_width) r t → (r ≡ 0 → ⊥) → d ≡ max deep t
           → RunInv lr whole (λ (j : ℕ). read_named nil cons next child j (next name)) s count (at + name_width + r) d (i + 1)
-      names_walk r t d h z e = let a = told_end (walk_of lx (child (drop (at + name_width) s))) (length s - (at + name_width)) r t (here lx child s (at + name_width) r t h) (omega arith) in named_on r t d
+      names_walk r t d h z e = let a = told_end (walk_of lx (child (drop (at + name_width) s))) (length s - (at + name_width)) r t (here lx child s (at + name_width) r t h)
+          (omega arith) in named_on r t d
           a.0 a.1 e
 
       pub names_fault : (r t k m : ℕ) → ToldAt lx child s (at + name_width) r t → r ≡ 0 → Told (up k whole) m 0 t

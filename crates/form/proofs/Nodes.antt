@@ -19,7 +19,8 @@ use Rattle.form.specs.Layout.{of_value, kind_of}
 use Rattle.form.specs.Read.{Got, got, front, and_then, or_else, named, read_run, read_named, read_fields, read_tys, read_vals, read_entries, read_params, read_flag, read_key, counted, read_function}
 use Rattle.form.specs.Read.{read_range, signature, read_definition, read_decimal, step_type, step_t, read_t, step_value, step_v, read_v}
 use Rattle.form.specs.Faults.{Shape, Names}
-use Rattle.form.proofs.CommandKinds.{ViewV, is_null, is_boolean, is_number, is_string, is_temporal, is_range, is_list, is_context, is_definition, is_built_in, is_feel_type, is_irrelevant, is_decimal, ViewT}
+use Rattle.form.proofs.CommandKinds.{ViewV, is_null, is_boolean, is_number, is_string, is_temporal, is_range, is_list, is_context, is_definition, is_built_in, is_feel_type, is_irrelevant}
+use Rattle.form.proofs.CommandKinds.{is_decimal, ViewT}
 use Rattle.form.proofs.CommandKinds.{is_simple_t, is_list_t, is_range_t, is_context_t, is_function_t, View, is_value, is_type, is_gap, is_beyond, view}
 use Rattle.form.proofs.Exact.{bad_got, or_else_parts, got_parts, operand_parts, flag_parts, front_parts, then_parts}
 
@@ -35,7 +36,8 @@ pub named_parts : {X R : Type 0} {P : Type 0} (nil : R) (cons : ℕ → X → R 
 unfolding read_named named
 named_parts nil cons next child c least s r n e k =
     operand_parts name_width (named cons (λ j. read_named nil cons next child c (next j)) child least) s r n e (λ h e₀.
-    or_else_parts Names (leb least (num (take name_width s))) (and_then (cons (num (take name_width s))) name_width (drop name_width s) (read_named nil cons next child c (next (num (take name_width s))))
+    or_else_parts Names (leb least (num (take name_width s))) (and_then (cons (num (take name_width s))) name_width (drop name_width s) (read_named nil cons next child c (next (num
+    (take name_width s))))
     (child (drop name_width s))) r n e₀ (λ t e₁.
     then_parts (cons (num (take name_width s))) name_width (drop name_width s) (read_named nil cons next child c (next (num (take name_width s)))) (child (drop name_width s)) r n e₁
     (k h (leb-true least (num (take name_width s)) t))))
@@ -101,11 +103,13 @@ pub data NodeV (left : ℕ) (s : List ℕ) : ValueKind → Val → ℕ → Type 
   n_number : get_or s 0 0 ≡ 2 → 9 ≤ length s → NodeV left s k_number (v_leaf (l_number (num_at 8 1 s))) 9
   n_string : get_or s 0 0 ≡ 3 → 1 + name_width ≤ length s → NodeV left s k_string (v_leaf (l_string (num_at name_width 1 s))) (1 + name_width)
   n_temporal : 4 ≤ get_or s 0 0 → get_or s 0 0 < 9 → 9 ≤ length s → NodeV left s k_temporal (v_leaf (l_temporal (decode_temporal (get_or s 0 0 - 4)) (num_at 8 1 s))) 9
-  n_range_v : get_or s 0 0 ≡ 9 → 3 ≤ length s → get_or s 1 0 ≤ 3 → get_or s 2 0 ≤ 3 → (v : Val) (m : ℕ) → read_v left (drop 3 s) ≡ got v m → (w : Val) (n : ℕ) → read_v left (drop m (drop 3 s)) ≡ got w n
+  n_range_v : get_or s 0 0 ≡ 9 → 3 ≤ length s → get_or s 1 0 ≤ 3 → get_or s 2 0 ≤ 3 → (v : Val) (m : ℕ) → read_v left (drop 3 s) ≡ got v m → (w : Val) (n : ℕ)
+      → read_v left (drop m (drop 3 s)) ≡ got w n
       → NodeV left s k_range (v_range (get_or s 1 0) (get_or s 2 0) v w) (3 + m + n)
   n_list_v : get_or s 0 0 ≡ 10 → 3 ≤ length s → (vs : Vals) (n : ℕ) → read_vals (read_v left) (num_at 2 1 s) (drop 3 s) ≡ got vs n → NodeV left s k_list (v_list vs) (3 + n)
   n_context_v : get_or s 0 0 ≡ 11 → 3 ≤ length s → (es : Entries) (n : ℕ) → read_entries (read_v left) (num_at 2 1 s) 0 (drop 3 s) ≡ got es n → NodeV left s k_context (v_context es) (3 + n)
-  n_definition : get_or s 0 0 ≡ 12 → 4 ≤ length s → (t : Ty) (m : ℕ) → read_t left (drop 4 s) ≡ got t m → (ps : Params) (n : ℕ) → read_params (read_t left) (get_or s 1 0) 0 (drop m (drop 4 s)) ≡ got ps n
+  n_definition : get_or s 0 0 ≡ 12 → 4 ≤ length s → (t : Ty) (m : ℕ) → read_t left (drop 4 s) ≡ got t m → (ps : Params) (n : ℕ)
+      → read_params (read_t left) (get_or s 1 0) 0 (drop m (drop 4 s)) ≡ got ps n
       → NodeV left s k_definition (v_function ps (num_at 2 2 s) t) (4 + m + n)
   n_built_in : get_or s 0 0 ≡ 13 → 2 ≤ length s → get_or s 1 0 ≤ 85 → NodeV left s k_built_in (v_built_in (get_or s 1 0)) 2
   n_type : get_or s 0 0 ≡ 14 → (t : Ty) (n : ℕ) → read_t left (drop 1 s) ≡ got t n → NodeV left s k_type (v_type t) (1 + n)

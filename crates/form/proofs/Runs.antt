@@ -164,7 +164,8 @@ module _ {X R : Type 0} (lx : X → ℕ) (lr : R → ℕ) (nil : R) (cons : X �
       where
         go : (y : Got X) → ((k : ℕ) → walk_by lr 0 0 (read_run nil cons child (suc n) (drop k s)) ≡ pair_walk lr lx (drop k s) child (read_run nil cons child n (drop k s)))
             → walk_by lr 0 0 (and_then cons 0 s (read_run nil cons child (suc n)) y) ≡ pair_walk lr lx s child (and_then cons 0 s (read_run nil cons child n) y)
-        go (got x k) ih = on_front x k (read_run nil cons child (suc n) (drop k s)) ∙ snoc_rest s x k (walk_by lr 0 0 (read_run nil cons child (suc n) (drop k s))) (read_run nil cons child n (drop k s))
+        go (got x k) ih = on_front x k (read_run nil cons child (suc n) (drop k s)) ∙ snoc_rest s x k (walk_by lr 0 0 (read_run nil cons child (suc n) (drop k s)))
+            (read_run nil cons child n (drop k s))
             (ih k)
         go (bad f) ih = by_bad lr f
 

@@ -1,6 +1,7 @@
 -- The reader of types in the terms of the code: what its walk says by the length, the level that is left and the command.
 -- Idea: one step of `read_t`, and the laws of Runs at the kind of the command.
--- Index: `t_none`, `t_level`, `t_step`, `step_short` (the start); `t_simple_lem`, `t_one_run`, `t_context_lem`, `t_function_lem`, `t_short`, `t_other` (by the command); `one_is` (one type as a run of one);
+-- Index: `t_none`, `t_level`, `t_step`, `step_short` (the start); `t_simple_lem`, `t_one_run`, `t_context_lem`, `t_function_lem`, `t_short`, `t_other` (by the command); `one_is` (one type
+-- as a run of one);
 -- `fields_law`, `tys_law`, `simple_level` (levels).
 -- Assumes nothing.
 use Prim.Native.Nat.{ℕ, zero, suc, ◌-◌, ◌<◌, ◌≤◌, max}
@@ -154,10 +155,12 @@ module _ (l : ℕ) (s : List ℕ) (h : 0 < length s) (p : 0 < l) where
     unfolding operands
     off k e = there (get_or s 0 0) (length s - 1) (of_type k) e o
 
-    pub t_context_lem : (m : ℕ) → m ≡ num_at 2 1 s → kind_of (get_or s 0 0) ≡ of_type t_context → walk_of level (read_t l s) ≡ up 3 (walk_by level_fields 0 0 (read_fields (read_t (l - 1)) m 0 (drop 3 s)))
+    pub t_context_lem : (m : ℕ) → m ≡ num_at 2 1 s → kind_of (get_or s 0 0) ≡ of_type t_context → walk_of level (read_t l s) ≡ up 3 (walk_by level_fields 0 0 (read_fields (read_t
+        (l - 1)) m 0 (drop 3 s)))
     unfolding step_type operands_t level
     t_context_lem m me e = t_kind t_context e ∙ counted_is level_fields level (λ fs. built (context fs)) (λ x. refl) (λ c r. read_fields (read_t (l - 1)) c 0 r) s m me (off t_context e)
 
-    pub t_function_lem : (m : ℕ) → m ≡ suc (get_or s 1 0) → kind_of (get_or s 0 0) ≡ of_type t_function → walk_of level (read_t l s) ≡ up 2 (walk_by level_tys 0 0 (read_tys (read_t (l - 1)) m (drop 2 s)))
+    pub t_function_lem : (m : ℕ) → m ≡ suc (get_or s 1 0) → kind_of (get_or s 0 0) ≡ of_type t_function
+        → walk_of level (read_t l s) ≡ up 2 (walk_by level_tys 0 0 (read_tys (read_t (l - 1)) m (drop 2 s)))
     unfolding step_type operands_t
     t_function_lem m me e = t_kind t_function e ∙ rw (me, ← get_or-drop 1 s 0 0, ← drop-drop 1 1 s) (function_is (read_t (l - 1)) (drop 1 s) (simp length-drop (off t_function e)))

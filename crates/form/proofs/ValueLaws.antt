@@ -15,7 +15,8 @@ use borrow.Author.Tests.{leb-true, le-leb, lt-leb, ne_eqb}
 use Rattle.form.specs.Trees.{Ty, Params, no_parameters, parameter, l_null, l_boolean, l_number, l_decimal, l_string, l_temporal, Val, v_leaf, v_range, v_list, v_context, v_function, v_built_in}
 use Rattle.form.specs.Trees.{v_type, v_irrelevant, Vals, no_items, item, Entries, no_entries, entry, is_short_leaf, decode_temporal}
 use Rattle.form.specs.Form.{num, num_at, level, level_params, level_tys, level_v, level_vals, level_entries}
-use Rattle.form.specs.Layout.{ValueKind, k_null, k_boolean, k_number, k_string, k_temporal, k_range, k_list, k_context, k_definition, k_built_in, k_type, k_irrelevant, k_decimal, Kind, of_value, of_type}
+use Rattle.form.specs.Layout.{ValueKind, k_null, k_boolean, k_number, k_string, k_temporal, k_range, k_list, k_context, k_definition, k_built_in, k_type, k_irrelevant, k_decimal, Kind}
+use Rattle.form.specs.Layout.{of_value, of_type}
 use Rattle.form.specs.Layout.{no_command, kind_of, operands, operands_v, slot, width_of, is_leaf_command}
 use Rattle.form.specs.Limits.{name_width, most_exponent}
 use Rattle.form.specs.Outcome.{pick}
@@ -268,7 +269,8 @@ module _ (l : ℕ) (s : List ℕ) (h : 0 < length s) (p : 0 < l) where
   unfolding walk_of width_of
   v_short n = rw (v_step l s h p, step_short (read_v (l - 1)) (read_t (l - 1)) (kind_of (get_or s 0 0)) (get_or s 0 0) (drop 1 s) (simp length-drop n))
 
-  pub v_other : 9 ≤ get_or s 0 0 → (get_or s 0 0 ≡ 9 → ⊥) → (get_or s 0 0 ≡ 10 → ⊥) → (get_or s 0 0 ≡ 11 → ⊥) → (get_or s 0 0 ≡ 12 → ⊥) → (get_or s 0 0 ≡ 13 → ⊥) → (get_or s 0 0 ≡ 14 → ⊥) → (get_or s 0 0 ≡ 15 → ⊥)
+  pub v_other : 9 ≤ get_or s 0 0 → (get_or s 0 0 ≡ 9 → ⊥) → (get_or s 0 0 ≡ 10 → ⊥) → (get_or s 0 0 ≡ 11 → ⊥) → (get_or s 0 0 ≡ 12 → ⊥) → (get_or s 0 0 ≡ 13 → ⊥) → (get_or s 0 0 ≡ 14
+      → ⊥) → (get_or s 0 0 ≡ 15 → ⊥)
       → (get_or s 0 0 ≡ 16 → ⊥) → walk_of level_v (read_v l s) ≡ walk.Stop Shape
   unfolding walk_of
   v_other o h9 h10 h11 h12 h13 h14 h15 h16 =
@@ -340,7 +342,8 @@ module _ (l : ℕ) (s : List ℕ) (h : 0 < length s) (p : 0 < l) where
       pub v_leaf_is : is_leaf_command (get_or s 0 0) ≡ true → walk_of level_v (read_v l s) ≡ flag_walk (get_or s (width_of (get_or s 0 0)) 0) (operand_end (get_or s 0 0)) (width_of (get_or s 0 0) + 1)
       v_leaf_is i = leaf_view (kind_of (get_or s 0 0)) (view (get_or s 0 0)) refl i
 
-    pub v_range_is : kind_of (get_or s 0 0) ≡ of_value k_range → get_or s 1 0 ≤ 3 → get_or s 2 0 ≤ 3 → walk_of level_v (read_v l s) ≡ up 3 (walk_by level_vals 0 0 (read_vals (read_v (l - 1)) 2 (drop 3 s)))
+    pub v_range_is : kind_of (get_or s 0 0) ≡ of_value k_range → get_or s 1 0 ≤ 3 → get_or s 2 0 ≤ 3 → walk_of level_v (read_v l s) ≡ up 3 (walk_by level_vals 0 0 (read_vals (read_v
+        (l - 1)) 2 (drop 3 s)))
     unfolding step_value operands_v
     v_range_is e x y =
         v_kind k_range e ∙
@@ -359,7 +362,8 @@ module _ (l : ℕ) (s : List ℕ) (h : 0 < length s) (p : 0 < l) where
     unfolding step_value operands_v level_v
     v_list_is m me e = v_kind k_list e ∙ counted_is level_vals level_v v_list (λ x. refl) (λ c r. read_vals (read_v (l - 1)) c r) s m me (off k_list e)
 
-    pub v_context_is : (m : ℕ) → m ≡ num_at 2 1 s → kind_of (get_or s 0 0) ≡ of_value k_context → walk_of level_v (read_v l s) ≡ up 3 (walk_by level_entries 0 0 (read_entries (read_v (l - 1)) m 0 (drop 3 s)))
+    pub v_context_is : (m : ℕ) → m ≡ num_at 2 1 s → kind_of (get_or s 0 0) ≡ of_value k_context → walk_of level_v (read_v l s) ≡ up 3 (walk_by level_entries 0 0 (read_entries (read_v
+        (l - 1)) m 0 (drop 3 s)))
     unfolding step_value operands_v level_v
     v_context_is m me e = v_kind k_context e ∙ counted_is level_entries level_v v_context (λ x. refl) (λ c r. read_entries (read_v (l - 1)) c 0 r) s m me (off k_context e)
 
@@ -379,7 +383,8 @@ end_small b = go (eqb b 0) (eqb b 1) (eqb b 16)
     go false false true = omega arith
     go false false false = omega arith
 
-pub leaf_is : (l : ℕ) (s : List ℕ) → 0 < length s → 0 < l → width_of (get_or s 0 0) ≤ length s - 1 → get_or s (width_of (get_or s 0 0)) 0 ≤ operand_end (get_or s 0 0) → is_leaf_command (get_or s 0 0) ≡ true
+pub leaf_is : (l : ℕ) (s : List ℕ) → 0 < length s → 0 < l → width_of (get_or s 0 0) ≤ length s - 1 → get_or s (width_of (get_or s 0 0)) 0 ≤ operand_end (get_or s 0 0)
+    → is_leaf_command (get_or s 0 0) ≡ true
     → walk_of level_v (read_v l s) ≡ walk.End (width_of (get_or s 0 0) + 1) 1
 leaf_is l s h p o q i =
     let y : get_or s (width_of (get_or s 0 0)) 0 ≤ 255 = omega (arith, end_small (get_or s 0 0)) in

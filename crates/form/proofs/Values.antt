@@ -53,7 +53,8 @@ value_exact s bs v = (value_accepted s bs v, value_accepts s v)
 pub enc_v_same : (v w : Val) → WfV v → WfV w → enc_v v ≡ enc_v w → v ≡ w
 enc_v_same v w g h e =
     let l = level_v v + level_v w in
-    read_same (read_v l) (enc_v v ++ []) (enc_v w ++ []) v w (length (enc_v v)) (length (enc_v w)) (ap (λ (r : List ℕ). r ++ []) e) (read_enc_v v l [] g (omega arith)) (read_enc_v w l [] h (omega arith))
+    read_same (read_v l) (enc_v v ++ []) (enc_v w ++ []) v w (length (enc_v v)) (length (enc_v w)) (ap (λ (r : List ℕ). r ++ []) e) (read_enc_v v l [] g (omega arith))
+    (read_enc_v w l [] h (omega arith))
 
 -- the bytes that were taken are the tree's
 pub took_enc_v : (l : ℕ) (s : List ℕ) → Bytes s → (v : Val) (n : ℕ) → read_v l s ≡ got v n → take n s ≡ enc_v v

@@ -192,7 +192,8 @@ value_behind l s h v n (n_number c k) = behind 0x02 8 _ s v 0 9 c refl k refl re
 value_behind l s h v n (n_string c k) = behind 0x03 name_width _ s v 0 (1 + name_width) c refl k refl refl
 value_behind l s h v n (n_temporal p q k) =
     let c : get_or s 0 0 ≡ 0x04 + code_temporal (decode_temporal (get_or s 0 0 - 0x04)) = omega (arith, values.code_decode (get_or s 0 0 - 0x04) (omega arith)) in
-    behind (0x04 + code_temporal (decode_temporal (get_or s 0 0 - 0x04))) 8 _ s v 0 9 c (key_width (0x04 + code_temporal (decode_temporal (get_or s 0 0 - 0x04))) (omega arith) (omega arith)) k refl refl
+    behind (0x04 + code_temporal (decode_temporal (get_or s 0 0 - 0x04))) 8 _ s v 0 9 c (key_width (0x04 + code_temporal (decode_temporal (get_or s 0 0 - 0x04))) (omega arith)
+    (omega arith)) k refl refl
 value_behind l s h v n (n_range_v c k x y a m e b j f) = behind 0x09 2 _ s v (0 + m + j) n c refl k (rw (e, f)) (omega arith)
 value_behind l s h v n (n_list_v c k vs m e) =
     behind 0x0A 2 _ s v (0 + m) n c refl k (rw (run_count no_items item count_vals refl (λ x y. refl) (read_v l) (num_at 2 1 s) (drop 3 s) vs m e, e)) (omega arith)

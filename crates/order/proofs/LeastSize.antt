@@ -11,7 +11,8 @@ use lib.ListN.{length, length-append}
 use Rattle.form.specs.Limits.{name_width, name_end}
 use Rattle.form.specs.Trees.{null, Ty, leaf, built, function, Leaf, l_null, l_boolean, l_number, l_decimal, l_string, l_temporal, Params, no_parameters, parameter, Val, v_leaf}
 use Rattle.form.specs.Trees.{v_range, v_list, v_context, v_function, v_built_in, v_type, v_irrelevant, Vals, no_items, item, Entries, no_entries, entry}
-use Rattle.form.specs.Form.{enc, enc_leaf, enc_params, enc_v, enc_vals, enc_entries, count_params, count_vals, count_entries, count_tys, level, level_fields, level_tys, level_params, level_v, level_vals}
+use Rattle.form.specs.Form.{enc, enc_leaf, enc_params, enc_v, enc_vals, enc_entries, count_params, count_vals, count_entries, count_tys, level, level_fields, level_tys, level_params}
+use Rattle.form.specs.Form.{level_v, level_vals}
 use Rattle.form.specs.Form.{level_entries, Wf, WfParams, WfV, WfVals, WfEntries}
 use Rattle.form.proofs.First.{length_front}
 use Rattle.form.proofs.Numbers.{length_bytes}

@@ -9,7 +9,8 @@ use mathlib.Core.Bool.{Bool, true, false, cond, ◌&&◌, ◌||◌, beq, false�
 use mathlib.Core.List.{List, [], ◌∷◌}
 use lib.Dec.{eqb}
 use borrow.Author.Tests.{eqb-true}
-use Rattle.form.specs.Trees.{Simple, any, boolean, number, string, date, time, date_time, days_and_time, years_and_months, null, code, decode, Temporal, on_date, at_time, at_date_time, for_days_and_time}
+use Rattle.form.specs.Trees.{Simple, any, boolean, number, string, date, time, date_time, days_and_time, years_and_months, null, code, decode, Temporal, on_date, at_time, at_date_time}
+use Rattle.form.specs.Trees.{for_days_and_time}
 use Rattle.form.specs.Trees.{for_years_and_months, code_temporal}
 use Rattle.form.proofs.ExactTypes.{decode_code}
 use Rattle.order.specs.Order.{same, Dir, up, down, Order, top, bottom, scmp, sbound, Laws, flat_order, fixed}

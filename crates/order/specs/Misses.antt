@@ -146,7 +146,8 @@ module _ (O : Order) where
         → Step (v_list (items_then before (item v after))) (built (list u)) (3 + size_vals before) 1 v u
     into_entry : (ahead : Entries) (n : ℕ) (v : Val) (rest : Entries) (before : Fields) (u : Ty) (after : Fields) → without n ahead ≡ true
         → meets (entries_then ahead (entry n v rest)) before ≡ true → conforms O v u ≡ false
-        → Step (v_context (entries_then ahead (entry n v rest))) (built (context (fields_then before (field n u after)))) (3 + size_entries ahead + name_width) (3 + size_fields before + name_width) v u
+        → Step (v_context (entries_then ahead (entry n v rest))) (built (context (fields_then before (field n u after)))) (3 + size_entries ahead + name_width)
+        (3 + size_fields before + name_width) v u
 
   -- A stop: the outer kind is wrong or the part is a function, which is no conforming one; or a name is missing, and every entry of the type before it is met.
   pub data Stop : Val → Ty → Option ℕ → Type 0 where

@@ -27,7 +27,8 @@ use Rattle.types.proofs.Reading.{ok_got, cmd, cmd_is}
 use Rattle.types.proofs.Entries.{size_got}
 use Rattle.values.specs.At.{value_at, size_at_v}
 use Rattle.values.proofs.Reading as values
-use Rattle.values.proofs.Reading.{v_inside, IsVal, is_null_lem, is_boolean_lem, is_number, is_string_lem, is_temporal_lem, is_range_lem, is_list_lem, is_context_lem, is_definition_lem, is_built_in_lem, is_type_lem}
+use Rattle.values.proofs.Reading.{v_inside, IsVal, is_null_lem, is_boolean_lem, is_number, is_string_lem, is_temporal_lem, is_range_lem, is_list_lem, is_context_lem, is_definition_lem}
+use Rattle.values.proofs.Reading.{is_built_in_lem, is_type_lem}
 use Rattle.values.proofs.Reading.{is_irrelevant_lem, is_decimal_lem, is_val, as_null}
 use Rattle.retrieval.specs.declared.builder.Retrieved.TheVariants.{Yes, No}
 use Rattle.retrieval.specs.Retrieve.{copied, retrieve_leaf, by_range, by_function, by_any, by_list, by_context, retrieve}

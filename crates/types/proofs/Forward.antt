@@ -66,7 +66,8 @@ unfolding front seen map_o
 param_last t ts k i (got u j) = refl
 param_last t ts k i (bad f) = refl
 
-param_next : (child : List ℕ → Got Ty) (s : List ℕ) (t : Ty) (m : ℕ) (y : Got Tys) → seen (and_then sig 0 s child (front (param t) (0 + m) y)) ≡ map_o (cons t) (seen (and_then sig 0 (drop m s) child y))
+param_next : (child : List ℕ → Got Ty) (s : List ℕ) (t : Ty) (m : ℕ) (y : Got Tys) → seen (and_then sig 0 s child (front (param t) (0 + m) y)) ≡ map_o (cons t) (seen (and_then sig 0
+    (drop m s) child y))
 unfolding and_then front seen map_o
 param_next child s t m (got ts i) =
     let o : m + i ≡ 0 + m + i = omega arith in
@@ -88,10 +89,12 @@ param_read l n s t e =
     ∙ first m
     ∙ ap (λ (z : ℕ). map_o (cons t) (seen (and_then sig 0 (drop z s) (read_t l) (read_tys (read_t l) n (drop z s))))) F.sized)
   where
-    first : (m : ℕ) → seen (and_then sig 0 s (read_t l) (and_then param 0 s (read_tys (read_t l) n) (got t m))) ≡ map_o (cons t) (seen (and_then sig 0 (drop m s) (read_t l) (read_tys (read_t l) n (drop m s))))
+    first : (m : ℕ) → seen (and_then sig 0 s (read_t l) (and_then param 0 s (read_tys (read_t l) n) (got t m))) ≡ map_o (cons t) (seen (and_then sig 0 (drop m s) (read_t l) (read_tys
+        (read_t l) n (drop m s))))
     first m = param_opened (read_t l) s t m (read_tys (read_t l) n)
 
-pub param_on : (l i count at : ℕ) (a : List ℕ) (t : Ty) → i < count → type_at l (drop at a) ≡ some t → sig_at l (count - i) (drop at a) ≡ map_o (cons t) (sig_at l (count - (i + 1)) (drop (at + size t) a))
+pub param_on : (l i count at : ℕ) (a : List ℕ) (t : Ty) → i < count → type_at l (drop at a) ≡ some t → sig_at l (count - i) (drop at a) ≡ map_o (cons t) (sig_at l (count - (i + 1))
+    (drop (at + size t) a))
 param_on l i count at a t h e =
     ap (λ k. sig_at l k (drop at a)) (step i count h)
     ∙ param_read l (count - (i + 1)) (drop at a) t e

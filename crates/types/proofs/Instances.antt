@@ -282,7 +282,8 @@ module _ (a b : List ℕ) (c : get_or a 0 0 ≡ 0x2C) where
 -- two contexts
 pub instance_contexts : (l : ℕ) (a b : List ℕ) → 0 < l → 0 < length a → 0 < length b → (r t n k : ℕ) → n ≡ num_at 2 1 a → k ≡ num_at 2 1 b → get_or a 0 0 ≡ 44 → get_or b 0 0 ≡ 44
     → 3 ≤ length a → 3 ≤ length b
-    → Met (add_sizes 3 3 (conform_by size_fields size_fields (entries null_or_same) (fields_at (l - 1) n 0 (take (length a - 3) (drop 3 a))) (fields_at (l - 1) k 0 (take (length b - 3) (drop 3 b))))) r t
+    → Met (add_sizes 3 3 (conform_by size_fields size_fields (entries null_or_same) (fields_at (l - 1) n 0 (take (length a - 3) (drop 3 a))) (fields_at (l - 1) k 0 (take (length b - 3)
+    (drop 3 b))))) r t
     → Met (types_by is_instance_of (type_at l a) (type_at l b)) r t
 unfolding is_instance_of instance_built
 instance_contexts l a b p ha hb r t n k ne ke c d i j m = met_contexts l a b p ha hb r t is_instance_of null_or_same (λ fs gs w. context_entries fs gs w) n k ne ke c d i j m

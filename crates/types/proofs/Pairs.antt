@@ -130,7 +130,8 @@ pub none_of : {X Y : Type 0} (sx : X → ℕ) (sy : Y → ℕ) (test : X → Y �
 none_of sx sy test positive p q r t m z = no_of (conform_by sx sy test p q) r t m z (λ i j h. let B = taken sx sy test p q i j h in omega (arith, B.size_a, positive B.x))
 
 -- the answer to a caller that has read both
-module _ {X Y : Type 0} (sx : X → ℕ) (sy : Y → ℕ) (test : X → Y → Bool) (positive : (x : X) → 0 < sx x) {p : Option X} {q : Option Y} (r t : ℕ) (m : Met (conform_by sx sy test p q) r t) (x : X) (y : Y)
+module _ {X Y : Type 0} (sx : X → ℕ) (sy : Y → ℕ) (test : X → Y → Bool) (positive : (x : X) → 0 < sx x) {p : Option X} {q : Option Y} (r t : ℕ) (m : Met (conform_by sx sy test p q) r t)
+    (x : X) (y : Y)
     (e : p ≡ some x) (f : q ≡ some y) where
   pub told_no : r ≡ 0 → test x y ≡ false
   told_no z = judge_no (test x y) (sx x) (sy y) (sym (both sx sy test p q x y e f) ∙ none_of sx sy test positive p q r t m z)

@@ -156,7 +156,8 @@ fn conform_sig(
     reading: u64,
 ) -> usize
     requires { (length a.now + 2 < 2 ^ 64) × (length b.now + 2 < 2 ^ 64) }
-    ensures { Met (add_sizes 2 2 (conform_by size_sig size_sig (le_sig (order_of reading) (ignores_at (order_of reading) count)) (sig_at left count a.now) (sig_at left count b.now))) result other.new }
+    ensures { Met (add_sizes 2 2 (conform_by size_sig size_sig (le_sig (order_of reading) (ignores_at (order_of reading) count)) (sig_at left count a.now)
+        (sig_at left count b.now))) result other.new }
 {
     if 0 == count {
         if !readings::is_strict(reading) {

@@ -31,7 +31,8 @@ use Rattle.types.proofs.Reading.{cmd}
 use Rattle.types.proofs.ByCommand.{le_null, le_other, le_leaves, same_simple_lem, count_sig}
 use Rattle.values.specs.At.{value_at, Definition, definition, definition_at}
 use Rattle.values.specs.Held.{parameter_way, definition_conforms}
-use Rattle.values.proofs.Reading.{IsVal, is_null_lem, is_boolean_lem, is_number, is_string_lem, is_temporal_lem, is_range_lem, is_list_lem, is_context_lem, is_definition_lem, is_built_in_lem, is_type_lem, is_decimal_lem}
+use Rattle.values.proofs.Reading.{IsVal, is_null_lem, is_boolean_lem, is_number, is_string_lem, is_temporal_lem, is_range_lem, is_list_lem, is_context_lem, is_definition_lem}
+use Rattle.values.proofs.Reading.{is_built_in_lem, is_type_lem, is_decimal_lem}
 use Rattle.values.proofs.Reading.{is_irrelevant_lem, is_val, as_definition, params_at, no_parameter, definition_parts, first_parameter}
 use Rattle.form.specs.Layout.{ValueKind, k_definition, is_leaf_command, leaf_type_command}
 use Rattle.form.proofs.CommandKinds.{leaf_low, low_type}

@@ -28,7 +28,8 @@ use Rattle.form.proofs.WalkAnswers.{short_end, told_ended}
 use Rattle.form.proofs.CommandKinds.{kind_temporal, width_is, low_type}
 use Rattle.form.proofs.ValueLaws.{leaf_level}
 use Rattle.form.proofs.Exact.{then_parts, Found}
-use Rattle.form.proofs.Nodes.{NodeV, n_null, n_boolean, n_number, n_string, n_temporal, n_range_v, n_list_v, n_context_v, n_definition, n_built_in, n_type, n_irrelevant, n_decimal, value_read, node_of}
+use Rattle.form.proofs.Nodes.{NodeV, n_null, n_boolean, n_number, n_string, n_temporal, n_range_v, n_list_v, n_context_v, n_definition, n_built_in, n_type, n_irrelevant, n_decimal}
+use Rattle.form.proofs.Nodes.{value_read, node_of}
 use Rattle.order.specs.Ascending.{Asc}
 use Rattle.order.specs.Size.{size, size_params, size_val, size_vals, size_entries}
 use Rattle.order.specs.Values.{leaf_type}
@@ -126,7 +127,8 @@ pub data IsVal (l : ℕ) (s : List ℕ) : ValueKind → Val → Type 0 where
   is_range_lem : (i j : ℕ) (a b : Val) → get_or s 0 0 ≡ 9 → 3 ≤ length s → items_at (l - 1) 2 (drop 3 s) ≡ some (item a (item b no_items)) → IsVal l s k_range (v_range i j a b)
   is_list_lem : (vs : Vals) → get_or s 0 0 ≡ 10 → 3 ≤ length s → items_at (l - 1) (num_at 2 1 s) (drop 3 s) ≡ some vs → IsVal l s k_list (v_list vs)
   is_context_lem : (es : Entries) → get_or s 0 0 ≡ 11 → 3 ≤ length s → entries_at (l - 1) (num_at 2 1 s) 0 (drop 3 s) ≡ some es → IsVal l s k_context (v_context es)
-  is_definition_lem : (r : Ty) (ps : Params) (b : ℕ) → get_or s 0 0 ≡ 12 → 4 ≤ length s → definition_at (l - 1) (get_or s 1 0) (drop 4 s) ≡ some (definition r ps) → IsVal l s k_definition (v_function ps b r)
+  is_definition_lem : (r : Ty) (ps : Params) (b : ℕ) → get_or s 0 0 ≡ 12 → 4 ≤ length s → definition_at (l - 1) (get_or s 1 0) (drop 4 s) ≡ some (definition r ps)
+      → IsVal l s k_definition (v_function ps b r)
   is_built_in_lem : get_or s 0 0 ≡ 13 → 2 ≤ length s → IsVal l s k_built_in (v_built_in (get_or s 1 0))
   is_type_lem : (t : Ty) → get_or s 0 0 ≡ 14 → type_at (l - 1) (drop 1 s) ≡ some t → IsVal l s k_type (v_type t)
   is_irrelevant_lem : get_or s 0 0 ≡ 15 → IsVal l s k_irrelevant v_irrelevant

@@ -80,7 +80,8 @@ retrieve_context-slice_bounds-fill-end t c =
 
 pub retrieve_context-loop-p-init : goal.retrieve_context-loop-p-init
 retrieve_context-loop-p-init t c =
-    context_begins (contexts c.args.left c.args.t.now c.args.v.now c.requires.ok c.requires.ok_2 c.requires.t_value.0 c.requires.t_value.1) _ _ c.args.out.now _ c.word_at-m.ensures.0 c.word_at-n.ensures.0
+    context_begins (contexts c.args.left c.args.t.now c.args.v.now c.requires.ok c.requires.ok_2 c.requires.t_value.0 c.requires.t_value.1)
+        _ _ c.args.out.now _ c.word_at-m.ensures.0 c.word_at-n.ensures.0
     c.word_at-n.ensures.1 c.fill.ensures
 
 pub retrieve_context-next_name-x-requires : goal.retrieve_context-next_name-x-requires
@@ -335,7 +336,8 @@ retrieve_list-slice_bounds-fill-end t c =
 
 pub retrieve_list-loop-i-init : goal.retrieve_list-loop-i-init
 retrieve_list-loop-i-init t c =
-    list_begins (lists c.args.left c.args.t.now c.args.v.now c.requires.ok c.requires.ok_2 c.requires.t_value.0 c.requires.t_value.1) _ c.args.out.now _ (bytes_of c.args.v.now c.shared_slice_known-2-1.given) c.word_at-n.ensures.0
+    list_begins (lists c.args.left c.args.t.now c.args.v.now c.requires.ok c.requires.ok_2 c.requires.t_value.0 c.requires.t_value.1) _ c.args.out.now _
+    (bytes_of c.args.v.now c.shared_slice_known-2-1.given) c.word_at-n.ensures.0
     c.fill.ensures
 
 pub retrieve_list-retrieve-requires : goal.retrieve_list-retrieve-requires

@@ -24,7 +24,9 @@ use Rattle.types.proofs.TypeConformance.{no_context, no_function, no_other, no_c
 use Rattle.types.proofs.TypeConformance.{met_context, met_function, behind_yes, behind_no, passed_over, sig_start, sig_turn}
 use Rattle.types.proofs.TypeConformance.{sig_apart, sig_done, sig_last_apart, compared_strict, compared_some}
 use Rattle.types.proofs.compare.+conform_fields_conform_inner_conform_sig_conforms.Goals as goal
-use Rattle.types.proofs.compare.+conform_fields_conform_inner_conform_sig_conforms.Goals.{conform_fields-Joined-j-m, conform_fields-then-j-m+else-b-bt-lt-NAME_WIDTH, conform_fields-else-j-m, conform_sig-Joined-count-eq0, conform_sig-then-count-eq0+else-not-is_strict, conform_sig-else-count-eq0}
+use Rattle.types.proofs.compare.+conform_fields_conform_inner_conform_sig_conforms.Goals.{conform_fields-Joined-j-m, conform_fields-then-j-m+else-b-bt-lt-NAME_WIDTH}
+use Rattle.types.proofs.compare.+conform_fields_conform_inner_conform_sig_conforms.Goals.{conform_fields-else-j-m, conform_sig-Joined-count-eq0}
+use Rattle.types.proofs.compare.+conform_fields_conform_inner_conform_sig_conforms.Goals.{conform_sig-then-count-eq0+else-not-is_strict, conform_sig-else-count-eq0}
 
 there : (t : ℕ) (c : conform_fields-Joined-j-m t) → c.loop-i.j < c.args.m → c.loop-i.bt + name_width ≤ length c.args.b.now
 there t c h =
