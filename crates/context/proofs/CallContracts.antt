@@ -327,8 +327,8 @@ pair x o = do
   es ← o
   done (record { entries = es; value = x })
 
-null_two : (o : Outcome Entries) (n room : ℕ) → (do g ← pair (nothing 0) o; checked_result room (v_context (set_entry n g.value g.entries))) ≡ (do es ← o; checked_result room (v_context
-        (set_null n es)))
+null_two : (o : Outcome Entries) (n room : ℕ) → (do g ← pair (nothing 0) o; checked_result room (v_context (set_entry n g.value g.entries)))
+    ≡ (do es ← o; checked_result room (v_context (set_null n es)))
 unfolding ◌>>=◌
 null_two (done es) n room = refl
 null_two (refused m) n room = refl
@@ -552,8 +552,8 @@ module _ (count : ℕ) (c : List ℕ) (at to : ℕ) (old : List ℕ) (l : 3 ≤ 
       let z : length (closed count c at to) ≤ length old = omega (arith, length_closed count c at to l h k) in
       built_wrote (fits (length old) (closed count c at to)) (closed count c at to) old new n refl e z (f ∙ ap (λ (b : List ℕ). onto b old) (take_all (length old) (closed count c at to) z))
 
-changed : (c : List ℕ) (f : Entries → Entries) (room : ℕ) (es : Entries) → context_of c 0 ≡ done es → (do x ← context_of c 0; checked_result room (v_context
-        (f x))) ≡ checked_result room (v_context (f es))
+changed : (c : List ℕ) (f : Entries → Entries) (room : ℕ) (es : Entries) → context_of c 0 ≡ done es
+    → (do x ← context_of c 0; checked_result room (v_context (f x))) ≡ checked_result room (v_context (f es))
 unfolding ◌>>=◌
 changed c f room es e = rw e
 

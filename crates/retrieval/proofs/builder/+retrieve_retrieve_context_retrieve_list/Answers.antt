@@ -81,7 +81,7 @@ retrieve_context-slice_bounds-fill-end t c =
 pub retrieve_context-loop-p-init : goal.retrieve_context-loop-p-init
 retrieve_context-loop-p-init t c =
     context_begins (contexts c.args.left c.args.t.now c.args.v.now c.requires.ok c.requires.ok_2 c.requires.t_value.0 c.requires.t_value.1)
-        _ _ c.args.out.now _ c.word_at-m.ensures.0 c.word_at-n.ensures.0
+    _ _ c.args.out.now _ c.word_at-m.ensures.0 c.word_at-n.ensures.0
     c.word_at-n.ensures.1 c.fill.ensures
 
 pub retrieve_context-next_name-x-requires : goal.retrieve_context-next_name-x-requires
