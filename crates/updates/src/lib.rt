@@ -84,7 +84,8 @@ pub fn splice(c: &[u8], cut: Cut, path: &[u16], v: &[u8], out: &mut [u8]) -> usi
     let b = cut.base;
     let k = cut.names;
     let mut count = form::bytes::word_at(c, b + 1);
-    if cut.gone == 0 {
+    let is_new = cut.gone == 0;
+    if is_new {
         count += 1;
     }
     output::fill(&c[..b], out);

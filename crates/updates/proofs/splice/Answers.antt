@@ -5,13 +5,13 @@ use Rattle.updates.proofs.Splices.{base_inside, front_asks, end_fits, count_more
 use Rattle.updates.specs.Writing.{count_after}
 use native.Mathlib.Omega.{arith}
 use Rattle.updates.proofs.splice.Goals as goal
-use Rattle.updates.proofs.splice.Goals.{Joined-cut-eq0, then-cut-eq0, else-cut-eq0}
+use Rattle.updates.proofs.splice.Goals.{Joined-is_new, then-is_new, else-is_new}
 
-counted : (c : Joined-cut-eq0) → c.if-cut-eq0.count ≡ count_after c.args.c.now c.args.cut
+counted : (c : Joined-is_new) → c.if-is_new.count ≡ count_after c.args.c.now c.args.cut
 counted c =
-    elim c.if-cut-eq0.branch [
-      | then-cut-eq0 w ↦ count_more c.args.c.now c.args.cut _ _ c.word_at-count.ensures.0 w.if-cut-eq0.true w.count-is
-      | else-cut-eq0 w ↦ count_kept c.args.c.now c.args.cut _ _ c.word_at-count.ensures.0 w.if-cut-eq0.false w.count-is
+    elim c.if-is_new.branch [
+      | then-is_new w ↦ count_more c.args.c.now c.args.cut _ _ c.word_at-count.ensures.0 w.if-is_new.true w.count-is
+      | else-is_new w ↦ count_kept c.args.c.now c.args.cut _ _ c.word_at-count.ensures.0 w.if-is_new.false w.count-is
     ]
 
 pub slice_bounds-fill-end : goal.slice_bounds-fill-end
@@ -20,7 +20,7 @@ slice_bounds-fill-end c =
 
 pub write_to_name-requires : goal.write_to_name-requires
 write_to_name-requires c =
-    front_asks c.args.c.now c.args.path.now c.args.v.now c.args.cut c.requires.small c.requires.cuts _ _ (counted (goal.at.write_to_name-requires c).Joined-cut-eq0)
+    front_asks c.args.c.now c.args.path.now c.args.v.now c.args.cut c.requires.small c.requires.cuts _ _ (counted (goal.at.write_to_name-requires c).Joined-is_new)
     c.name_number-name.ensures.1
 
 pub overflow_add-to : goal.overflow_add-to
@@ -50,7 +50,7 @@ put-requires c =
 pub returns : goal.returns
 returns c =
     let e = spliced_out c.args.c.now c.args.path.now c.args.v.now c.args.out.now c.args.cut c.requires.cuts _ _
-    (counted (goal.at.returns c).Joined-cut-eq0) c.name_number-name.ensures.0 _ _ _ _ _ _ _ _ _ _ _ c.fill.ensures c.min-q.ensures
+    (counted (goal.at.returns c).Joined-is_new) c.name_number-name.ensures.0 _ _ _ _ _ _ _ _ _ _ _ c.fill.ensures c.min-q.ensures
     c.write_to_name.ensures.value c.write_to_name.ensures.out_after refl c.min-r.ensures c.write_nested-n.ensures.value
     c.write_nested-n.ensures.out_after refl c.put.ensures.value c.put.ensures.out_after in
     record { value = e.0; out_after = e.1 }
