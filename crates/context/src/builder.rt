@@ -59,7 +59,8 @@ fn place(
         return Written::Refused(refusals::NOT_APPLIED);
     }
     let m = updates::measure(c, path, v, level, way);
-    if MOST_BYTES < m.size {
+    let is_long = MOST_BYTES < m.size;
+    if is_long {
         return Written::Refused(refusals::RESULT);
     }
     if VALUE_LEVELS < m.level {

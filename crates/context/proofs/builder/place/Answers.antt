@@ -36,8 +36,8 @@ measure-m-requires c =
       rest_le_most_bytes = place-asks1.1;
     }
 
-pub returns-then-m-gt-MOST_BYTES : goal.returns-then-m-gt-MOST_BYTES
-returns-then-m-gt-MOST_BYTES c =
+pub returns-then-is_long : goal.returns-then-is_long
+returns-then-is_long c =
     let args = c.args in
     λ es x ec ex.
     let along1 = along args.c.now args.path.now args.way.rest args.way.cut es ec c.requires.surveyed in
@@ -45,7 +45,7 @@ returns-then-m-gt-MOST_BYTES c =
     (bytes_of args.c.now c.type_inv.c) (bytes_of args.v.now c.type_inv.v)
     c.requires.small.bytes_c c.if-path-eq0.false args.way.rest args.way.cut along1.0 along1.1
     (sym c.is_err.ensures ∙ c.if-is_err.false) args.level (c.requires.level_value x ex) _ _ c.measure-m.ensures.size_value c.measure-m.ensures.level_value
-    c.if-m-gt-MOST_BYTES.true
+    c.if-is_long.true
 
 pub returns-then-m-gt-VALUE_LEVELS : goal.returns-then-m-gt-VALUE_LEVELS
 returns-then-m-gt-VALUE_LEVELS c =
@@ -56,7 +56,7 @@ returns-then-m-gt-VALUE_LEVELS c =
     (bytes_of args.c.now c.type_inv.c) (bytes_of args.v.now c.type_inv.v)
     c.requires.small.bytes_c c.if-path-eq0.false args.way.rest args.way.cut along1.0 along1.1
     (sym c.is_err.ensures ∙ c.if-is_err.false) args.level (c.requires.level_value x ex) _ _ c.measure-m.ensures.size_value c.measure-m.ensures.level_value
-    c.if-m-gt-MOST_BYTES.false c.if-m-gt-VALUE_LEVELS.true
+    c.if-is_long.false c.if-m-gt-VALUE_LEVELS.true
 
 pub returns-then-out-m : goal.returns-then-out-m
 returns-then-out-m c =
@@ -67,7 +67,7 @@ returns-then-out-m c =
     (bytes_of args.c.now c.type_inv.c) (bytes_of args.v.now c.type_inv.v)
     c.requires.small.bytes_c c.if-path-eq0.false args.way.rest args.way.cut along1.0 along1.1
     (sym c.is_err.ensures ∙ c.if-is_err.false) args.level (c.requires.level_value x ex) _ _ c.measure-m.ensures.size_value c.measure-m.ensures.level_value
-    c.if-m-gt-MOST_BYTES.false c.if-m-gt-VALUE_LEVELS.false c.if-out-m.true
+    c.if-is_long.false c.if-m-gt-VALUE_LEVELS.false c.if-out-m.true
 
 pub splice-requires : goal.splice-requires
 splice-requires c =
@@ -88,5 +88,5 @@ returns c =
     (bytes_of args.c.now c.type_inv.c) (bytes_of args.v.now c.type_inv.v)
     c.requires.small.bytes_c c.if-path-eq0.false args.way.rest args.way.cut along1.0 along1.1
     (sym c.is_err.ensures ∙ c.if-is_err.false) args.level (c.requires.level_value x ex) _ _ c.measure-m.ensures.size_value
-    c.measure-m.ensures.level_value c.if-m-gt-MOST_BYTES.false c.if-m-gt-VALUE_LEVELS.false c.if-out-m.false _ _ c.splice.ensures.value
+    c.measure-m.ensures.level_value c.if-is_long.false c.if-m-gt-VALUE_LEVELS.false c.if-out-m.false _ _ c.splice.ensures.value
     c.splice.ensures.out_after
