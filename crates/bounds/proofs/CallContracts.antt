@@ -1,10 +1,10 @@
 -- The calls: their arguments are read, the answer is built and copied.
 -- Idea: an accepted argument stands at the front and takes all bytes (`Fine`), and an answer is never longer than both, so it fits the scratch.
--- Index: `Fine`, `fine`, `not_read` (arguments); `first_refused`, `second_refused`, `scratch_short`, `call_ready`, `call_size`, `call_short`, `call_done` (`combine`);
+-- Index: `Fine`, `fine`, `not_read` (arguments); `first_refused`, `second_refused`, `scratch_short`, `call_ready`, `call_size`, `call_given` (`combine`);
 -- `reduced_refused`, `reduced_there`, `reduced_short`, `reduced_ready`, `reduced_done` (the reduced form).
 -- Assumes nothing.
 use Prim.Native.Nat.{ℕ, ◌+◌, ◌≤◌, ◌<◌}
-use mathlib.Core.Path.{◌≡◌, refl, sym, ap, ◌∙◌}
+use mathlib.Core.Path.{◌≡◌, refl, sym, ap, subst, ◌∙◌}
 use mathlib.Core.Bool.{Bool, true, false}
 use mathlib.Core.Option.{some}
 use mathlib.Core.List.{List, [], append-nil}
@@ -17,8 +17,12 @@ use Rattle.form.specs.Limits.{most_bytes, type_levels}
 use Rattle.form.specs.Outcome.{Outcome, done, refused, ◌>>=◌, ◌>>◌, fits}
 use Rattle.form.specs.Form.{Bytes, enc, level, Wf}
 use Rattle.form.specs.Read.{read_t, read_type, check_type}
-use Rattle.form.specs.Answers.{onto, Built}
-use Rattle.form.specs.declared.Written.TheVariants as written_is
+use Rattle.form.specs.Answers.{number, onto, Built}
+use Rattle.std.specs.declared.result.Result.{Result}
+use Rattle.std.specs.declared.result.Result.TheVariants as result_is
+use Rattle.std.specs.declared.result.Result.TheVariants.{Err}
+use Rattle.form.specs.declared.refusals.Refusal.{Refusal}
+use Rattle.form.specs.declared.refusals.Refusal.TheVariants.{Scratch, Output}
 use Rattle.form.proofs.ExactTypes.{read_enc}
 use Rattle.form.proofs.Types.{TypeTold, type_told}
 use Rattle.order.specs.Order.{Dir, up, Order, fixed}
@@ -50,8 +54,8 @@ there_is : (l : ℕ) (s : List ℕ) (t : Ty) → s ≡ enc t → Wf t → level 
 unfolding type_at
 there_is l s t e w h = got_seen (read_t l s) t (length (enc t)) (ap (read_t l) (e ∙ sym (append-nil (enc t))) ∙ read_enc t l [] w h)
 
-pub fine : (s : List ℕ) (n : ℕ) → Bytes s → check_type s ≡ done n → Fine s
-fine s n bs e = go (type_told s bs n e)
+pub fine : (s : List ℕ) (n : ℕ) → Bytes s → done n ≡ check_type s → Fine s
+fine s n bs e = go (type_told s bs n (sym e))
   where
     go : TypeTold s n → Fine s
     go T =
@@ -76,17 +80,17 @@ not_read s n e = go (read_type s) refl e
     go (refused m) p q = let r : m ≡ n = cc in p ∙ ap refused r
 
 module _ (O : Order) (d : Dir) (a b : List ℕ) (k : ℕ) (old : List ℕ) where
-  pub first_refused : (n : ℕ) → check_type a ≡ refused n → Built (combined (answer O d) a b k (length old)) old old (written_is.Refused n)
+  pub first_refused : (r : Refusal) → refused (number r) ≡ check_type a → Built (combined (answer O d) a b k (length old)) old old (Err r)
   unfolding ◌>>=◌
-  first_refused n e = built_refused (combined (answer O d) a b k (length old)) n old (rw (not_read a n e))
+  first_refused r e = built_refused (combined (answer O d) a b k (length old)) r old (rw (not_read a (number r) (sym e)))
 
-  pub second_refused : Fine a → (n : ℕ) → check_type b ≡ refused n → Built (combined (answer O d) a b k (length old)) old old (written_is.Refused n)
+  pub second_refused : Fine a → (r : Refusal) → refused (number r) ≡ check_type b → Built (combined (answer O d) a b k (length old)) old old (Err r)
   unfolding ◌>>=◌
-  second_refused A n e = built_refused (combined (answer O d) a b k (length old)) n old (rw (A.reads, not_read b n e))
+  second_refused A r e = built_refused (combined (answer O d) a b k (length old)) r old (rw (A.reads, not_read b (number r) (sym e)))
 
-  pub scratch_short : Fine a → Fine b → k < length a + length b → Built (combined (answer O d) a b k (length old)) old old (written_is.Refused 14)
+  pub scratch_short : Fine a → Fine b → k < length a + length b → Built (combined (answer O d) a b k (length old)) old old (Err Scratch)
   unfolding ◌>>=◌ ◌>>◌
-  scratch_short A B h = built_refused (combined (answer O d) a b k (length old)) 14 old (rw (A.reads, B.reads, lt-leb (length a + length b) k h))
+  scratch_short A B h = built_refused (combined (answer O d) a b k (length old)) Scratch old (rw (A.reads, B.reads, lt-leb (length a + length b) k h))
 
   module _ (A : Fine a) (B : Fine b) (h : length a + length b ≤ k) where
     call_is : combined (answer O d) a b k (length old) ≡ fits (length old) (enc (answer O d A.t B.t))
@@ -112,19 +116,17 @@ module _ (O : Order) (d : Dir) (a b : List ℕ) (k : ℕ) (old : List ℕ) where
       call_length : w ≡ length (enc (answer O d A.t B.t))
       call_length = call_wrote.long ∙ sym (length_enc (answer O d A.t B.t))
 
-      pub call_short : length old < w → Built (combined (answer O d) a b k (length old)) old old (written_is.Refused 18)
-      call_short l = built_short (combined (answer O d) a b k (length old)) (enc (answer O d A.t B.t)) old call_is (omega (arith, call_length))
-
-      pub call_done : (new : List ℕ) → w ≤ length old → new ≡ onto (take w sc2) old → Built (combined (answer O d) a b k (length old)) old new (written_is.Bytes w)
-      call_done new l o =
+      -- what stands in the scratch is handed on
+      pub call_given : (new : List ℕ) (r : Result ℕ Refusal) → Built (fits (length old) (take w sc2)) old new r → Built (combined (answer O d) a b k (length old)) old new r
+      call_given new r h =
           let part : take w sc2 ≡ enc (answer O d A.t B.t) = ap (take w) call_wrote.out ∙ onto_front (enc (answer O d A.t B.t)) sc w call_length in
-          built_wrote (combined (answer O d) a b k (length old)) (enc (answer O d A.t B.t)) old new w call_is call_length (omega (arith, call_length)) (o ∙ ap (λ (z : List ℕ). onto z old) part)
+          subst (λ o. Built o old new r) (ap (fits (length old)) part ∙ sym call_is) h
 
 -- ---- the reduced form
 module _ (s old : List ℕ) where
-  pub reduced_refused : (n : ℕ) → check_type s ≡ refused n → Built (reduced_call s (length old)) old old (written_is.Refused n)
+  pub reduced_refused : (r : Refusal) → refused (number r) ≡ check_type s → Built (reduced_call s (length old)) old old (Err r)
   unfolding ◌>>=◌
-  reduced_refused n e = built_refused (reduced_call s (length old)) n old (rw (not_read s n e))
+  reduced_refused r e = built_refused (reduced_call s (length old)) r old (rw (not_read s (number r) (sym e)))
 
   module _ (A : Fine s) where
     reduced_is : reduced_call s (length old) ≡ fits (length old) (enc (reduce fixed A.t))
@@ -139,7 +141,7 @@ module _ (s old : List ℕ) where
       unfolding Roomy
       roomy = rw A.there at m
 
-      pub reduced_short : r ≡ false → Built (reduced_call s (length old)) old old (written_is.Refused 18)
+      pub reduced_short : r ≡ false → Built (reduced_call s (length old)) old old (Err Output)
       reduced_short e =
           built_short (reduced_call s (length old)) (enc (reduce fixed A.t)) old reduced_is
           (omega (arith, leb-false (size (reduce fixed A.t)) (length old) (sym roomy ∙ e), length_enc (reduce fixed A.t)))
@@ -155,7 +157,7 @@ module _ (s old : List ℕ) where
             ready (of_types fixed up) (type_at type_levels s) (type_at type_levels s) A.t A.t (length old) A.there A.there (omega (arith, room, e)) (omega (arith, e, k, A.sized, A.short))
 
         pub reduced_done : (new : List ℕ) (i j n : ℕ) → Combined (of_types fixed up) (type_at type_levels s) (type_at type_levels s) old new i j n
-            → Built (reduced_call s (length old)) old new (written_is.Bytes n)
+            → Built (reduced_call s (length old)) old new (result_is.Ok n)
         reduced_done new i j n c =
             let g = combined_is (of_types fixed up) (type_at type_levels s) (type_at type_levels s) A.t A.t old new i j n A.there A.there c in
             let e = self (reading_ends 0) up A.t A.asc in

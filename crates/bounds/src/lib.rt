@@ -10,10 +10,10 @@ ghost use Rattle.bounds.specs.Calls.{table_common_subtype, reduced_call};
 
 mod sizes;
 
+use form::Refusal;
 use form::limits::TYPE_LEVELS;
-use form::{Checked, Written, refusals};
-use tables::load::Loaded;
-use tables::{load, readings};
+use tables::load;
+use tables::readings::Reading;
 
 // All four calls: the answer is built in the scratch, and copied where it fits. Refusals: 6 to 10 of a, then of b, 14, 18.
 fn combine(
@@ -22,56 +22,65 @@ fn combine(
     b: &[u8],
     scratch: &mut [u8],
     out: &mut [u8],
-    reading: u64,
-) -> Written
+    reading: Reading,
+) -> Result<usize, Refusal>
     ensures { Built (combined (answer (order_of reading) (toward up)) a.now b.now (length scratch.old) (length out.old)) out.old out.new result }
 {
-    match form::check_type(a) {
-        Checked::Refused(n) => Written::Refused(n),
-        Checked::Accepted { level: _ } => match form::check_type(b) {
-            Checked::Refused(n) => Written::Refused(n),
-            Checked::Accepted { level: _ } => {
-                if scratch.len() < a.len() + b.len() {
-                    return Written::Refused(refusals::SCRATCH);
-                }
-                let e = lattice::write_bound(up, a, b, scratch, TYPE_LEVELS, reading);
-                let n = e.wrote;
-                if out.len() < n {
-                    return Written::Refused(refusals::OUTPUT);
-                }
-                output::copy(&scratch[..n], out);
-                Written::Bytes(n)
-            }
-        },
+    form::check_type(a)?;
+    form::check_type(b)?;
+    if scratch.len() < a.len() + b.len() {
+        return Err(Refusal::Scratch);
     }
+    let e = lattice::write(up, a, b, scratch, TYPE_LEVELS, reading);
+    output::give(&scratch[..e.wrote], out)
 }
 
 // The common supertype, reduced.
-pub fn common_supertype(a: &[u8], b: &[u8], scratch: &mut [u8], out: &mut [u8]) -> Written
+pub fn common_supertype(
+    a: &[u8],
+    b: &[u8],
+    scratch: &mut [u8],
+    out: &mut [u8],
+) -> Result<usize, Refusal>
     ensures { Built (common_supertype a.now b.now (length scratch.old) (length out.old)) out.old out.new result }
 {
-    combine(true, a, b, scratch, out, readings::DOCUMENT)
+    combine(true, a, b, scratch, out, Reading::DOCUMENT)
 }
 
 // The common subtype, reduced.
-pub fn common_subtype(a: &[u8], b: &[u8], scratch: &mut [u8], out: &mut [u8]) -> Written
+pub fn common_subtype(
+    a: &[u8],
+    b: &[u8],
+    scratch: &mut [u8],
+    out: &mut [u8],
+) -> Result<usize, Refusal>
     ensures { Built (common_subtype a.now b.now (length scratch.old) (length out.old)) out.old out.new result }
 {
-    combine(false, a, b, scratch, out, readings::DOCUMENT)
+    combine(false, a, b, scratch, out, Reading::DOCUMENT)
 }
 
 // The common supertype as DMN has it: results of functions without parameters are taken together too, and nothing is reduced.
-pub fn strict_common_supertype(a: &[u8], b: &[u8], scratch: &mut [u8], out: &mut [u8]) -> Written
+pub fn strict_common_supertype(
+    a: &[u8],
+    b: &[u8],
+    scratch: &mut [u8],
+    out: &mut [u8],
+) -> Result<usize, Refusal>
     ensures { Built (strict_common_supertype a.now b.now (length scratch.old) (length out.old)) out.old out.new result }
 {
-    combine(true, a, b, scratch, out, readings::STRICT)
+    combine(true, a, b, scratch, out, Reading::STRICT)
 }
 
 // The common subtype likewise.
-pub fn strict_common_subtype(a: &[u8], b: &[u8], scratch: &mut [u8], out: &mut [u8]) -> Written
+pub fn strict_common_subtype(
+    a: &[u8],
+    b: &[u8],
+    scratch: &mut [u8],
+    out: &mut [u8],
+) -> Result<usize, Refusal>
     ensures { Built (strict_common_subtype a.now b.now (length scratch.old) (length out.old)) out.old out.new result }
 {
-    combine(false, a, b, scratch, out, readings::STRICT)
+    combine(false, a, b, scratch, out, Reading::STRICT)
 }
 
 // Both calls over a members' table, which is refused first: 26, 27, 28; then as `combine`.
@@ -82,13 +91,10 @@ fn combine_over(
     b: &[u8],
     scratch: &mut [u8],
     out: &mut [u8],
-) -> Written
+) -> Result<usize, Refusal>
     ensures { Built (table_combined (λ order. answer order (toward up)) table.now a.now b.now (length scratch.old) (length out.old)) out.old out.new result }
 {
-    match load::load(table) {
-        Loaded::Refused(n) => Written::Refused(n),
-        Loaded::Reading(reading) => combine(up, a, b, scratch, out, reading),
-    }
+    combine(up, a, b, scratch, out, load::load(table)?)
 }
 
 // The common supertype over a table: of two simple types their least common one.
@@ -98,7 +104,7 @@ pub fn table_common_supertype(
     b: &[u8],
     scratch: &mut [u8],
     out: &mut [u8],
-) -> Written
+) -> Result<usize, Refusal>
     ensures { Built (table_common_supertype table.now a.now b.now (length scratch.old) (length out.old)) out.old out.new result }
 {
     combine_over(true, table, a, b, scratch, out)
@@ -111,24 +117,20 @@ pub fn table_common_subtype(
     b: &[u8],
     scratch: &mut [u8],
     out: &mut [u8],
-) -> Written
+) -> Result<usize, Refusal>
     ensures { Built (table_common_subtype table.now a.now b.now (length scratch.old) (length out.old)) out.old out.new result }
 {
     combine_over(false, table, a, b, scratch, out)
 }
 
 // The reduced form: the result of every function type without parameters becomes Any. Refusals 6 to 10 and 18.
-pub fn reduced(t: &[u8], out: &mut [u8]) -> Written
+pub fn reduced(t: &[u8], out: &mut [u8]) -> Result<usize, Refusal>
     ensures { Built (reduced_call t.now (length out.old)) out.old out.new result }
 {
-    match form::check_type(t) {
-        Checked::Refused(n) => Written::Refused(n),
-        Checked::Accepted { level: _ } => {
-            if !sizes::has_room(t, out.len(), TYPE_LEVELS) {
-                return Written::Refused(refusals::OUTPUT);
-            }
-            let e = lattice::same_super(t, t, out, TYPE_LEVELS, readings::DOCUMENT);
-            Written::Bytes(e.wrote)
-        }
+    form::check_type(t)?;
+    if !sizes::has_room(t, out.len(), TYPE_LEVELS) {
+        return Err(Refusal::Output);
     }
+    let e = lattice::same(true, t, t, out, TYPE_LEVELS, Reading::DOCUMENT);
+    Ok(e.wrote)
 }

@@ -11,7 +11,7 @@ use form::commands;
 use form::limits::NAME_WIDTH;
 
 // The size of a type or a run of types, and of its reduced form.
-#[derive(Drop)]
+#[derive(Clone, Copy, Debug, PartialEq, Eq)]
 struct Sizes {
     read: usize,
     short: usize,
@@ -48,7 +48,7 @@ fn measure(s: &[u8], left: usize) -> Sizes
             short: 3,
         };
     }
-    let m = measure_sig(&s[2..], form::bytes::wide(n), left - 1);
+    let m = measure_sig(&s[2..], usize::from(n), left - 1);
     Sizes {
         read: m.read + 2,
         short: m.short + 2,
@@ -63,14 +63,12 @@ fn measure_fields(s: &[u8], n: usize, left: usize) -> Sizes
 {
     let mut at: usize = 0;
     let mut to: usize = 0;
-    let mut i: usize = 0;
-    while i < n {
+    for _ in 0..n {
         let p = at + NAME_WIDTH;
         let w = to + NAME_WIDTH;
         let m = measure(&s[p..], left);
         at = p + m.read;
         to = w + m.short;
-        i += 1;
     }
     Sizes {
         read: at,
@@ -86,12 +84,10 @@ fn measure_sig(s: &[u8], count: usize, left: usize) -> Sizes
 {
     let mut at: usize = 0;
     let mut to: usize = 0;
-    let mut i: usize = 0;
-    while i < count {
+    for _ in 0..count {
         let m = measure(&s[at..], left);
-        at = at + m.read;
-        to = to + m.short;
-        i += 1;
+        at += m.read;
+        to += m.short;
     }
     let m = measure(&s[at..], left);
     Sizes {

@@ -1,16 +1,17 @@
 -- The rules of coercion, one by one, as the code asks them; and the results that they give.
 -- Idea: each helper says a test of the two trees (`SaysAt`); the result is the definition's at those answers.
--- Index: `value_says`, `function_says`, `bif_function`, `bif_sqrt`, `bif_any` (conformance); `keeps_definition`, `keeps_built_in`, `keeps_other` (`keeps`); `listed`, `one_item`, `item_no`,
--- `item_says` (`takes_item`); `inner_no`, `inner_says` (`meets_inner`); `give_conformant`, `give_same`, `give_item`, `give_no_item`, `give_single`, `give_failed` (results);
+-- Index: `value_says`, `function_says`, `bif_rules` (conformance); `keep_rules`, `item_rules`, `inner_rules` (what `keeps`, `takes_item` and `meets_inner` need);
+-- `value_byte`, `list_three`, `value_fits` (what is there); `give_conformant`, `give_same`, `give_item`, `give_no_item`, `give_single`, `give_failed` (results);
 -- `wrap_long`, `wrap_deep`, `wrap_short`, `wrap_done` (`wrap`); `first_refused`, `second_refused`, `ready` (arguments).
 -- Assumes nothing.
 use Prim.Native.Nat.{ℕ, zero, suc, ◌+◌, ◌-◌, ◌<◌, ◌≤◌}
 use native.Mathlib.Omega.{arith}
 use mathlib.Core.Path.{◌≡◌, refl, sym, ap, ap₂, subst, ◌∙◌}
 use mathlib.Core.Bool.{Bool, true, false, not, cond, ◌&&◌, ◌||◌, false≢true}
+use mathlib.Core.Logic.{◌⊎◌, inl, inr}
 use mathlib.Core.Option.{Option, none, some}
 use mathlib.Core.List.{List, [], ◌∷◌, append-nil}
-use lib.ListN.{length, get_or, take, drop, set, length-set, length-drop}
+use lib.ListN.{length, get_or, take, drop, length-drop}
 use lib.Dec.{leb, eqb}
 use borrow.Author.Tests.{le-leb, lt-leb, eq-eqb, ne_eqb}
 use borrow.Rule.Slice.PartMut.{put_mid}
@@ -21,12 +22,14 @@ use Rattle.form.specs.Form.{Bytes, bytes, num_at, enc_v, enc_leaf, count_vals, l
 use Rattle.form.specs.Layout.{kind_of, ValueKind, k_list, k_definition, k_built_in}
 use Rattle.form.specs.Outcome.{done, refused, ◌>>=◌, ◌>>◌, check, fits}
 use Rattle.form.specs.Read.{front, and_then, read_run, read_function, step_type, step_t, read_t, read_v, read_type, read_value, check_type, check_value}
-use Rattle.form.specs.Answers.{onto, Built}
-use Rattle.form.specs.declared.Written.TheVariants as written_is
+use Rattle.form.specs.Answers.{number as number_of, onto, Built}
+use Rattle.std.specs.declared.result.Result.TheVariants as result_is
+use Rattle.form.specs.declared.refusals.Refusal.{Refusal}
+use Rattle.form.specs.declared.refusals.Refusal.TheVariants.{ResultSize, Output}
 use Rattle.form.proofs.Exact.{bytes_drop}
 use Rattle.form.proofs.Types.{type_told}
 use Rattle.form.proofs.Values.{value_accepted, value_told, read_up_v}
-use Rattle.form.proofs.Runs.{rest, length_rest}
+use Rattle.form.proofs.Runs.{rest}
 use Rattle.order.specs.Types.{cmp}
 use Rattle.order.specs.Size.{size, size_val}
 use Rattle.order.specs.Order.{fixed}
@@ -38,15 +41,15 @@ use Rattle.types.specs.Conform.{judge, conform_by, conform_of, Met}
 use Rattle.types.specs.Calls.{is_yes}
 use Rattle.types.proofs.Reading as types
 use Rattle.types.proofs.Reading.{is_ok, ok_got, seen_got, got_seen, cmd, cmd_is, some_byte}
-use Rattle.types.proofs.CallContracts.{whole_type}
+use Rattle.types.proofs.CallContracts.{was_refused, whole_type}
 use Rattle.values.specs.At.{value_at, items_at}
 use Rattle.values.specs.Held.{held}
 use Rattle.values.specs.Calls.{is_conformant, Accepted}
-use Rattle.values.proofs.CallContracts.{whole_value, not_held}
+use Rattle.values.proofs.CallContracts.{value_accepted as value_held, value_refused, whole_value, not_held}
 use Rattle.values.proofs.Definitions.{type_up}
 use Rattle.values.proofs.Reading as reading
 use Rattle.values.proofs.Reading.{first_item_lem, nth, no_nth, no_item}
-use Rattle.output.proofs.OntoLaws.{onto_three, back, length_onto}
+use Rattle.output.proofs.OntoLaws.{back}
 use Rattle.output.proofs.Outcomes.{built_refused, built_short, built_wrote}
 use Rattle.ranges.specs.Ranges.{bif_type}
 use Rattle.coercion.specs.Coerce.{failed, single, unchanged, sole_item_conforms, item_conforms, first_item, inner_conforms, to_single, converted, coerced}
@@ -109,12 +112,6 @@ module _ (t : List ℕ) (q : Ok (type_at type_levels t)) where
   pub type_byte : 0 < length t
   type_byte = some_byte type_levels t U.0 U.1
 
-  pub bif_function : (b : ℕ) (r : Bool) → b ≡ 0 → BifSays 0 t r → BifSays b t r
-  bif_function b r e h = rw e h
-
-  pub bif_sqrt : (b : ℕ) (r : Bool) → b ≡ 67 → BifSays 0 t r → BifSays b t r
-  bif_sqrt b r e h = rw e h
-
   any_below : (y : Ty) → conforms_to (leaf any) y ≡ eqb (cmd y) 0x20
   unfolding cmp
   any_below (leaf any) = refl
@@ -132,11 +129,13 @@ module _ (t : List ℕ) (q : Ok (type_at type_levels t)) where
   any_below (built (context fs)) = refl
   any_below (built (function ps r)) = refl
 
-  pub bif_any : (b : ℕ) → (b ≡ 0 → ⊥) → (b ≡ 67 → ⊥) → BifSays b t (eqb (get_or t 0 0) 0x20)
-  bif_any b h k =
+  pub bif_any : (b : ℕ) → ((b ≡ 0) ⊎ (b ≡ 67) → ⊥) → BifSays b t (eqb (get_or t 0 0) 0x20)
+  bif_any b h =
       is_said conforms_to (some (bif_type b)) (type_at type_levels t) (bif_type b) U.0 (eqb (get_or t 0 0) 0x20) refl U.1
       (ap (λ x. eqb x 0x20) (sym (cmd_is type_levels t U.0 U.1)) ∙ sym (any_below U.0)
-      ∙ ap (λ x. conforms_to (cond x number_to_number (leaf any)) U.0) (sym (ap₂ ◌||◌ (ne_eqb b 0 h) (ne_eqb b 67 k))))
+      ∙ ap (λ x. conforms_to (cond x number_to_number (leaf any)) U.0) (sym (ap₂ ◌||◌ (ne_eqb b 0 (λ e. h (inl e))) (ne_eqb b 67 (λ e. h (inr e))))))
+
+pub ruleset bif_rules = (type_byte, bif_any)
 
 -- a one-item list: three bytes in front, and one level on top
 single_result : (room : ℕ) (w : Val) (s : List ℕ) (lv : ℕ) → s ≡ enc_v w → lv ≡ level_v w → checked_result room (single w) ≡ wrapped s lv room
@@ -147,6 +146,33 @@ single_result room w s lv e l =
     ap₂ (λ x y. ◌>>◌ (check 17 (leb x most_bytes && leb y value_levels)) (fits room (enc_v (single w)))) n d
     ∙ ap (λ x. ◌>>◌ (check 17 (leb (length s + 3) most_bytes && leb (lv + 1) value_levels)) (fits room x)) b
 
+-- ---- what stands in the bytes of an accepted value or type
+module _ (t : List ℕ) (u : Ty) (e : read_type t ≡ done u) where
+  pub type_ok : Ok (type_at type_levels t)
+  type_ok = is_ok (type_at type_levels t) u (whole_type.stands t u e)
+
+  pub first_byte : 0 < length t
+  first_byte = some_byte type_levels t u (whole_type.stands t u e)
+
+module _ (v : List ℕ) (w : Val) (e : read_value v ≡ done w) where
+  pub value_byte : 0 < length v
+  value_byte = reading.some_byte value_levels v w (whole_value.stands v w e)
+
+  built_in : get_or v 0 0 ≡ 0x0D → (w ≡ v_built_in (get_or v 1 0)) × (2 ≤ length v)
+  built_in c = go (as_built_in value_levels v w (whole_value.stands v w e) c)
+    where
+      go : {x : Val} → IsVal value_levels v k_built_in x → (x ≡ v_built_in (get_or v 1 0)) × (2 ≤ length v)
+      go (is_built_in_lem b k) = (refl, k)
+
+  pub bif_byte : get_or v 0 0 ≡ 0x0D → 1 < length v
+  bif_byte c = (built_in c).1
+
+  pub list_three : get_or v 0 0 ≡ 0x0A → 3 ≤ length v
+  list_three c = go (as_list value_levels v w (whole_value.stands v w e) c)
+    where
+      go : {x : Val} → IsVal value_levels v k_list x → 3 ≤ length v
+      go (is_list_lem vs b k p) = k
+
 -- ---- the two that were accepted
 module _ (t v : List ℕ) (A : Accepted t v) where
   type_there : type_at type_levels t ≡ some A.type
@@ -154,15 +180,6 @@ module _ (t v : List ℕ) (A : Accepted t v) where
 
   value_there : value_at value_levels v ≡ some A.value
   value_there = whole_value.stands v A.value A.read_v_lem
-
-  pub type_ok : Ok (type_at type_levels t)
-  type_ok = is_ok (type_at type_levels t) A.type type_there
-
-  pub value_byte : 0 < length v
-  value_byte = reading.some_byte value_levels v A.value value_there
-
-  pub first_type_lem : 0 < length t
-  first_type_lem = some_byte type_levels t A.type type_there
 
   says : (test : Val → Ty → Bool) (r : Bool) → r ≡ test A.value A.type → SaysAt test v t r
   says test r h = is_said test (value_at value_levels v) (type_at type_levels t) A.value A.type r value_there type_there h
@@ -195,18 +212,9 @@ module _ (t v : List ℕ) (A : Accepted t v) where
       go (is_irrelevant_lem e) = refl
       go (is_decimal_lem x p e) = refl
 
-  built_in : get_or v 0 0 ≡ 0x0D → (A.value ≡ v_built_in (get_or v 1 0)) × (2 ≤ length v)
-  built_in c = go (as_built_in value_levels v A.value value_there c)
-    where
-      go : {x : Val} → IsVal value_levels v k_built_in x → (x ≡ v_built_in (get_or v 1 0)) × (2 ≤ length v)
-      go (is_built_in_lem e k) = (refl, k)
-
-  pub bif_byte : get_or v 0 0 ≡ 0x0D → 1 < length v
-  bif_byte c = (built_in c).1
-
   pub keeps_built_in : false ≡ is_yes (is_conformant v t) → get_or v 0 0 ≡ 0x0D → (r : Bool) → BifSays (get_or v 1 0) t r → SaysAt unchanged v t r
   keeps_built_in f c r h =
-      let e = (built_in c).0 in
+      let e = (built_in v A.value A.read_v_lem c).0 in
       let n : value_conforms_to (v_built_in (get_or v 1 0)) A.type ≡ false = ap (λ x. value_conforms_to x A.type) (sym e) ∙ not_held t v A f in
       let q = conforms_to (bif_type (get_or v 1 0)) A.type in
       says unchanged r
@@ -294,9 +302,6 @@ module _ (t v : List ℕ) (A : Accepted t v) where
       (said value_conforms_to (value_at value_levels (take (length v - 3) (drop 3 v))) (type_at type_levels t) I.x A.type r (ap (value_at value_levels) (rest v 3) ∙ I.there) type_there g
       ∙ sym (ap (λ x. item_conforms x A.type) I.is))
 
-  pub list_three : get_or v 0 0 ≡ 0x0A → 3 ≤ length v
-  list_three c = (listed c).three
-
   -- ---- list types
   pub inner_no : (get_or t 0 0 ≡ 0x2A → ⊥) → SaysAt inner_conforms v t false
   inner_no h = says inner_conforms false (go A.type (λ z. h (sym (cmd_is type_levels t A.type type_there) ∙ z)))
@@ -339,21 +344,21 @@ module _ (t v : List ℕ) (A : Accepted t v) where
   pub give_conformant : value_conforms_to A.value A.type ≡ true → (room : ℕ) → fits room v ≡ coerced_call v t room
   give_conformant h = give_unchanged (same_if A.value A.type h)
 
-  pub give_same : (r : Bool) → SaysAt unchanged v t r → r ≡ true → (room : ℕ) → fits room v ≡ coerced_call v t room
-  give_same r h e = give_unchanged (sym (was unchanged r h) ∙ e)
+  pub give_same : SaysAt unchanged v t true → (room : ℕ) → fits room v ≡ coerced_call v t room
+  give_same h = give_unchanged (sym (was unchanged true h))
 
   failed_is : (room : ℕ) → checked_result room failed ≡ fits room (0 ∷ 1 ∷ [])
   unfolding ◌>>◌ enc_v enc_leaf level_v
   failed_is room = refl
 
-  module _ (r : Bool) (h : SaysAt unchanged v t r) (e : r ≡ false) where
+  module _ (h : SaysAt unchanged v t false) where
     changed : coerced A.value A.type ≡ converted A.value A.type
-    changed = coerced_is false (sym (was unchanged r h) ∙ e)
+    changed = coerced_is false (sym (was unchanged false h))
 
-    pub give_item : get_or v 0 0 ≡ 0x0A → (q : Bool) → SaysAt item_conforms v t q → q ≡ true → (room : ℕ) → fits room (take (length v - 3) (drop 3 v)) ≡ coerced_call v t room
+    pub give_item : get_or v 0 0 ≡ 0x0A → SaysAt item_conforms v t true → (room : ℕ) → fits room (take (length v - 3) (drop 3 v)) ≡ coerced_call v t room
     unfolding level_v
-    give_item c q g f room =
-        let y : item_conforms A.value A.type ≡ true = sym (was item_conforms q g) ∙ f in
+    give_item c g room =
+        let y : item_conforms A.value A.type ≡ true = sym (was item_conforms true g) in
         let n : num_at 2 1 v ≡ 1 = count_one c y in
         let I = one_item c n in
         let z : converted A.value A.type ≡ I.x = ap (λ x. converted x A.type) I.is ∙ ap (λ b. cond b I.x failed) (sym (ap (λ x. item_conforms x A.type) I.is) ∙ y) in
@@ -361,10 +366,10 @@ module _ (t v : List ℕ) (A : Accepted t v) where
         let short : length (drop 3 v) ≤ most_bytes = simp length-drop (omega (arith, accepted_value.2)) in
         ap (fits room) (rest v 3) ∙ sym (call_is room ∙ ap (checked_result room) (changed ∙ z) ∙ small_result room I.x (drop 3 v) I.bytes short low)
 
-    pub give_no_item : get_or v 0 0 ≡ 0x0A → (q : Bool) → SaysAt item_conforms v t q → q ≡ false → (room : ℕ) → fits room (0 ∷ 1 ∷ []) ≡ coerced_call v t room
-    give_no_item c q g f room =
+    pub give_no_item : get_or v 0 0 ≡ 0x0A → SaysAt item_conforms v t false → (room : ℕ) → fits room (0 ∷ 1 ∷ []) ≡ coerced_call v t room
+    give_no_item c g room =
         let L = listed c in
-        let y : sole_item_conforms L.vs A.type ≡ false = sym (ap (λ x. item_conforms x A.type) L.is) ∙ sym (was item_conforms q g) ∙ f in
+        let y : sole_item_conforms L.vs A.type ≡ false = sym (ap (λ x. item_conforms x A.type) L.is) ∙ sym (was item_conforms false g) in
         let z : converted A.value A.type ≡ failed = ap (λ x. converted x A.type) L.is ∙ ap (λ b. cond b (first_item L.vs) failed) y in
         sym (call_is room ∙ ap (checked_result room) (changed ∙ z) ∙ failed_is room)
 
@@ -387,83 +392,63 @@ module _ (t v : List ℕ) (A : Accepted t v) where
         go (is_irrelevant_lem e) = refl
         go (is_decimal_lem x p e) = refl
 
-    module _ (c : get_or v 0 0 ≡ 0x0A → ⊥) (q : Bool) (g : SaysAt inner_conforms v t q) where
-      pub give_failed : q ≡ false → (room : ℕ) → fits room (0 ∷ 1 ∷ []) ≡ coerced_call v t room
-      give_failed f room =
-          let z : to_single A.value A.type ≡ failed = ap (λ b. cond b (single A.value) failed) (sym (was inner_conforms q g) ∙ f) in
+    module _ (c : get_or v 0 0 ≡ 0x0A → ⊥) where
+      pub give_failed : SaysAt inner_conforms v t false → (room : ℕ) → fits room (0 ∷ 1 ∷ []) ≡ coerced_call v t room
+      give_failed g room =
+          let z : to_single A.value A.type ≡ failed = ap (λ b. cond b (single A.value) failed) (sym (was inner_conforms false g)) in
           sym (call_is room ∙ ap (checked_result room) (changed ∙ other_is c ∙ z) ∙ failed_is room)
 
-      pub give_single : q ≡ true → (lv : ℕ) → lv ≡ level_v A.value → (room : ℕ) → wrapped v lv room ≡ coerced_call v t room
-      give_single f lv l room =
-          let z : to_single A.value A.type ≡ single A.value = ap (λ b. cond b (single A.value) failed) (sym (was inner_conforms q g) ∙ f) in
+      pub give_single : SaysAt inner_conforms v t true → (lv : ℕ) → lv ≡ level_v A.value → (room : ℕ) → wrapped v lv room ≡ coerced_call v t room
+      give_single g lv l room =
+          let z : to_single A.value A.type ≡ single A.value = ap (λ b. cond b (single A.value) failed) (sym (was inner_conforms true g)) in
           sym (call_is room ∙ ap (checked_result room) (changed ∙ other_is c ∙ z) ∙ single_result room A.value v lv accepted_value.0 l)
 
-  pub long_value : length v ≤ most_bytes
-  long_value = accepted_value.2
+  pub value_fits : (lv : ℕ) → lv ≡ level_v A.value → (length v ≤ most_bytes) × (lv ≤ value_levels)
+  value_fits lv e = (accepted_value.2, omega (arith, accepted_value.1))
 
-  pub low_value : (lv : ℕ) → lv ≡ level_v A.value → lv ≤ value_levels
-  low_value lv e = omega (arith, accepted_value.1)
+pub ruleset keep_rules = (value_byte, bif_byte, type_ok, keeps_definition, keeps_built_in, keeps_other)
+
+pub ruleset item_rules = (list_three, item_no, item_says)
+
+pub ruleset inner_rules = (first_byte, inner_no, inner_says)
 
 -- ---- `wrap`
 module _ (v : List ℕ) (lv : ℕ) (old : List ℕ) where
-  pub wrap_second : length v + 3 ≤ length old → 1 < length (set old 0 10)
-  wrap_second l = simp length-set (omega arith)
-
-  pub wrap_third : length v + 3 ≤ length old → 2 < length (set (set old 0 10) 1 1)
-  wrap_third l = simp (length-set, length-set) (omega arith)
-
-  pub wrap_long : most_bytes < length v + 3 → Built (wrapped v lv (length old)) old old (written_is.Refused 17)
+  pub wrap_long : most_bytes < length v + 3 → Built (wrapped v lv (length old)) old old (result_is.Err ResultSize)
   unfolding ◌>>◌
-  wrap_long h = built_refused (wrapped v lv (length old)) 17 old (rw (lt-leb (length v + 3) most_bytes h))
+  wrap_long h = built_refused (wrapped v lv (length old)) ResultSize old (rw (lt-leb (length v + 3) most_bytes h))
 
-  module _ (h : length v + 3 ≤ most_bytes) where
-    pub wrap_deep : value_levels < lv + 1 → Built (wrapped v lv (length old)) old old (written_is.Refused 17)
+  pub wrap_deep : length v + 3 ≤ most_bytes → value_levels < lv + 1 → Built (wrapped v lv (length old)) old old (result_is.Err ResultSize)
+  unfolding ◌>>◌
+  wrap_deep h k = built_refused (wrapped v lv (length old)) ResultSize old (rw (le-leb (length v + 3) most_bytes h, lt-leb (lv + 1) value_levels k))
+
+  module _ (h : length v + 3 ≤ most_bytes) (k : lv + 1 ≤ value_levels) where
+    wrap_is : wrapped v lv (length old) ≡ fits (length old) (0x0A ∷ 1 ∷ 0 ∷ v)
     unfolding ◌>>◌
-    wrap_deep k = built_refused (wrapped v lv (length old)) 17 old (rw (le-leb (length v + 3) most_bytes h, lt-leb (lv + 1) value_levels k))
+    wrap_is = rw (le-leb (length v + 3) most_bytes h, le-leb (lv + 1) value_levels k)
 
-    module _ (k : lv + 1 ≤ value_levels) where
-      wrap_is : wrapped v lv (length old) ≡ fits (length old) (0x0A ∷ 1 ∷ 0 ∷ v)
-      unfolding ◌>>◌
-      wrap_is = rw (le-leb (length v + 3) most_bytes h, le-leb (lv + 1) value_levels k)
+    pub wrap_short : length old < length v + 3 → Built (wrapped v lv (length old)) old old (result_is.Err Output)
+    wrap_short l = built_short (wrapped v lv (length old)) (0x0A ∷ 1 ∷ 0 ∷ v) old wrap_is (omega arith)
 
-      pub wrap_short : length old < length v + 3 → Built (wrapped v lv (length old)) old old (written_is.Refused 18)
-      wrap_short l = built_short (wrapped v lv (length old)) (0x0A ∷ 1 ∷ 0 ∷ v) old wrap_is (omega arith)
-
-      module _ (l : length v + 3 ≤ length old) where
-        pub wrap_three : 3 ≤ length (set (set (set old 0 10) 1 1) 2 0)
-        wrap_three = simp (length-set, length-set, length-set) (omega arith)
-
-        head_is : set (set (set old 0 10) 1 1) 2 0 ≡ onto (10 ∷ 1 ∷ 0 ∷ []) old
-        head_is = onto_three old 10 1 0 (omega arith)
-
-        pub wrap_room : length v ≤ length (take (length (set (set (set old 0 10) 1 1) 2 0) - 3) (drop 3 (set (set (set old 0 10) 1 1) 2 0)))
-        wrap_room = omega (arith, length_rest (set (set (set old 0 10) 1 1) 2 0) 3, length_three)
-          where
-            length_three : length (set (set (set old 0 10) 1 1) 2 0) ≡ length old
-            length_three = simp (length-set, length-set, length-set) refl
-
-        module _ (ys : List ℕ) (q : ys ≡ onto v (take (length (set (set (set old 0 10) 1 1) 2 0) - 3) (drop 3 (set (set (set old 0 10) 1 1) 2 0)))) where
-          new_is : put_mid 3 (length (set (set (set old 0 10) 1 1) 2 0) - 3) (set (set (set old 0 10) 1 1) 2 0) ys ≡ onto (10 ∷ 1 ∷ 0 ∷ v) old
-          new_is = back (10 ∷ 1 ∷ 0 ∷ []) v old (set (set (set old 0 10) 1 1) 2 0) ys 3 head_is refl (omega arith) q
-
-          pub wrap-same : length (put_mid 3 (length (set (set (set old 0 10) 1 1) 2 0) - 3) (set (set (set old 0 10) 1 1) 2 0) ys) ≡ length old
-          wrap-same = ap length new_is ∙ length_onto (10 ∷ 1 ∷ 0 ∷ v) old (omega arith)
-
-          pub wrap_done : Built (wrapped v lv (length old)) old (put_mid 3 (length (set (set (set old 0 10) 1 1) 2 0) - 3) (set (set (set old 0 10) 1 1) 2 0) ys) (written_is.Bytes (length v + 3))
-          wrap_done = built_wrote (wrapped v lv (length old)) (0x0A ∷ 1 ∷ 0 ∷ v) old (put_mid 3 (length (set (set (set old 0 10) 1 1) 2 0) - 3) (set (set (set old 0 10) 1 1) 2 0) ys)
-              (length v + 3) wrap_is (omega arith) (omega arith) new_is
+    -- the head, then the value over the rest
+    pub wrap_done : length v + 3 ≤ length old → (xs ys : List ℕ) → xs ≡ onto (0x0A ∷ 1 ∷ 0 ∷ []) old → ys ≡ onto v (take (length xs - 3) (drop 3 xs))
+        → Built (wrapped v lv (length old)) old (put_mid 3 (length xs - 3) xs ys) (result_is.Ok (length v + 3))
+    wrap_done l xs ys e q =
+        built_wrote (wrapped v lv (length old)) (0x0A ∷ 1 ∷ 0 ∷ v) old (put_mid 3 (length xs - 3) xs ys) (length v + 3) wrap_is (omega arith) (omega arith)
+        (back (0x0A ∷ 1 ∷ 0 ∷ []) v old xs ys 3 e refl (omega arith) q)
 
 -- ---- arguments that are refused
-pub first_refused : (v t : List ℕ) (n k : ℕ) → read_value v ≡ refused n → coerced_call v t k ≡ refused n
-unfolding coerced_call ◌>>=◌
-first_refused v t n k e = rw e
+module _ (v t : List ℕ) (out : List ℕ) where
+  pub first_refused : (e : Refusal) → refused (number_of e) ≡ check_value v → Built (coerced_call v t (length out)) out out (result_is.Err e)
+  unfolding coerced_call ◌>>=◌
+  first_refused e h = built_refused (coerced_call v t (length out)) e out (rw (value_refused v (number_of e) h))
 
-pub second_refused : (v t : List ℕ) (x : Val) (n k : ℕ) → read_value v ≡ done x → read_type t ≡ refused n → coerced_call v t k ≡ refused n
-unfolding coerced_call ◌>>=◌
-second_refused v t x n k e f = rw (e, f)
+  pub second_refused : (n : ℕ) (e : Refusal) → Bytes v → done n ≡ check_value v → refused (number_of e) ≡ check_type t → Built (coerced_call v t (length out)) out out (result_is.Err e)
+  unfolding coerced_call ◌>>=◌
+  second_refused n e b h k = built_refused (coerced_call v t (length out)) e out (rw ((value_held v b n h).whole, was_refused t (number_of e) k))
 
-pub ready : (v t : List ℕ) (n m : ℕ) → Bytes v → Bytes t → check_value v ≡ done n → check_type t ≡ done m → Ready v t n
+pub ready : (v t : List ℕ) (n m : ℕ) → Bytes v → Bytes t → done n ≡ check_value v → done m ≡ check_type t → Ready v t n
 ready v t n m bv bt e f =
-    let W = value_told v bv n e in
-    let T = type_told t bt m f in
+    let W = value_told v bv n (sym e) in
+    let T = type_told t bt m (sym f) in
     record { both = record { bytes_t = bt; bytes_v = bv; type = T.tree; value = W.tree; read_t_lem = T.reads; read_v_lem = W.reads }; level = sym W.deep }

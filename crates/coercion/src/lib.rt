@@ -8,21 +8,17 @@ ghost use Rattle.coercion.specs.Calls.{coerced_call};
 
 mod conversion;
 
-use form::{Checked, Written};
-use tables::readings;
+use form::Refusal;
+use tables::readings::Reading;
 
 // `Value::coerced`. Refusals 1 to 5 of the value, 6 to 10 of the type, 17, 18.
-pub fn coerced(v: &[u8], t: &[u8], out: &mut [u8]) -> Written
+pub fn coerced(v: &[u8], t: &[u8], out: &mut [u8]) -> Result<usize, Refusal>
     ensures { Built (coerced_call v.now t.now (length out.old)) out.old out.new result }
 {
-    if values::compare::passes(v, t, readings::DOCUMENT) {
+    if values::compare::passes(v, t, Reading::DOCUMENT) {
         return output::give(v, out);
     }
-    match form::check_value(v) {
-        Checked::Refused(n) => Written::Refused(n),
-        Checked::Accepted { level } => match form::check_type(t) {
-            Checked::Refused(n) => Written::Refused(n),
-            Checked::Accepted { level: _ } => conversion::convert(v, t, level, out),
-        },
-    }
+    let level = form::check_value(v)?;
+    form::check_type(t)?;
+    conversion::convert(v, t, level, out)
 }

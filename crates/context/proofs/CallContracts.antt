@@ -1,96 +1,115 @@
 -- The calls: refusals in their order, and the answer.
--- Idea: the walk along the path says what an update changes and leaves; so the size and the level of the answer are known before it is written (`size_is`, `level_is`), and 17 and 18 with them.
--- Index: `result_small`, `result_long`, `result_deep` (a result as a value); `within_long`, `within_deep`, `within_done` (`give_within`); `few_room`, `all_room` (spare places);
--- `place_copy`, `place_cuts`, `place_rest`, `place_text`, `place_err`, `place_long`, `place-deep`, `place_short`, `place-done`, `along`, `place_asks` (`place`); `judged_refused`,
--- `judged_told`, `told`, `told_byte` (an accepted value); `call_refused`; `update_first`, `update_names`, `update_second`, `update_other`, `update_small`, `update_value`, `update_level`,
--- `update-context`, `update-done` (`update`); `set_is`, `null_is`, `set_built`, `null_built` (set); `join_first`, `join_second`, `join_other`, `join_others`, `join-done`, `merge_holds`,
--- `merge_room` (zip, overwrite); `find_other`, `find_context`, `taken`, `Takes`, `taken_none`, `taken_some` (`find`); `without_short`, `without_done`, `remove_copy`, `remove_done` (remove);
--- `move_copy`, `move_small`, `rest_ok`, `part_ok`, `part_level`, `move_done`, `cut_inside_lem`, `cut_is`, `cut_ok`, `cut_small` (move); `some_entry`; `not_strict`, `no_name_left`,
--- `one_name_left` (`is_err`).
+-- Idea: the walk along the path says what an update changes and leaves; so the size and the level of the answer are known before it is written (`Placed`), and 17 and 18 with them.
+-- Index: `result_small`, `result_over`, `is_small`, `not_small` (a result as a value); `refused_on` (a refusal handed on); `within_over`, `within_done` (`give_within`);
+-- `few_room`, `all_room` (spare places); `Placed`, `place_copy`, `place_cuts`, `place_rest`, `place_text`, `place_err`, `placed`, `placed_over`, `placed_short`, `placed_done`, `along`,
+-- `place_asks` (`place`); `call_refused`; `update_first`, `update_names`, `update_second`, `update_other`, `update_small`, `update_value`, `update_level`, `update_context`,
+-- `update_done` (`update`); `set_is`, `null_is`, `set_built`, `null_built` (set); `Joins`, `join_first`, `join_second`, `join_other`, `join_others`, `joined`, `join_asks`, `join_done`,
+-- `merge_holds`, `merge_room` (zip, overwrite); `finds`, `found`, `Takes`, `taken_none`, `taken_some` (`find`); `without_short`, `without_done`, `short`, `remove_copy`,
+-- `remove_done` (remove); `move_copy`, `move_done`, `move_asks`, `cut_inside_lem`, `cut_is`, `cut_ok`, `cut_small` (move); `some_entry`.
 -- Assumes nothing.
 use Prim.Native.Nat.{ℕ, ◌+◌, ◌-◌, ◌<◌, ◌≤◌, max, min}
 use native.Mathlib.Omega.{arith}
 use mathlib.Core.Path.{◌≡◌, refl, sym, ap, ap₂, subst, ◌∙◌}
-use mathlib.Core.Bool.{Bool, true, false, ◌&&◌, cond}
+use mathlib.Core.Bool.{Bool, true, false, false≢true, ◌&&◌, cond}
 use mathlib.Core.Option.{Option, none, some}
+use mathlib.Core.Logic.{◌⊎◌, inl, inr}
 use mathlib.Core.List.{List, [], ◌∷◌, ◌++◌, append_assoc, append-nil}
 use lib.ListN.{length, get_or, take, drop, length-append, length-take, length-drop}
 use lib.Seq.{take_all, take_at}
 use lib.Dec.{leb, ltb}
-use borrow.Author.Tests.{le-leb, lt-leb, le-ltb, lt-ltb}
+use borrow.Author.Tests.{leb-true, le-leb, lt-leb}
 use Rattle.form.specs.Limits.{name_width, most_bytes, value_levels, most_names}
 use Rattle.form.specs.Trees.{Val, v_context, Entries, nothing}
 use Rattle.form.specs.Form.{Bytes, bytes, num_at, count_entries, enc_leaf, enc_v, level_v, WfLeaf, WfV}
 use Rattle.form.specs.Outcome.{Outcome, done, refused, ◌>>=◌, ◌>>◌, check, or_refuse, fits}
-use Rattle.form.specs.Read.{got, read_value, check_value}
-use Rattle.form.specs.Answers.{onto, Built, checked}
-use Rattle.form.specs.declared.Checked.{Checked}
-use Rattle.form.specs.declared.Checked.TheVariants as checked_is
-use Rattle.form.specs.declared.Written.{Written}
-use Rattle.form.specs.declared.Written.TheVariants as written_is
+use Rattle.form.specs.Read.{got, read_value}
+use Rattle.form.specs.Answers.{number, onto, Built}
+use Rattle.form.specs.declared.refusals.Refusal.{Refusal}
+use Rattle.form.specs.declared.refusals.Refusal.TheVariants.{Output}
+use Rattle.std.specs.declared.result.Result.{Result}
+use Rattle.std.specs.declared.result.Result.TheVariants as result
+use Rattle.std.specs.Result.{IsErrAnd}
 use Rattle.form.proofs.ExactValues.{enc_read_v, read_enc_v}
 use Rattle.form.proofs.Exact.{bytes_drop}
 use Rattle.form.proofs.Numbers.{bytes_take}
-use Rattle.form.proofs.Values.{read_up_v, value_accepted, value_accepts, ValueTold, value_told}
+use Rattle.form.proofs.Values.{read_up_v, value_accepts, ValueTold}
 use Rattle.order.specs.Size.{size_val}
 use Rattle.order.proofs.LeastSize.{length_enc_v}
 use Rattle.types.specs.At.{Ok}
 use Rattle.types.proofs.Reading.{is_ok, ok_got}
-use Rattle.values.proofs.CallContracts as held
 use Rattle.output.proofs.Outcomes.{built_refused, built_short, built_wrote}
 use Rattle.output.proofs.FillLaws.{length_fill}
-use Rattle.paths.specs.Paths.{value_of, entries_of, bind, entry_place}
-use Rattle.paths.specs.Places.{whole_at, context_at, lent_code}
+use Rattle.paths.specs.Paths.{value_of, entries_of, entry_place}
+use Rattle.paths.specs.Places.{whole_at, context_at}
 use Rattle.paths.specs.Way.{stays, cut_here, within, cut_at, cut_of, Surveyed}
 use Rattle.paths.specs.declared.way.Cut.{Cut}
 use Rattle.paths.specs.Calls.{context_of}
 use Rattle.paths.proofs.Whole.{whole_is, whole_text, is_whole, of_context, given_is, context_read, read_context, Ctx, ctx_of}
 use Rattle.paths.proofs.PathSearch.{WholeContext, whole_context, whole_other, Hit, hit_whole, hit_inside, hit_start, Miss}
-use Rattle.paths.proofs.CallContracts.{opened_short, Opened, read_whole_lem, held_byte, refused_other, refused_not}
+use Rattle.paths.proofs.CallContracts.{opened_short, Opened, context_done, read_whole_lem, handed_on}
 use Rattle.paths.proofs.Along.{stays_level, surveyed_is}
 use Rattle.paths.proofs.SplitContext.{Around, well_context, well_entries, text_context, count_context, around_some}
 use Rattle.updates.specs.Update.{create, apply, zip, overwrite, remove, moved, move_entry, set_entry, set_null, remove_entry}
 use Rattle.updates.specs.Writing.{updated, blocked, Small, Cuts, spliced, begun, closed, merged, Joined, Merges}
 use Rattle.context.specs.Calls.{Given, given_of, Two, two_of, update_call, create_entries_call, set_entry_call, set_null_call, joined_call, remove_entry_call, move_entry_call}
-use Rattle.context.specs.Answering.{Holds, Taken, answered, value_in}
+use Rattle.context.specs.Answering.{Holds, Finds, answered, value_in}
 use Rattle.updates.proofs.Formed.{well_removed, level_removed}
 use Rattle.updates.proofs.InsertedEntries.{remove_absent}
 use Rattle.updates.proofs.Levels.{created_level, size_merged}
 use Rattle.updates.proofs.Splices.{spliced_is, cuts_is, blocked_is}
 use Rattle.updates.proofs.ContextFront.{length_begun}
 use Rattle.updates.proofs.PathSteps.{count_less, text_remove}
-use Rattle.form.specs.Options.{WhereRead}
 use Rattle.output.specs.Output.{fill}
 use Rattle.output.specs.Result.{small, checked_result}
 use Rattle.values.proofs.EntriesAt.{size_context}
 use Rattle.form.proofs.Options.{some_same}
 
 -- ---- 17 and 18
-pub result_small : (room : ℕ) (w : Val) → length (enc_v w) ≤ most_bytes → level_v w ≤ value_levels → fits room (enc_v w) ≡ checked_result room w
+pub result_small : (room : ℕ) (w : Val) → small w ≡ true → fits room (enc_v w) ≡ checked_result room w
 unfolding ◌>>◌
-result_small room w k l = let e : small w ≡ true = ap₂ ◌&&◌ (le-leb (length (enc_v w)) most_bytes k) (le-leb (level_v w) value_levels l) in rw e
+result_small room w e = rw e
 
-pub result_long : (room : ℕ) (w : Val) → most_bytes < length (enc_v w) → checked_result room w ≡ refused 17
+pub result_over : (room : ℕ) (w : Val) → small w ≡ false → checked_result room w ≡ refused 17
 unfolding ◌>>◌
-result_long room w k = let e : small w ≡ false = ap (λ q. q && leb (level_v w) value_levels) (lt-leb (length (enc_v w)) most_bytes k) in rw e
+result_over room w e = rw e
 
-pub result_deep : (room : ℕ) (w : Val) → length (enc_v w) ≤ most_bytes → value_levels < level_v w → checked_result room w ≡ refused 17
-unfolding ◌>>◌
-result_deep room w k l = let e : small w ≡ false = ap₂ ◌&&◌ (le-leb (length (enc_v w)) most_bytes k) (lt-leb (level_v w) value_levels l) in rw e
+-- within both limits
+pub is_small : (w : Val) → length (enc_v w) ≤ most_bytes → level_v w ≤ value_levels → small w ≡ true
+is_small w k l = ap₂ ◌&&◌ (le-leb (length (enc_v w)) most_bytes k) (le-leb (level_v w) value_levels l)
+
+-- over one of them
+pub not_small : (w : Val) → (value_levels < level_v w) ⊎ (most_bytes < length (enc_v w)) → small w ≡ false
+not_small w (inl h) = go (leb (length (enc_v w)) most_bytes)
+  where
+    go : (b : Bool) → (b && leb (level_v w) value_levels) ≡ false
+    go true = lt-leb (level_v w) value_levels h
+    go false = refl
+not_small w (inr h) = ap (λ q. q && leb (level_v w) value_levels) (lt-leb (length (enc_v w)) most_bytes h)
+
+small_told : (w : Val) {n d : ℕ} → n ≡ length (enc_v w) → d ≡ level_v w → small w ≡ (leb n most_bytes && leb d value_levels)
+small_told w en ed = ap₂ (λ (i j : ℕ). leb i most_bytes && leb j value_levels) (sym en) (sym ed)
+
+small_size : (n d : ℕ) → (leb n most_bytes && leb d value_levels) ≡ true → n ≤ most_bytes
+small_size n d e = leb-true n most_bytes (go (leb n most_bytes) e)
+  where
+    go : (b : Bool) → (b && leb d value_levels) ≡ true → b ≡ true
+    go true h = refl
+    go false h = h
+
+-- a call that hands a refusal on
+pub refused_on : (o : Outcome (List ℕ)) (old : List ℕ) (r : Result ℕ Refusal) (refusal : Refusal) → IsErrAnd r (λ e. e ≡ refusal) → o ≡ refused (number refusal) → Built o old old r
+refused_on o old r refusal h e = subst (λ z. Built o old old z) (sym (handed_on r refusal h)) (built_refused o refusal old e)
 
 -- ---- `give_within`
 module _ (spare : List ℕ) (n d : ℕ) (w : Val) (H : Holds spare n d w) (old : List ℕ) where
-  pub within_long : most_bytes < n → Built (checked_result (length old) w) old old (written_is.Refused 17)
-  within_long h = built_refused (checked_result (length old) w) 17 old (result_long (length old) w (omega (arith, H.long)))
+  pub within_over : (leb n most_bytes && leb d value_levels) ≡ false → checked_result (length old) w ≡ refused 17
+  within_over f = result_over (length old) w (small_told w H.long H.deep ∙ f)
 
-  module _ (k : n ≤ most_bytes) where
-    pub within_deep : value_levels < d → Built (checked_result (length old) w) old old (written_is.Refused 17)
-    within_deep h = built_refused (checked_result (length old) w) 17 old (result_deep (length old) w (omega (arith, H.long)) (omega (arith, H.deep)))
-
-    pub within_done : d ≤ value_levels → (new : List ℕ) (a : Written) → Built (fits (length old) (take n spare)) old new a → Built (checked_result (length old) w) old new a
-    within_done l new a B =
-        subst (λ o. Built o old new a)
-        (ap (fits (length old)) (H.text k) ∙ result_small (length old) w (omega (arith, H.long)) (omega (arith, H.deep))) B
+  pub within_done : (leb n most_bytes && leb d value_levels) ≡ true → (new : List ℕ) (a : Result ℕ Refusal) → Built (fits (length old) (take n spare)) old new a
+      → Built (checked_result (length old) w) old new a
+  within_done t new a B =
+      subst (λ o. Built o old new a)
+      (ap (fits (length old)) (H.text (small_size n d t)) ∙ result_small (length old) w (small_told w H.long H.deep ∙ t)) B
 
 -- ---- what was built, and what was read
 fill_front : (bs old : List ℕ) (n : ℕ) → n ≡ length bs → n ≤ length old → take n (fill bs old) ≡ bs
@@ -110,18 +129,26 @@ pub all_room : (g n : ℕ) → most_bytes ≡ n → min g most_bytes ≤ n
 all_room g n e = omega arith
 
 -- a copy of an accepted context
-pub copied_is : (c : List ℕ) (es : Entries) (room : ℕ) → context_at value_levels c ≡ some es → Bytes c → length c ≤ most_bytes → fits room c ≡ checked_result room (v_context es)
+copied_is : (c : List ℕ) (es : Entries) (room : ℕ) → context_at value_levels c ≡ some es → Bytes c → length c ≤ most_bytes → fits room c ≡ checked_result room (v_context es)
 copied_is c es room ec bc kc =
     let text = text_context value_levels c es bc (ctx_of value_levels c es ec) in
-    ap (fits room) text ∙ result_small room (v_context es) (omega (arith, ap length text)) (context_low c es ec bc)
+    ap (fits room) text ∙ result_small room (v_context es) (is_small (v_context es) (omega (arith, ap length text)) (context_low c es ec bc))
 
 -- ---- `place`
+-- what was built is a context with that size and level
+pub record Placed (o : Option Entries) (bs : List ℕ) (m l : ℕ) : Type 0 where
+  pub es : Entries
+  pub is : o ≡ some es
+  pub text : bs ≡ enc_v (v_context es)
+  pub size : m ≡ length (enc_v (v_context es))
+  pub level : l ≡ level_v (v_context es)
+
 module _ (strict : Bool) (c p v old : List ℕ) (es : Entries) (x : Val) (ec : context_at value_levels c ≡ some es) (ex : whole_at value_levels v ≡ some x) (bc : Bytes c)
     (bv : Bytes v) (kc : length c ≤ most_bytes) where
   abbrev C : Ctx value_levels c es
   C = ctx_of value_levels c es ec
 
-  pub place_copy : (new : List ℕ) (a : Written) → length p ≡ 0 → Built (fits (length old) c) old new a → Built (answered (length old) (updated strict p x es)) old new a
+  pub place_copy : (new : List ℕ) (a : Result ℕ Refusal) → length p ≡ 0 → Built (fits (length old) c) old new a → Built (answered (length old) (updated strict p x es)) old new a
   unfolding ◌>>=◌ create apply
   place_copy new a e B = go strict p e
     where
@@ -159,62 +186,58 @@ module _ (strict : Bool) (c p v old : List ℕ) (es : Entries) (x : Val) (ec : c
     apply_cut : apply p x es ≡ cond (ltb k.names (length p) && ltb 0 k.gone) none (some (create p x es))
     apply_cut = blocked_is p x es named ∙ ap (λ j. cond (blocked p j) none (some (create p x es))) (sym ek)
 
-    pub place_err : (strict && (ltb k.names (length p) && ltb 0 k.gone)) ≡ true → Built (answered (length old) (updated strict p x es)) old old (written_is.Refused 16)
+    pub place_err : (strict && (ltb k.names (length p) && ltb 0 k.gone)) ≡ true → answered (length old) (updated strict p x es) ≡ refused 16
     unfolding ◌>>=◌
-    place_err e = built_refused (answered (length old) (updated strict p x es)) 16 old (ap (answered (length old)) (go strict e))
+    place_err t = ap (answered (length old)) (go strict t)
       where
-        go : (t : Bool) → (t && (ltb k.names (length p) && ltb 0 k.gone)) ≡ true → updated t p x es ≡ none
-        go true q = apply_cut ∙ ap (λ b. cond b none (some (create p x es))) q
-        go false q = absurd (let z : ◌≡◌ {A = ℕ} 0 1 = ap (λ b. cond b 1 0) q in omega arith)
+        go : (s : Bool) → (s && (ltb k.names (length p) && ltb 0 k.gone)) ≡ true → updated s p x es ≡ none
+        go true q = apply_cut ∙ ap (λ j. cond j none (some (create p x es))) q
+        go false q = absurd (false≢true q)
 
-    module _ (e : (strict && (ltb k.names (length p) && ltb 0 k.gone)) ≡ false) (d : ℕ) (ed : d ≡ level_v x) where
-      abbrev new_is : Val
-      new_is = v_context (create p x es)
+    updated_is : (strict && (ltb k.names (length p) && ltb 0 k.gone)) ≡ false → updated strict p x es ≡ some (create p x es)
+    updated_is f = go strict f
+      where
+        go : (s : Bool) → (s && (ltb k.names (length p) && ltb 0 k.gone)) ≡ false → updated s p x es ≡ some (create p x es)
+        go true q = apply_cut ∙ ap (λ j. cond j none (some (create p x es))) q
+        go false q = refl
 
-      updated_is : updated strict p x es ≡ some (create p x es)
-      updated_is = go strict e
-        where
-          go : (t : Bool) → (t && (ltb k.names (length p) && ltb 0 k.gone)) ≡ false → updated t p x es ≡ some (create p x es)
-          go true q = apply_cut ∙ ap (λ b. cond b none (some (create p x es))) q
-          go false q = refl
+    -- the size and the level that are told are those of the value that is built
+    pub placed : (strict && (ltb k.names (length p) && ltb 0 k.gone)) ≡ false → (d : ℕ) → d ≡ level_v x → (m l : ℕ) → m ≡ length (spliced c k p v) → l ≡ max rest (length p + d)
+        → Placed (updated strict p x es) (spliced c k p v) m l
+    placed f d ed m l em el =
+        record {
+          es = create p x es;
+          is = updated_is f;
+          text = place_text;
+          size = em ∙ ap length place_text;
+          level = el ∙ ap₂ max er (ap (λ (z : ℕ). length p + z) ed) ∙ sym (created_level p x es whole named);
+        }
 
-      given : (new : List ℕ) (a : Written) → Built (checked_result (length old) new_is) old new a → Built (answered (length old) (updated strict p x es)) old new a
-      unfolding ◌>>=◌
-      given new a B = subst (λ o. Built (answered (length old) o) old new a) (sym updated_is) B
+-- the answer over the limits, without room, and written
+module _ {o : Option Entries} {bs : List ℕ} {m l : ℕ} (P : Placed o bs m l) (old : List ℕ) where
+  abbrev w : Val
+  w = v_context P.es
 
-      -- the size and the level that are told are those of the value that is built
-      module _ (m l : ℕ) (em : m ≡ length (spliced c k p v)) (el : l ≡ max rest (length p + d)) where
-        size_is : length (enc_v new_is) ≡ m
-        size_is = sym (em ∙ ap length place_text)
+  result_is : answered (length old) o ≡ checked_result (length old) w
+  unfolding ◌>>=◌
+  result_is = ap (answered (length old)) P.is
 
-        level_is : level_v new_is ≡ l
-        level_is = created_level p x es whole named ∙ ap₂ max (sym er) (ap (λ (z : ℕ). length p + z) (sym ed)) ∙ sym el
+  pub placed_over : (leb m most_bytes && leb l value_levels) ≡ false → answered (length old) o ≡ refused 17
+  placed_over f = result_is ∙ result_over (length old) w (small_told w P.size P.level ∙ f)
 
-        pub place_long : most_bytes < m → Built (answered (length old) (updated strict p x es)) old old (written_is.Refused 17)
-        place_long h = given old (written_is.Refused 17) (built_refused (checked_result (length old) new_is) 17 old (result_long (length old) new_is (omega (arith, size_is))))
+  module _ (t : (leb m most_bytes && leb l value_levels) ≡ true) where
+    fits_is : answered (length old) o ≡ fits (length old) (enc_v w)
+    fits_is = result_is ∙ sym (result_small (length old) w (small_told w P.size P.level ∙ t))
 
-        module _ (s : m ≤ most_bytes) where
-          pub place-deep : value_levels < l → Built (answered (length old) (updated strict p x es)) old old (written_is.Refused 17)
-          place-deep h =
-              given old (written_is.Refused 17) (built_refused (checked_result (length old) new_is) 17 old (result_deep (length old) new_is (omega (arith, size_is)) (omega (arith, level_is))))
+    pub placed_short : length old < m → Built (answered (length old) o) old old (result.Err Output)
+    placed_short h = built_short (answered (length old) o) (enc_v w) old fits_is (omega (arith, P.size))
 
-          module _ (t : l ≤ value_levels) where
-            fits_is : fits (length old) (enc_v new_is) ≡ checked_result (length old) new_is
-            fits_is = result_small (length old) new_is (omega (arith, size_is)) (omega (arith, level_is))
-
-            pub place_short : length old < m → Built (answered (length old) (updated strict p x es)) old old (written_is.Refused 18)
-            place_short h =
-                given old (written_is.Refused 18) (subst (λ o. Built o old old (written_is.Refused 18)) fits_is
-                (built_short (fits (length old) (enc_v new_is)) (enc_v new_is) old refl (omega (arith, size_is))))
-
-            pub place-done : m ≤ length old → (n : ℕ) (new : List ℕ) → n ≡ length (spliced c k p v) → new ≡ fill (spliced c k p v) old
-                → Built (answered (length old) (updated strict p x es)) old new (written_is.Bytes n)
-            unfolding fill
-            place-done h n new en eo =
-                let z : length (enc_v new_is) ≤ length old = omega (arith, size_is) in
-                given new (written_is.Bytes n) (subst (λ o. Built o old new (written_is.Bytes n)) fits_is
-                (built_wrote (fits (length old) (enc_v new_is)) (enc_v new_is) old new n refl (en ∙ ap length place_text) z
-                (eo ∙ ap (λ (b : List ℕ). fill b old) place_text ∙ ap (λ (b : List ℕ). onto b old) (take_all (length old) (enc_v new_is) z))))
+    pub placed_done : m ≤ length old → (n : ℕ) (new : List ℕ) → n ≡ length bs → new ≡ fill bs old → Built (answered (length old) o) old new (result.Ok n)
+    unfolding fill
+    placed_done h n new en eo =
+        let z : length (enc_v w) ≤ length old = omega (arith, P.size) in
+        built_wrote (answered (length old) o) (enc_v w) old new n fits_is (en ∙ ap length P.text) z
+        (eo ∙ ap (λ (s : List ℕ). fill s old) P.text ∙ ap (λ (s : List ℕ). onto s old) (take_all (length old) (enc_v w) z))
 
 -- what the walk told of the context
 pub along : (c p : List ℕ) (rest : ℕ) (k : Cut) (es : Entries) → context_at value_levels c ≡ some es → Surveyed p (whole_at value_levels c) rest k
@@ -237,18 +260,10 @@ place_asks c p v rest d k oc ov S T f bc bv z =
       (place_rest false c p v [] A.0 B.0 A.1 B.1 bc bv S.bytes_c z rest k W.0 W.1, omega (arith, f B.0 B.1, low)),
     )
 
--- ---- an accepted value and its level
-pub told : (s : List ℕ) → Bytes s → (r : Checked) (d : ℕ) → r ≡ checked_is.Accepted d → checked r ≡ check_value s → ValueTold s d
-told s b r d e c = value_told s b d (sym c ∙ ap checked e)
-
--- it has a byte
-pub told_byte : {c : List ℕ} {d : ℕ} → ValueTold c d → 0 < length c
-told_byte {c} A = held_byte c 0 A.reads
-
 -- a call whose arguments are refused
-pub call_refused : {X : Type 0} (o : Outcome X) (f : X → Outcome (List ℕ)) (n : ℕ) (old : List ℕ) → o ≡ refused n → Built (do x ← o; f x) old old (written_is.Refused n)
+pub call_refused : {X : Type 0} (o : Outcome X) (f : X → Outcome (List ℕ)) (n : ℕ) → o ≡ refused n → (do x ← o; f x) ≡ refused n
 unfolding ◌>>=◌
-call_refused o f n old e = built_refused (do x ← o; f x) n old (ap (λ z. do x ← z; f x) e)
+call_refused o f n e = rw e
 
 -- ---- `update`: the arguments of create_entries and apply_entries
 given_done : (c v : List ℕ) (k : ℕ) (self x : Val) (es : Entries) → read_value c ≡ done self → leb k most_names ≡ true → read_value v ≡ done x → entries_of self ≡ some es
@@ -257,29 +272,29 @@ unfolding given_of ◌>>=◌ ◌>>◌
 given_done c v k self x es e l f q = rw (e, l, f, q)
 
 module _ (strict : Bool) (c p v old : List ℕ) where
-  update_refused : (n : ℕ) → given_of c (length p) v ≡ refused n → Built (update_call strict c p v (length old)) old old (written_is.Refused n)
+  update_refused : (n : ℕ) → given_of c (length p) v ≡ refused n → update_call strict c p v (length old) ≡ refused n
   update_refused n e = go strict
     where
-      go : (t : Bool) → Built (update_call t c p v (length old)) old old (written_is.Refused n)
-      go true = call_refused (given_of c (length p) v) (λ g. do new ← or_refuse 16 (apply p g.value g.entries); checked_result (length old) (v_context new)) n old e
-      go false = call_refused (given_of c (length p) v) (λ g. checked_result (length old) (v_context (create p g.value g.entries))) n old e
+      go : (t : Bool) → update_call t c p v (length old) ≡ refused n
+      go true = call_refused (given_of c (length p) v) (λ g. do new ← or_refuse 16 (apply p g.value g.entries); checked_result (length old) (v_context new)) n e
+      go false = call_refused (given_of c (length p) v) (λ g. checked_result (length old) (v_context (create p g.value g.entries))) n e
 
-  pub update_first : (n : ℕ) → read_value c ≡ refused n → Built (update_call strict c p v (length old)) old old (written_is.Refused n)
+  pub update_first : (n : ℕ) → read_value c ≡ refused n → update_call strict c p v (length old) ≡ refused n
   unfolding given_of ◌>>=◌
   update_first n e = update_refused n (rw e)
 
   module _ {e : ℕ} (A : ValueTold c e) where
-    pub update_names : most_names < length p → Built (update_call strict c p v (length old)) old old (written_is.Refused 11)
+    pub update_names : most_names < length p → update_call strict c p v (length old) ≡ refused 11
     unfolding given_of ◌>>=◌ ◌>>◌
     update_names h = update_refused 11 (rw (A.reads, lt-leb (length p) most_names h))
 
     module _ (h : length p ≤ most_names) where
-      pub update_second : (n : ℕ) → read_value v ≡ refused n → Built (update_call strict c p v (length old)) old old (written_is.Refused n)
+      pub update_second : (n : ℕ) → read_value v ≡ refused n → update_call strict c p v (length old) ≡ refused n
       unfolding given_of ◌>>=◌ ◌>>◌
       update_second n q = update_refused n (rw (A.reads, le-leb (length p) most_names h, q))
 
       module _ {d : ℕ} (B : ValueTold v d) where
-        pub update_other : (get_or c 0 0 ≡ 11 → ⊥) → Built (update_call strict c p v (length old)) old old (written_is.Refused 12)
+        pub update_other : (get_or c 0 0 ≡ 11 → ⊥) → update_call strict c p v (length old) ≡ refused 12
         unfolding given_of ◌>>=◌ ◌>>◌
         update_other f =
             update_refused 12 (rw (A.reads, le-leb (length p) most_names h, B.reads, whole_other value_levels c A.tree (read_whole_lem c A.tree A.reads) f))
@@ -297,21 +312,21 @@ module _ (strict : Bool) (c p v old : List ℕ) where
           abbrev G : WholeContext value_levels c A.tree
           G = whole_context value_levels c A.tree (read_whole_lem c A.tree A.reads) f
 
-          pub update-context : Ok (context_at value_levels c)
-          update-context = is_ok (context_at value_levels c) G.es G.read
+          pub update_context : Ok (context_at value_levels c)
+          update_context = is_ok (context_at value_levels c) G.es G.read
 
-          both-given : given_of c (length p) v ≡ done (record { entries = G.es; value = B.tree })
-          both-given = given_done c v (length p) A.tree B.tree G.es A.reads (le-leb (length p) most_names h) B.reads (ap entries_of G.is)
+          both_given : given_of c (length p) v ≡ done (record { entries = G.es; value = B.tree })
+          both_given = given_done c v (length p) A.tree B.tree G.es A.reads (le-leb (length p) most_names h) B.reads (ap entries_of G.is)
 
-          pub update-done : (new : List ℕ) (a : Written)
+          pub update_done : (new : List ℕ) (a : Result ℕ Refusal)
               → ((es : Entries) (x : Val) → context_at value_levels c ≡ some es → whole_at value_levels v ≡ some x → Built (answered (length old) (updated strict p x es)) old new a)
               → Built (update_call strict c p v (length old)) old new a
           unfolding ◌>>=◌
-          update-done new a F = subst (λ o. Built o old new a) (go strict) (F G.es B.tree G.read (read_whole_lem v B.tree B.reads))
+          update_done new a F = subst (λ o. Built o old new a) (go strict) (F G.es B.tree G.read (read_whole_lem v B.tree B.reads))
             where
               go : (t : Bool) → answered (length old) (updated t p B.tree G.es) ≡ update_call t c p v (length old)
-              go true = rw both-given
-              go false = rw both-given
+              go true = rw both_given
+              go false = rw both_given
 
 -- ---- set_entry is create_entries with one name, set_null inserts a null
 pub set_is : (c : List ℕ) (n : ℕ) (v : List ℕ) (room : ℕ) → create_entries_call c (n ∷ []) v room ≡ set_entry_call c n v room
@@ -346,7 +361,7 @@ null_given c = go (read_value c)
 pub null_is : (c : List ℕ) (n : ℕ) (room : ℕ) → set_entry_call c n (0 ∷ 0 ∷ []) room ≡ set_null_call c n room
 null_is c n room = ap (λ o. do g ← o; checked_result room (v_context (set_entry n g.value g.entries))) (null_given c) ∙ null_two (context_of c 0) n room
 
-module _ (c old new : List ℕ) (n : ℕ) (a : Written) where
+module _ (c old new : List ℕ) (n : ℕ) (a : Result ℕ Refusal) where
   pub set_built : (v : List ℕ) → Built (create_entries_call c (n ∷ []) v (length old)) old new a → Built (set_entry_call c n v (length old)) old new a
   set_built v B = subst (λ o. Built o old new a) (set_is c n v (length old)) B
 
@@ -359,9 +374,9 @@ unfolding ◌>>=◌
 joined_is true c o room t e = rw e
 joined_is false c o room t e = rw e
 
-joined_refused : (all : Bool) (c o : List ℕ) (n : ℕ) (old : List ℕ) → two_of c o ≡ refused n → Built (joined_call all c o (length old)) old old (written_is.Refused n)
-joined_refused true c o n old e = call_refused (two_of c o) (λ t. checked_result (length old) (v_context (zip t.entries t.others))) n old e
-joined_refused false c o n old e = call_refused (two_of c o) (λ t. checked_result (length old) (v_context (overwrite t.entries t.others))) n old e
+joined_refused : (all : Bool) (c o : List ℕ) (n room : ℕ) → two_of c o ≡ refused n → joined_call all c o room ≡ refused n
+joined_refused true c o n room e = call_refused (two_of c o) (λ t. checked_result room (v_context (zip t.entries t.others))) n e
+joined_refused false c o n room e = call_refused (two_of c o) (λ t. checked_result room (v_context (overwrite t.entries t.others))) n e
 
 first_refused : (c o : List ℕ) (n : ℕ) → read_value c ≡ refused n → two_of c o ≡ refused n
 unfolding two_of ◌>>=◌
@@ -389,54 +404,61 @@ merges_is : (all : Bool) (x y : Option Entries) (es gs : Entries) (old new : Lis
 unfolding Merges
 merges_is all x y es gs old new n d e f M = rw (e, f) at M
 
-module _ (all : Bool) (c o old : List ℕ) where
-  pub join_first : (n : ℕ) → read_value c ≡ refused n → Built (joined_call all c o (length old)) old old (written_is.Refused n)
-  join_first n e = joined_refused all c o n old (first_refused c o n e)
+-- both contexts were accepted
+pub record Joins (all : Bool) (c o : List ℕ) (room : ℕ) : Type 0 where
+  pub es : Entries
+  pub others : Entries
+  pub read : context_at value_levels c ≡ some es
+  pub read_others : context_at value_levels o ≡ some others
+  pub short : (length c ≤ most_bytes) × (length o ≤ most_bytes)
+  pub is : checked_result room (v_context (merged all es others)) ≡ joined_call all c o room
 
-  module _ (A : held.Holds c) where
-    pub join_second : (n : ℕ) → read_value o ≡ refused n → Built (joined_call all c o (length old)) old old (written_is.Refused n)
-    join_second n e = joined_refused all c o n old (second_refused c o A.v n A.whole e)
+module _ (all : Bool) (c o : List ℕ) (room : ℕ) where
+  pub join_first : (n : ℕ) → read_value c ≡ refused n → joined_call all c o room ≡ refused n
+  join_first n e = joined_refused all c o n room (first_refused c o n e)
 
-    module _ (B : held.Holds o) where
-      pub join_other : (get_or c 0 0 ≡ 11 → ⊥) → Built (joined_call all c o (length old)) old old (written_is.Refused 12)
-      join_other d = joined_refused all c o 12 old (first_other c o A.v B.v A.whole B.whole (whole_other value_levels c A.v (read_whole_lem c A.v A.whole) d))
+  module _ {d : ℕ} (A : ValueTold c d) where
+    pub join_second : (n : ℕ) → read_value o ≡ refused n → joined_call all c o room ≡ refused n
+    join_second n e = joined_refused all c o n room (second_refused c o A.tree n A.reads e)
 
-      module _ (d : get_or c 0 0 ≡ 11) where
-        abbrev K : WholeContext value_levels c A.v
-        K = whole_context value_levels c A.v (read_whole_lem c A.v A.whole) d
+    module _ {e : ℕ} (B : ValueTold o e) where
+      pub join_other : (get_or c 0 0 ≡ 11 → ⊥) → joined_call all c o room ≡ refused 12
+      join_other f = joined_refused all c o 12 room (first_other c o A.tree B.tree A.reads B.reads (whole_other value_levels c A.tree (read_whole_lem c A.tree A.reads) f))
 
-        pub join_context : Ok (context_at value_levels c)
-        join_context = is_ok (context_at value_levels c) K.es K.read
+      module _ (f : get_or c 0 0 ≡ 11) where
+        abbrev K : WholeContext value_levels c A.tree
+        K = whole_context value_levels c A.tree (read_whole_lem c A.tree A.reads) f
 
-        pub join_others : (get_or o 0 0 ≡ 11 → ⊥) → Built (joined_call all c o (length old)) old old (written_is.Refused 12)
-        join_others f =
-            joined_refused all c o 12 old (second_other c o A.v B.v K.es A.whole B.whole (ap entries_of K.is) (whole_other value_levels o B.v (read_whole_lem o B.v B.whole) f))
+        pub join_others : (get_or o 0 0 ≡ 11 → ⊥) → joined_call all c o room ≡ refused 12
+        join_others g =
+            joined_refused all c o 12 room (second_other c o A.tree B.tree K.es A.reads B.reads (ap entries_of K.is) (whole_other value_levels o B.tree (read_whole_lem o B.tree B.reads) g))
 
-        module _ (f : get_or o 0 0 ≡ 11) where
-          abbrev L : WholeContext value_levels o B.v
-          L = whole_context value_levels o B.v (read_whole_lem o B.v B.whole) f
+        pub joined : get_or o 0 0 ≡ 11 → Joins all c o room
+        joined g =
+            let L = whole_context value_levels o B.tree (read_whole_lem o B.tree B.reads) g in
+            record {
+              es = K.es;
+              others = L.es;
+              read = K.read;
+              read_others = L.read;
+              short = (A.accepted.short, B.accepted.short);
+              is = joined_is all c o room (record { entries = K.es; others = L.es }) (two_done c o A.tree B.tree K.es L.es A.reads B.reads (ap entries_of K.is) (ap entries_of L.is));
+            }
 
-          pub join-context2 : Ok (context_at value_levels o)
-          join-context2 = is_ok (context_at value_levels o) L.es L.read
+module _ {all : Bool} {c o : List ℕ} {room : ℕ} (J : Joins all c o room) where
+  pub join_asks : (n : ℕ) → min (length c + length o) most_bytes ≤ n → record {
+    ok : Ok (context_at value_levels c);
+    ok_2 : Ok (context_at value_levels o);
+    c_len_bound : (length c ≤ most_bytes) × (length o ≤ most_bytes);
+    most_bytes_in_bounds : min (length c + length o) most_bytes ≤ n;
+  }
+  join_asks n h =
+      record { ok = is_ok (context_at value_levels c) J.es J.read; ok_2 = is_ok (context_at value_levels o) J.others J.read_others; c_len_bound = J.short; most_bytes_in_bounds = h }
 
-          module _ (bc : Bytes c) (bo : Bytes o) where
-            short-c : length c ≤ most_bytes
-            short-c = (value_accepted c bc A.v A.whole).short
-
-            short-o : length o ≤ most_bytes
-            short-o = (value_accepted o bo B.v B.whole).short
-
-            pub join-small : (length c ≤ most_bytes) × (length o ≤ most_bytes)
-            join-small = (short-c, short-o)
-
-            pub join-done : (new : List ℕ) (a : Written)
-                → ((es gs : Entries) → context_at value_levels c ≡ some es → context_at value_levels o ≡ some gs → Built (checked_result (length old) (v_context (merged all es gs))) old new a)
-                → Built (joined_call all c o (length old)) old new a
-            join-done new a F =
-                subst (λ q. Built q old new a)
-                (joined_is all c o (length old) (record { entries = K.es; others = L.es })
-                (two_done c o A.v B.v K.es L.es A.whole B.whole (ap entries_of K.is) (ap entries_of L.is)))
-                (F K.es L.es K.read L.read)
+  pub join_done : (old new : List ℕ) (a : Result ℕ Refusal)
+      → ((es gs : Entries) → context_at value_levels c ≡ some es → context_at value_levels o ≡ some gs → Built (checked_result room (v_context (merged all es gs))) old new a)
+      → Built (joined_call all c o room) old new a
+  join_done old new a F = subst (λ q. Built q old new a) J.is (F J.es J.others J.read J.read_others)
 
 -- `join_in`
 module _ (all : Bool) (c o : List ℕ) (es gs : Entries) (ec : context_at value_levels c ≡ some es) (eo : context_at value_levels o ≡ some gs) (spare mid : List ℕ) (n d : ℕ)
@@ -469,26 +491,9 @@ merge_room all c o spare mid n d oc oo M k =
     merge_inside all c o A.0 B.0 A.1 B.1 spare mid n d M k
 
 -- ---- remove_entry and move_entry
--- `find`: its refusals
-module _ (c : List ℕ) {d : ℕ} (A : ValueTold c d) where
-  pub find_other : (get_or c 0 0 ≡ 11 → ⊥) → 12 ≡ lent_code (context_of c 0)
-  find_other f = refused_other c 0 A.reads (omega arith) f
-
-  pub find_context : get_or c 0 0 ≡ 11 → 0 ≡ lent_code (context_of c 0)
-  find_context f = refused_not c 0 A.reads (omega arith) f
-
--- and the entry of the name
-pub taken : (c : List ℕ) (n rest : ℕ) (k : Cut) → Surveyed (n ∷ []) (whole_at value_levels c) rest k → Taken n (context_at value_levels c) k
-unfolding Surveyed Taken context_at
-taken c n rest k S = go (whole_at value_levels c) S
-  where
-    inside : (v : Val) → k ≡ cut_of (n ∷ []) v → (o : Option Entries) → entries_of v ≡ o → WhereRead (Unit {0}) (λ es. k ≡ cut_of (n ∷ []) (v_context es)) o
-    inside v e none q = tt
-    inside v e (some es) q = e ∙ ap (cut_of (n ∷ [])) (of_context v es q)
-
-    go : (o : Option Val) → WhereRead (Unit {0}) (λ v. (rest ≡ stays (n ∷ []) v) × (k ≡ cut_of (n ∷ []) v)) o → WhereRead (Unit {0}) (λ es. k ≡ cut_of (n ∷ []) (v_context es)) (bind o entries_of)
-    go none h = tt
-    go (some v) h = inside v h.1 (entries_of v) refl
+-- `find`: the entry of the name
+pub finds : (c : List ℕ) (n rest : ℕ) (k : Cut) → Opened c 0 → Surveyed (n ∷ []) (whole_at value_levels c) rest k → Finds n c (result.Ok k)
+finds c n rest k O S = (O.es, O.is, (along c (n ∷ []) rest k O.es O.ctx.read S).1)
 
 cut_none : (n : ℕ) (es : Entries) → value_of n es ≡ none → cut_of (n ∷ []) (v_context es) ≡ cut_here (entry_place n es) 0 0
 unfolding cut_of
@@ -503,27 +508,26 @@ pub record Takes (c : List ℕ) (n : ℕ) (k : Cut) : Type 0 where
   pub hit : Hit value_levels c n k.at (k.at + k.gone)
   pub old : k.old ≡ level_v hit.x
 
-module _ (c : List ℕ) (n : ℕ) (k : Cut) (O : Opened c 0) (T : Taken n (context_at value_levels c) k) where
-  cut_read : k ≡ cut_of (n ∷ []) (v_context O.es)
-  unfolding Taken
-  cut_read = rw O.ctx.read at T
+module _ (c : List ℕ) (n : ℕ) (k : Cut) (F : Finds n c (result.Ok k)) where
+  abbrev pub found : Opened c 0
+  found = record { es = F.0; is = F.1; ctx = context_done c 0 F.0 F.1 }
 
   pub taken_none : k.gone ≡ 0 → Miss value_levels c n k.at
-  taken_none z = go (value_of n O.es) refl
+  taken_none z = go (value_of n F.0) refl
     where
-      go : (o : Option Val) → value_of n O.es ≡ o → Miss value_levels c n k.at
-      go none e = record { es = O.es; ctx = O.ctx; value = e; start = ap (λ j. j.at) (cut_read ∙ cut_none n O.es e) }
-      go (some x) e = absurd (omega (arith, z, ap (λ j. j.gone) (cut_read ∙ cut_some n x O.es e)))
+      go : (o : Option Val) → value_of n F.0 ≡ o → Miss value_levels c n k.at
+      go none e = record { es = F.0; ctx = found.ctx; value = e; start = ap (λ j. j.at) (F.2 ∙ cut_none n F.0 e) }
+      go (some x) e = absurd (omega (arith, z, ap (λ j. j.gone) (F.2 ∙ cut_some n x F.0 e)))
 
   pub taken_some : (k.gone ≡ 0 → ⊥) → Takes c n k
-  taken_some z = go (value_of n O.es) refl
+  taken_some z = go (value_of n F.0) refl
     where
-      go : (o : Option Val) → value_of n O.es ≡ o → Takes c n k
-      go none e = absurd (z (ap (λ j. j.gone) (cut_read ∙ cut_none n O.es e)))
+      go : (o : Option Val) → value_of n F.0 ≡ o → Takes c n k
+      go none e = absurd (z (ap (λ j. j.gone) (F.2 ∙ cut_none n F.0 e)))
       go (some x) e =
-          let q = cut_read ∙ cut_some n x O.es e in
+          let q = F.2 ∙ cut_some n x F.0 e in
           record {
-            hit = record { es = O.es; ctx = O.ctx; x = x; value = e; start = ap (λ j. j.at) q; end = omega (arith, ap (λ j. j.gone) q) };
+            hit = record { es = F.0; ctx = found.ctx; x = x; value = e; start = ap (λ j. j.at) q; end = omega (arith, ap (λ j. j.gone) q) };
             old = ap (λ j. j.old) q;
           }
 
@@ -542,11 +546,11 @@ length_closed count c at to l h k = omega (arith, length-append (begun count c a
 
 -- `give_without`
 module _ (count : ℕ) (c : List ℕ) (at to : ℕ) (old : List ℕ) (l : 3 ≤ at) (h : at ≤ to) (k : to ≤ length c) where
-  pub without_short : length old < length c - (to - at) → Built (fits (length old) (closed count c at to)) old old (written_is.Refused 18)
+  pub without_short : length old < length c - (to - at) → Built (fits (length old) (closed count c at to)) old old (result.Err Output)
   without_short s = built_short (fits (length old) (closed count c at to)) (closed count c at to) old refl (omega (arith, length_closed count c at to l h k))
 
   pub without_done : length c - (to - at) ≤ length old → (new : List ℕ) (n : ℕ) → n ≡ length (closed count c at to) → new ≡ fill (closed count c at to) old
-      → Built (fits (length old) (closed count c at to)) old new (written_is.Bytes n)
+      → Built (fits (length old) (closed count c at to)) old new (result.Ok n)
   unfolding fill
   without_done s new n e f =
       let z : length (closed count c at to) ≤ length old = omega (arith, length_closed count c at to l h k) in
@@ -564,17 +568,17 @@ module _ (c old : List ℕ) (n : ℕ) (O : Opened c 0) (bc : Bytes c) where
   pub short : length c ≤ most_bytes
   short = opened_short c 0 O.es O.is bc
 
-  pub move_small : (p : List ℕ) → length p ≡ 2 → Small c p c
+  move_small : (p : List ℕ) → length p ≡ 2 → Small c p c
   move_small p e = record { bytes_c = short; names = omega (arith, e); bytes_v = short }
 
-  pub remove_copy : (at : ℕ) → Miss value_levels c n at → (new : List ℕ) (a : Written) → Built (fits (length old) c) old new a → Built (remove_entry_call c n (length old)) old new a
+  pub remove_copy : (at : ℕ) → Miss value_levels c n at → (new : List ℕ) (a : Result ℕ Refusal) → Built (fits (length old) c) old new a → Built (remove_entry_call c n (length old)) old new a
   unfolding ◌>>=◌
   remove_copy at M new a B =
       let z : remove n O.es ≡ O.es = remove_absent n O.es (ap (value_of n) (ctx_same value_levels c O.es M.es O.ctx M.ctx) ∙ M.value) in
       subst (λ o. Built o old new a)
       (copied_is c O.es (length old) O.ctx.read bc short ∙ ap (λ x. checked_result (length old) (v_context x)) (sym z) ∙ sym (changed c (remove_entry n) (length old) O.es O.is)) B
 
-  pub move_copy : (parent at : ℕ) → Miss value_levels c n at → (new : List ℕ) (a : Written) → Built (fits (length old) c) old new a → Built (move_entry_call c n parent (length old)) old new a
+  pub move_copy : (parent at : ℕ) → Miss value_levels c n at → (new : List ℕ) (a : Result ℕ Refusal) → Built (fits (length old) c) old new a → Built (move_entry_call c n parent (length old)) old new a
   move_copy parent at M new a B =
       let v : value_of n O.es ≡ none = ap (value_of n) (ctx_same value_levels c O.es M.es O.ctx M.ctx) ∙ M.value in
       subst (λ o. Built o old new a)
@@ -605,11 +609,11 @@ module _ (c old : List ℕ) (n : ℕ) (O : Opened c 0) (bc : Bytes c) where
     same_es : O.es ≡ H.es
     same_es = ctx_same value_levels c O.es H.es O.ctx H.ctx
 
-    pub remove_done : (new : List ℕ) (a : Written) → Built (fits (length old) (closed count c at to)) old new a → Built (remove_entry_call c n (length old)) old new a
+    pub remove_done : (new : List ℕ) (a : Result ℕ Refusal) → Built (fits (length old) (closed count c at to)) old new a → Built (remove_entry_call c n (length old)) old new a
     remove_done new a B =
         subst (λ o. Built o old new a)
         (ap (fits (length old)) text
-        ∙ result_small (length old) (v_context left) (omega (arith, closed_short, short, ap length text)) rest_level
+        ∙ result_small (length old) (v_context left) (is_small (v_context left) (omega (arith, closed_short, short, ap length text)) rest_level)
         ∙ ap (λ x. checked_result (length old) (v_context (remove n x))) (sym same_es)
         ∙ sym (changed c (remove_entry n) (length old) O.es O.is)) B
 
@@ -626,16 +630,16 @@ module _ (c old : List ℕ) (n : ℕ) (O : Opened c 0) (bc : Bytes c) where
         (read_up_v (value_levels - 1) value_levels (value_in c at to) (bytes_take (to - (at + name_width)) (drop (at + name_width) c) (bytes_drop (at + name_width) c bc))
         H.x (length (value_in c at to)) (omega arith) (whole_is (value_levels - 1) (value_in c at to) H.x (hit_whole H bc)))
 
-    pub rest_ok : Ok (context_at value_levels (closed count c at to))
+    rest_ok : Ok (context_at value_levels (closed count c at to))
     rest_ok = is_ok (context_at value_levels (closed count c at to)) left rest_read
 
-    pub part_ok : Ok (whole_at value_levels (value_in c at to))
+    part_ok : Ok (whole_at value_levels (value_in c at to))
     part_ok = is_ok (whole_at value_levels (value_in c at to)) H.x part_read
 
-    pub part_level : (d : ℕ) → d ≡ level_v H.x → (x : Val) → whole_at value_levels (value_in c at to) ≡ some x → d ≡ level_v x
+    part_level : (d : ℕ) → d ≡ level_v H.x → (x : Val) → whole_at value_levels (value_in c at to) ≡ some x → d ≡ level_v x
     part_level d e x ex = e ∙ ap level_v (some_same (sym part_read ∙ ex))
 
-    pub move_done : (parent : ℕ) (new : List ℕ) (a : Written)
+    pub move_done : (parent : ℕ) (new : List ℕ) (a : Result ℕ Refusal)
         → ((es : Entries) (x : Val) → context_at value_levels (closed count c at to) ≡ some es → whole_at value_levels (value_in c at to) ≡ some x
         → Built (answered (length old) (updated false (parent ∷ n ∷ []) x es)) old new a)
         → Built (move_entry_call c n parent (length old)) old new a
@@ -645,6 +649,26 @@ module _ (c old : List ℕ) (n : ℕ) (O : Opened c 0) (bc : Bytes c) where
         (sym (ap (λ x. checked_result (length old) (v_context (moved n parent H.es x))) H.value)
         ∙ ap (λ x. checked_result (length old) (v_context (move_entry n parent x))) (sym same_es)
         ∙ sym (changed c (move_entry n parent) (length old) O.es O.is)) (F left H.x rest_read part_read)
+
+  -- what `move_in` asks
+  pub move_asks : (k : Cut) (T : Takes c n k) (count : ℕ) → count + 1 ≡ num_at 2 1 c → count < 65536 → (p : List ℕ) → length p ≡ 2 → (spare : ℕ) → length c ≤ spare → record {
+    le_at : (3 ≤ k.at) × (name_width ≤ k.gone) × (k.at + k.gone ≤ length c) × (count < 65536);
+    ok : Ok (context_at value_levels (closed count c k.at (k.at + k.gone)));
+    ok_2 : Ok (whole_at value_levels (value_in c k.at (k.at + k.gone)));
+    small : Small c p c;
+    cut_value : (x : Val) → whole_at value_levels (value_in c k.at (k.at + k.gone)) ≡ some x → k.old ≡ level_v x;
+    c_in_bounds : length c ≤ spare;
+  }
+  move_asks k T count ec low p e spare h =
+      let H = T.hit in
+      record {
+        le_at = (omega (arith, H.start), omega (arith, hit_start H bc), hit_inside H bc, low);
+        ok = rest_ok k.at (k.at + k.gone) H count ec;
+        ok_2 = part_ok k.at (k.at + k.gone) H count ec;
+        small = move_small p e;
+        cut_value = part_level k.at (k.at + k.gone) H count ec k.old T.old;
+        c_in_bounds = h;
+      }
 
 -- `move_in`: the rest of the context in a spare place
 module _ (count : ℕ) (c : List ℕ) (at to : ℕ) (l : 3 ≤ at) (h : at + name_width ≤ to) (k : to ≤ length c) (spare mid : List ℕ) (n : ℕ)
@@ -672,16 +696,3 @@ module _ (count : ℕ) (c : List ℕ) (at to : ℕ) (l : 3 ≤ at) (h : at + nam
 -- a name that is there is one of the entries
 pub some_entry : {l : ℕ} {c : List ℕ} {n at to : ℕ} (H : Hit l c n at to) → Bytes c → 1 ≤ num_at 2 1 c
 some_entry {l} {c} {n} H b = omega (arith, count_context l c H.es b H.ctx, count_less n 0 H.es (well_entries l c H.es b H.ctx) H.x H.value)
-
--- ---- `is_err`
-pub not_strict : (strict : Bool) (n names gone : ℕ) → strict ≡ false → false ≡ (strict && (ltb n names && ltb 0 gone))
-not_strict true n names gone e = cc
-not_strict false n names gone e = refl
-
-pub no_name_left : (strict : Bool) (n names gone : ℕ) → names ≤ n → false ≡ (strict && (ltb n names && ltb 0 gone))
-no_name_left true n names gone h = sym (ap (λ q. q && ltb 0 gone) (le-ltb n names h))
-no_name_left false n names gone h = refl
-
-pub one_name_left : (strict : Bool) (n names gone : ℕ) → strict ≡ true → n < names → ltb 0 gone ≡ (strict && (ltb n names && ltb 0 gone))
-one_name_left true n names gone e h = sym (ap (λ q. q && ltb 0 gone) (lt-ltb n names h))
-one_name_left false n names gone e h = cc

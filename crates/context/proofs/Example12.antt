@@ -8,7 +8,7 @@ use mathlib.Core.Logic.{◌⊎◌, inl, inr}
 use mathlib.Core.List.{List, append-nil}
 use lib.ListN.{length}
 use lib.Dec.{leb}
-use borrow.Author.Tests.{le-leb, lt-leb, leb-true, leb-false}
+use borrow.Author.Tests.{le-leb, lt-leb}
 use Rattle.form.specs.Limits.{most_bytes, value_levels}
 use Rattle.form.specs.Trees.{l_boolean, Val, v_leaf, v_context, Entries, no_entries, entry}
 use Rattle.form.specs.Form.{bytes, count_entries, enc_leaf, enc_v, level_v, WfLeaf, WfV}
@@ -19,7 +19,7 @@ use Rattle.paths.specs.Paths.{value_of}
 use Rattle.updates.specs.Update as update
 use Rattle.context.specs.Calls.{given_of, create_entries_call, apply_entries_call}
 use Rattle.context.specs.Example12.{self, path, created, Accepted, Within, Example12}
-use Rattle.context.proofs.CallContracts.{result_small, result_long, result_deep}
+use Rattle.context.proofs.CallContracts.{result_small, result_over, is_small, not_small}
 use Rattle.output.specs.Result.{checked_result}
 
 -- {1: true}, as a tree and read
@@ -58,22 +58,15 @@ module _ (v : List ℕ) (a : Accepted v) (room : ℕ) where
   fits_is : Within v a → create_entries_call self path v room ≡ fits room (created v)
   fits_is w =
       create_is
-      ∙ sym (result_small room (nested a.value) (omega (arith, ap length text, w.bytes)) (omega (arith, nested_level a.value, w.level)))
+      ∙ sym (result_small room (nested a.value) (is_small (nested a.value) (omega (arith, ap length text, w.bytes)) (omega (arith, nested_level a.value, w.level))))
       ∙ ap (fits room) text
 
   give : Within v a → (q : Bool) → leb (length (created v)) room ≡ q → create_entries_call self path v room ≡ pick q (done (created v)) (refused 18)
   give w q e = fits_is w ∙ ap (λ b. pick {X = Outcome (List ℕ)} b (done (created v)) (refused 18)) e
 
-  over_long : most_bytes < length (created v) → create_entries_call self path v room ≡ refused 17
-  over_long h = create_is ∙ result_long room (nested a.value) (omega (arith, ap length text))
-
-  over_deep : value_levels < level_v a.value + 2 → (q : Bool) → leb (length (created v)) most_bytes ≡ q → create_entries_call self path v room ≡ refused 17
-  over_deep h true e = create_is ∙ result_deep room (nested a.value) (omega (arith, ap length text, leb-true (length (created v)) most_bytes e)) (omega (arith, nested_level a.value))
-  over_deep h false e = over_long (leb-false (length (created v)) most_bytes e)
-
   over : (value_levels < level_v a.value + 2) ⊎ (most_bytes < length (created v)) → create_entries_call self path v room ≡ refused 17
-  over (inl h) = over_deep h (leb (length (created v)) most_bytes) refl
-  over (inr h) = over_long h
+  over (inl h) = create_is ∙ result_over room (nested a.value) (not_small (nested a.value) (inl (omega (arith, nested_level a.value))))
+  over (inr h) = create_is ∙ result_over room (nested a.value) (not_small (nested a.value) (inr (omega (arith, ap length text))))
 
 pub example12 : Example12
 example12 =

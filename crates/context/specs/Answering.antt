@@ -1,12 +1,14 @@
 -- What stands between a builder and the answer of a call.
 -- Assumes nothing.
-use Rattle.std.specs.Prelude.{ℕ, ◌+◌, ◌-◌, ◌≤◌, ◌≡◌, List, [], ◌∷◌, length, take, drop}
+use Rattle.std.specs.Prelude.{ℕ, ◌+◌, ◌-◌, ◌≤◌, ◌≡◌, List, [], ◌∷◌, length, take, drop, Ok, Err, Result}
 use Rattle.std.proofs.Math.Option.{Option}
+use Rattle.form.specs.declared.refusals.Refusal.{Refusal}
+use Rattle.form.specs.Answers.{number}
+use Rattle.paths.specs.Calls.{context_of}
 use Rattle.form.specs.Limits.{name_width, most_bytes}
 use Rattle.form.specs.Trees.{Val, v_context, Entries}
 use Rattle.form.specs.Form.{enc_v, level_v}
-use Rattle.form.specs.Options.{WhereRead}
-use Rattle.form.specs.Outcome.{Outcome, ◌>>=◌, or_refuse}
+use Rattle.form.specs.Outcome.{Outcome, done, refused, ◌>>=◌, or_refuse}
 use Rattle.paths.specs.Way.{cut_of}
 use Rattle.paths.specs.declared.way.Cut.{Cut}
 use Rattle.output.specs.Result.{checked_result}
@@ -24,9 +26,10 @@ answered room o = do
   es ← or_refuse 16 o
   checked_result room (v_context es)
 
--- the cut of the entry of a name, in a context that was read
-unfoldable pub Taken : ℕ → Option Entries → Cut → Type 0
-Taken n o k = WhereRead (Unit {0}) (λ es. k ≡ cut_of (n ∷ []) (v_context es)) o
+-- the cut of the entry of a name in the context c, or the refusal
+abbrev pub Finds : ℕ → List ℕ → Result Cut Refusal → Type 0
+Finds n c (Ok cut) = (es : Entries) × (context_of c 0 ≡ done es) × (cut ≡ cut_of (n ∷ []) (v_context es))
+Finds n c (Err refusal) = context_of c 0 ≡ refused (number refusal)
 
 -- the bytes of the value in the entry from `at` to `to`
 abbrev pub value_in : List ℕ → ℕ → ℕ → List ℕ

@@ -1,5 +1,5 @@
 // The arguments of an update; its answer, held to 17 and 18 by the size and the level that the walk and the builders tell; and what is built.
-ghost use Rattle.std.specs.Prelude.{◌≡◌, false, ◌&&◌, ◌+◌, ◌-◌, ◌<◌, ◌≤◌, min, length, ltb};
+ghost use Rattle.std.specs.Prelude.{◌≡◌, false, ◌&&◌, ◌+◌, ◌-◌, ◌<◌, ◌≤◌, min, length, ltb, leb};
 ghost use Rattle.std.proofs.Math.Option.{some};
 ghost use Rattle.form.specs.Limits.{name_width, most_bytes, value_levels};
 ghost use Rattle.form.specs.Trees.{Val, v_context, Entries};
@@ -8,16 +8,16 @@ ghost use Rattle.form.specs.Outcome.{fits};
 ghost use Rattle.form.specs.Answers.{Built};
 ghost use Rattle.types.specs.At.{Ok};
 ghost use Rattle.output.specs.Result.{checked_result};
-ghost use Rattle.paths.specs.Places.{whole_at, context_at, lent_code};
+ghost use Rattle.paths.specs.Places.{whole_at, context_at};
 ghost use Rattle.paths.specs.Way.{Surveyed};
-ghost use Rattle.paths.specs.Calls.{context_of};
 ghost use Rattle.updates.specs.Writing.{Small, updated, closed, merged};
-ghost use Rattle.context.specs.Answering.{Holds, Taken, answered, value_in};
+ghost use Rattle.context.specs.Answering.{Holds, Finds, answered, value_in};
 ghost use Rattle.context.specs.Calls.{update_call, joined_call};
 
 use form::limits::{MOST_BYTES, MOST_NAMES, NAME_WIDTH, VALUE_LEVELS};
-use form::{Checked, Written, commands, refusals};
+use form::{Refusal, commands};
 use paths::way::{Cut, Way};
+use updates::Totals;
 
 // ---- create_entries and apply_entries
 
@@ -25,13 +25,14 @@ use paths::way::{Cut, Way};
 fn is_err(strict: bool, names: usize, cut: Cut) -> bool
     ensures { result ≡ (strict && (ltb cut.names names && ltb 0 cut.gone)) }
 {
-    if !strict {
-        return false;
-    }
-    if names <= cut.names {
-        return false;
-    }
-    0 < cut.gone
+    strict && cut.names < names && 0 < cut.gone
+}
+
+// Whether a value is not over the limits.
+fn is_small(totals: Totals) -> bool
+    ensures { result ≡ (leb totals.size most_bytes && leb totals.level value_levels) }
+{
+    totals.size <= MOST_BYTES && totals.level <= VALUE_LEVELS
 }
 
 // The value, of that level, at the path of an accepted context, along which the walk told `way`. Refusals 16, 17, 18.
@@ -43,7 +44,7 @@ fn place(
     strict: bool,
     way: Way,
     out: &mut [u8],
-) -> Written
+) -> Result<usize, Refusal>
     requires ok { Ok (context_at value_levels c.now) }
     requires ok_2 { Ok (whole_at value_levels v.now) }
     requires small { Small c.now path.now v.now }
@@ -52,67 +53,66 @@ fn place(
     ensures { (es : Entries) (x : Val) → context_at value_levels c.now ≡ some es → whole_at value_levels v.now ≡ some x
         → Built (answered (length out.old) (updated strict path.now x es)) out.old out.new result }
 {
-    if path.len() == 0 {
+    let is_unchanged = path.is_empty();
+    if is_unchanged {
         return output::give(c, out);
     }
     if is_err(strict, path.len(), way.cut) {
-        return Written::Refused(refusals::NOT_APPLIED);
+        return Err(Refusal::NotApplied);
     }
-    let m = updates::measure(c, path, v, level, way);
-    let is_long = MOST_BYTES < m.size;
-    if is_long {
-        return Written::Refused(refusals::RESULT);
+    let totals = updates::measure(c, path, v, level, way);
+    let is_over = !is_small(totals);
+    if is_over {
+        return Err(Refusal::ResultSize);
     }
-    if VALUE_LEVELS < m.level {
-        return Written::Refused(refusals::RESULT);
+    if out.len() < totals.size {
+        return Err(Refusal::Output);
     }
-    if out.len() < m.size {
-        return Written::Refused(refusals::OUTPUT);
-    }
-    Written::Bytes(updates::splice(c, way.cut, path, v, out))
+    Ok(updates::splice(c, way.cut, path, v, out))
 }
 
 // The value at the path of the context. Refusals 1 to 5 of the context, 11, 1 to 5 of the value, 12, 16, 17, 18.
-pub(crate) fn update(c: &[u8], path: &[u16], v: &[u8], strict: bool, out: &mut [u8]) -> Written
+pub(crate) fn update(
+    c: &[u8],
+    path: &[u16],
+    v: &[u8],
+    strict: bool,
+    out: &mut [u8],
+) -> Result<usize, Refusal>
     ensures { Built (update_call strict c.now path.now v.now (length out.old)) out.old out.new result }
 {
-    let mut status: u8 = 0;
-    let way = paths::way::read(c, path, &mut status);
-    if status != 0 {
-        return Written::Refused(status);
-    }
+    let way = paths::way::read(c, path)?;
     if MOST_NAMES < path.len() {
-        return Written::Refused(refusals::PATH);
+        return Err(Refusal::PathLength);
     }
-    match form::check_value(v) {
-        Checked::Refused(n) => Written::Refused(n),
-        Checked::Accepted { level } => {
-            if c[0] != commands::CONTEXT {
-                return Written::Refused(refusals::NOT_CONTEXT);
-            }
-            place(c, path, v, level, strict, way, out)
-        }
+    let level = form::check_value(v)?;
+    if c[0] != commands::CONTEXT {
+        return Err(Refusal::NotContext);
     }
+    place(c, path, v, level, strict, way, out)
 }
 
 // ---- zip and overwrite
 
-// The context of `size` bytes and that level that was built in the spare place. Refusals 17, 18.
-fn give_within(spare: &[u8], size: usize, level: usize, out: &mut [u8]) -> Written
-    requires { size ≤ most_bytes → size ≤ length spare.now }
-    ensures { (w : Val) → Holds spare.now size level w → Built (checked_result (length out.old) w) out.old out.new result }
+// The context with those totals that was built in the spare place. Refusals 17, 18.
+fn give_within(spare: &[u8], totals: Totals, out: &mut [u8]) -> Result<usize, Refusal>
+    requires { totals.size ≤ most_bytes → totals.size ≤ length spare.now }
+    ensures { (w : Val) → Holds spare.now totals.size totals.level w → Built (checked_result (length out.old) w) out.old out.new result }
 {
-    if MOST_BYTES < size {
-        return Written::Refused(refusals::RESULT);
+    if !is_small(totals) {
+        return Err(Refusal::ResultSize);
     }
-    if VALUE_LEVELS < level {
-        return Written::Refused(refusals::RESULT);
-    }
-    output::give(&spare[..size], out)
+    output::give(&spare[..totals.size], out)
 }
 
 // Two accepted contexts in one, built in the spare place. Refusals 17, 18.
-fn join_in(all: bool, c: &[u8], o: &[u8], spare: &mut [u8], out: &mut [u8]) -> Written
+fn join_in(
+    all: bool,
+    c: &[u8],
+    o: &[u8],
+    spare: &mut [u8],
+    out: &mut [u8],
+) -> Result<usize, Refusal>
     requires ok { Ok (context_at value_levels c.now) }
     requires ok_2 { Ok (context_at value_levels o.now) }
     requires c_len_bound { (length c.now ≤ most_bytes) × (length o.now ≤ most_bytes) }
@@ -120,26 +120,22 @@ fn join_in(all: bool, c: &[u8], o: &[u8], spare: &mut [u8], out: &mut [u8]) -> W
     ensures { (es gs : Entries) → context_at value_levels c.now ≡ some es → context_at value_levels o.now ≡ some gs
         → Built (checked_result (length out.old) (v_context (merged all es gs))) out.old out.new result }
 {
-    let mut level: usize = 0;
-    let n = updates::merge(all, c, o, spare, &mut level);
-    give_within(spare, n, level, out)
+    let totals = updates::merge(all, c, o, spare);
+    give_within(spare, totals, out)
 }
 
 // Both contexts in one. Refusals 1 to 5 of each, 12, 17, 18.
-pub(crate) fn join(all: bool, c: &[u8], o: &[u8], out: &mut [u8]) -> Written
+pub(crate) fn join(all: bool, c: &[u8], o: &[u8], out: &mut [u8]) -> Result<usize, Refusal>
     ensures { Built (joined_call all c.now o.now (length out.old)) out.old out.new result }
 {
-    if let Checked::Refused(n) = form::check_value(c) {
-        return Written::Refused(n);
-    }
-    if let Checked::Refused(n) = form::check_value(o) {
-        return Written::Refused(n);
-    }
+    form::check_value(c)?;
+    form::check_value(o)?;
     if c[0] != commands::CONTEXT {
-        return Written::Refused(refusals::NOT_CONTEXT);
+        return Err(Refusal::NotContext);
     }
-    if o[0] != commands::CONTEXT {
-        return Written::Refused(refusals::NOT_CONTEXT);
+    let is_context = o[0] == commands::CONTEXT;
+    if !is_context {
+        return Err(Refusal::NotContext);
     }
     if c.len() + o.len() <= 512 {
         let mut few = [0u8; 512];
@@ -151,32 +147,32 @@ pub(crate) fn join(all: bool, c: &[u8], o: &[u8], out: &mut [u8]) -> Written
 
 // ---- remove_entry and move_entry
 
-// What an update at the name changes in the context `c`; the number of its refusal, or 0, is left in `status`. Refusals 1 to 5, 12.
-pub(crate) fn find(c: &[u8], name: u16, status: &mut u8) -> Cut
-    ensures status_after { status.new ≡ lent_code (context_of c.now 0) }
-    ensures fact { status.new ≡ 0 → Taken name (context_at value_levels c.now) result }
+// What an update at the name changes in the context `c`. Refusals 1 to 5, 12.
+pub(crate) fn find(c: &[u8], name: u16) -> Result<Cut, Refusal>
+    ensures { Finds name c.now result }
 {
-    let path = [name];
-    let way = paths::way::read(c, &path, status);
-    if *status != 0 {
-        return way.cut;
-    }
+    let way = paths::way::read(c, &[name])?;
     if c[0] != commands::CONTEXT {
-        *status = refusals::NOT_CONTEXT;
-        return way.cut;
+        return Err(Refusal::NotContext);
     }
-    way.cut
+    Ok(way.cut)
 }
 
 // The context `c` without the entry from `at` to `to`, built in the output itself where that has room. Refusal 18.
-pub(crate) fn give_without(c: &[u8], at: usize, to: usize, count: usize, out: &mut [u8]) -> Written
+pub(crate) fn give_without(
+    c: &[u8],
+    at: usize,
+    to: usize,
+    count: usize,
+    out: &mut [u8],
+) -> Result<usize, Refusal>
     requires { (3 ≤ at) × (at ≤ to) × (to ≤ length c.now) × (count < 65536) }
     ensures { Built (fits (length out.old) (closed count c.now at to)) out.old out.new result }
 {
     if out.len() < c.len() - (to - at) {
-        return Written::Refused(refusals::OUTPUT);
+        return Err(Refusal::Output);
     }
-    Written::Bytes(updates::write_without(c, at, to, count, out))
+    Ok(updates::write_without(c, at, to, count, out))
 }
 
 // The value of the entry at the cut at the path of the context without that entry, which is built in the spare place. Refusals 17, 18.
@@ -187,7 +183,7 @@ pub(crate) fn move_in(
     path: &[u16],
     spare: &mut [u8],
     out: &mut [u8],
-) -> Written
+) -> Result<usize, Refusal>
     requires le_at { (3 ≤ cut.at) × (name_width ≤ cut.gone) × (cut.at + cut.gone ≤ length c.now) × (count < 65536) }
     requires ok { Ok (context_at value_levels (closed count c.now cut.at (cut.at + cut.gone))) }
     requires ok_2 { Ok (whole_at value_levels (value_in c.now cut.at (cut.at + cut.gone))) }

@@ -7,33 +7,32 @@ ghost use Rattle.context.specs.Calls.{create_entries_call, apply_entries_call, s
 
 mod builder;
 
-use form::Written;
+use form::Refusal;
 use form::limits::MOST_BYTES;
 
 // `FeelContext::create_entries`. Refusals 1 to 5 of the context, 11, 1 to 5 of the value, 12, 17, 18.
-pub fn create_entries(c: &[u8], path: &[u16], v: &[u8], out: &mut [u8]) -> Written
+pub fn create_entries(c: &[u8], path: &[u16], v: &[u8], out: &mut [u8]) -> Result<usize, Refusal>
     ensures { Built (create_entries_call c.now path.now v.now (length out.old)) out.old out.new result }
 {
     builder::update(c, path, v, false, out)
 }
 
 // `FeelContext::apply_entries`. Refusals 1 to 5 of the context, 11, 1 to 5 of the value, 12, 16, 17, 18.
-pub fn apply_entries(c: &[u8], path: &[u16], v: &[u8], out: &mut [u8]) -> Written
+pub fn apply_entries(c: &[u8], path: &[u16], v: &[u8], out: &mut [u8]) -> Result<usize, Refusal>
     ensures { Built (apply_entries_call c.now path.now v.now (length out.old)) out.old out.new result }
 {
     builder::update(c, path, v, true, out)
 }
 
 // `FeelContext::set_entry`. Refusals 1 to 5 of the context, 1 to 5 of the value, 12, 17, 18.
-pub fn set_entry(c: &[u8], name: u16, v: &[u8], out: &mut [u8]) -> Written
+pub fn set_entry(c: &[u8], name: u16, v: &[u8], out: &mut [u8]) -> Result<usize, Refusal>
     ensures { Built (set_entry_call c.now name v.now (length out.old)) out.old out.new result }
 {
-    let path = [name];
-    create_entries(c, &path, v, out)
+    create_entries(c, &[name], v, out)
 }
 
 // `FeelContext::set_null`. Refusals 1 to 5, 12, 17, 18.
-pub fn set_null(c: &[u8], name: u16, out: &mut [u8]) -> Written
+pub fn set_null(c: &[u8], name: u16, out: &mut [u8]) -> Result<usize, Refusal>
     ensures { Built (set_null_call c.now name (length out.old)) out.old out.new result }
 {
     let nothing = [0u8; 2];
@@ -41,28 +40,24 @@ pub fn set_null(c: &[u8], name: u16, out: &mut [u8]) -> Written
 }
 
 // `FeelContext::zip`. Refusals 1 to 5 of each, 12, 17, 18.
-pub fn zip(c: &[u8], other: &[u8], out: &mut [u8]) -> Written
+pub fn zip(c: &[u8], other: &[u8], out: &mut [u8]) -> Result<usize, Refusal>
     ensures { Built (zip_call c.now other.now (length out.old)) out.old out.new result }
 {
     builder::join(true, c, other, out)
 }
 
 // `FeelContext::overwrite`. Refusals 1 to 5 of each, 12, 17, 18.
-pub fn overwrite(c: &[u8], other: &[u8], out: &mut [u8]) -> Written
+pub fn overwrite(c: &[u8], other: &[u8], out: &mut [u8]) -> Result<usize, Refusal>
     ensures { Built (overwrite_call c.now other.now (length out.old)) out.old out.new result }
 {
     builder::join(false, c, other, out)
 }
 
 // `FeelContext::remove_entry`. Refusals 1 to 5, 12, 17, 18; 17 is never met.
-pub fn remove_entry(c: &[u8], name: u16, out: &mut [u8]) -> Written
+pub fn remove_entry(c: &[u8], name: u16, out: &mut [u8]) -> Result<usize, Refusal>
     ensures { Built (remove_entry_call c.now name (length out.old)) out.old out.new result }
 {
-    let mut status: u8 = 0;
-    let cut = builder::find(c, name, &mut status);
-    if status != 0 {
-        return Written::Refused(status);
-    }
+    let cut = builder::find(c, name)?;
     if cut.gone == 0 {
         return output::give(c, out);
     }
@@ -71,14 +66,10 @@ pub fn remove_entry(c: &[u8], name: u16, out: &mut [u8]) -> Written
 }
 
 // `FeelContext::move_entry`. Refusals 1 to 5, 12, 17, 18.
-pub fn move_entry(c: &[u8], name: u16, parent: u16, out: &mut [u8]) -> Written
+pub fn move_entry(c: &[u8], name: u16, parent: u16, out: &mut [u8]) -> Result<usize, Refusal>
     ensures { Built (move_entry_call c.now name parent (length out.old)) out.old out.new result }
 {
-    let mut status: u8 = 0;
-    let cut = builder::find(c, name, &mut status);
-    if status != 0 {
-        return Written::Refused(status);
-    }
+    let cut = builder::find(c, name)?;
     if cut.gone == 0 {
         return output::give(c, out);
     }

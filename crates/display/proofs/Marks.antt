@@ -1,52 +1,53 @@
--- The walk over a table from text to text: what stands at a place, where the text with a number stands, how long a text is, and how many there are.
--- Idea: at each mark what is read from there on are the texts from its number on.
--- Index: `TextAt`, `text_there` (a text at a place); `Table`, `table`, `table_named`, `table_two`, `table_few`, `texts_counted`, `beyond` (a table that was read); `first_stands`, `next_stands`,
--- `stands_fits`, `stands_found`, `not_there`, `located` (where a text stands); `MarkInv`, `mark_start`, `mark_next`, `mark_done` (`mark_texts`); `text_fits`, `text_found` (`text_at`).
+-- A table that is read: how many texts it has and how long they are, the loop that marks them, and the text with a number.
+-- Idea: the texts that are marked and those that are left make all.
+-- Index: `texts_counted`, `beyond`, `table_named` (a table that was read); `Marking`, `marking_starts`, `marking_none`, `marking_next`, `marking_ended`, `no_table`, `too_many` (`mark_texts`);
+-- `Marked`, `reads_none`, `reads_some` (what it answers); `nth_none`, `nth_there` (`Texts::get`).
 -- Assumes nothing.
-use Prim.Native.Nat.{ℕ, zero, suc, ◌+◌, ◌-◌, ◌*◌, ◌<◌, ◌≤◌}
-use mathlib.Core.Path.{◌≡◌, refl, sym, ap, subst, ◌∙◌}
+use Prim.Native.Nat.{ℕ, zero, suc, ◌+◌, ◌-◌, ◌*◌, ◌<◌, ◌≤◌, min}
+use native.Mathlib.Omega.{arith}
+use native.Mathlib.Numerals.{add-one}
+use mathlib.Core.Path.{◌≡◌, refl, sym, ap, ap₂, subst, ◌∙◌}
+use mathlib.Core.Logic.{◌⊎◌, inl, inr}
 use mathlib.Core.Bool.{Bool, true, false, ◌&&◌}
 use mathlib.Core.Option.{Option, none, some}
-use mathlib.Core.List.{List, [], ◌∷◌}
-use native.Mathlib.Omega.{arith}
-use lib.ListN.{length, take, drop, get_or, set, length-set, length-take, length-drop}
-use lib.Seq.{drop-drop, get_or-set_same, get_or-set_other}
+use mathlib.Core.List.{List, [], ◌∷◌, ◌++◌, append_assoc, append-nil}
+use lib.ListN.{length, take, drop, get_or, set, length-set, length-take, length-drop, length-append}
+use lib.Seq.{drop-drop, length-take-le, take-suc-set, get_or-set_same, get_or-set_other}
 use lib.Dec.{leb, ltb}
-use borrow.Author.Tests.{ltb-true, ltb-false, leb-true}
+use borrow.Author.Tests.{le-leb, lt-leb, leb-true, ltb-true, ltb-false}
+use Rattle.std.specs.Prelude.{Option as Answer, None, Some}
+use Rattle.std.proofs.lemmas.Option.{none-some, same_Some}
+use Rattle.std.proofs.lemmas.List.{get_or_read, get_or-take, map-append}
 use Rattle.form.specs.Limits.{most_bytes}
 use Rattle.form.specs.Form.{num, num_at}
-use Rattle.types.specs.At.{Ok}
+use Rattle.form.specs.Options.{map as optional}
 use Rattle.form.proofs.Options.{none_some}
-use Rattle.form.proofs.Runs.{step}
-use Rattle.types.proofs.Reading.{ok_got}
-use Rattle.names.specs.Reader.{Rule, provided, read_texts}
-use Rattle.names.proofs.Reader.{read_nil, texts_got, text_byte, text_here}
-use Rattle.display.specs.Texts.{nth}
-use Rattle.display.specs.Tables.{less_text, tidy, in_table, counted_texts, read_table}
-use Rattle.display.specs.Writing.{Located, Locates, Stands, Marked}
-use Rattle.display.specs.declared.Span.{Span}
-use Rattle.display.specs.declared.Span.TheVariants as span-is
+use Rattle.form.proofs.Runs.{rest}
+use Rattle.names.specs.Reader.{Rule, provided, at_end, split_text, read_texts}
+use Rattle.names.proofs.Reader.{provided_got, read_zero, read_nil, split_got, split_length, split_none, split_some, texts_got}
+use Rattle.display.specs.Tables.{less_text, tidy, behind, in_table, counted_texts, read_table}
 use Rattle.display.proofs.Texts.{Most}
+use Rattle.display.specs.Texts.{nth}
+use Rattle.display.specs.Marks.{text_from, texts_of, Marks, Reads}
 
--- ---- the text whose length byte stands at `at`, of which c follow
-pub record TextAt (rule : Rule) (c at : ℕ) (a : List ℕ) (ts : List (List ℕ)) : Type 0 where
-  pub more : List (List ℕ)
-  pub fits : at + 1 + get_or a at 0 ≤ length a
-  pub is : ts ≡ take (get_or a at 0) (drop (at + 1) a) ∷ more
-  pub second : read_texts rule (some (take (get_or a at 0) (drop (at + 1) a))) c (drop (at + 1 + get_or a at 0) a) ≡ some more
+-- ---- the text with a number, by its mark
+pub nth_none : (a marks : List ℕ) (n : ℕ) → length marks ≤ n → nth (texts_of a marks) n ≡ none
+unfolding nth
+nth_none a [] n h = refl
+nth_none a (m ∷ marks) zero h = absurd (omega arith)
+nth_none a (m ∷ marks) (suc n) h = nth_none a marks n (omega arith)
 
-none_left : (rule : Rule) (before : Option (List ℕ)) (c : ℕ) (ts : List (List ℕ)) → read_texts rule before (suc c) [] ≡ some ts → ⊥
-none_left rule before c ts e = none_some (sym (read_nil rule before c) ∙ e)
+nth_from : (a marks : List ℕ) (n : ℕ) → n < length marks → nth (texts_of a marks) n ≡ some (text_from a (get_or marks n 0))
+unfolding nth
+nth_from a [] n h = absurd (omega arith)
+nth_from a (m ∷ marks) zero h = refl
+nth_from a (m ∷ marks) (suc n) h = nth_from a marks n (omega arith)
 
-pub text_there : (rule : Rule) (before : Option (List ℕ)) (c at : ℕ) (a : List ℕ) (ts : List (List ℕ)) → read_texts rule before (suc c) (drop at a) ≡ some ts → TextAt rule c at a ts
-text_there rule before c at a ts e =
-    let F = text_here rule before c at a ts e in
-    record {
-      more = F.more;
-      fits = omega (arith, F.fits, length-drop (at + 1) a, text_byte rule before c at a ts e);
-      is = F.is;
-      second = ap (read_texts rule (some (take (get_or a at 0) (drop (at + 1) a))) c) (sym (drop-drop (get_or a at 0) (at + 1) a)) ∙ F.next;
-    }
+pub nth_there : (a marks : List ℕ) (n m at k : ℕ) → n < length marks → m ≡ get_or marks n m → at ≡ m → k ≡ get_or a at 0
+    → nth (texts_of a marks) n ≡ some (take (at + 1 + k - (at + 1)) (drop (at + 1) a))
+nth_there a marks n m at k h e p f =
+    let z : get_or a at 0 ≡ at + 1 + k - (at + 1) = omega arith in
+    nth_from a marks n h ∙ ap (λ (i : ℕ). some (text_from a i)) (sym (get_or_read marks n m h e 0) ∙ sym p) ∙ ap (λ (j : ℕ). some (take j (drop (at + 1) a))) z
 
 -- ---- as many as were counted, and none longer than the bytes
 pub texts_counted : (rule : Rule) (before : Option (List ℕ)) (c : ℕ) (s : List ℕ) (ts : List (List ℕ)) → read_texts rule before c s ≡ some ts → length ts ≡ c
@@ -89,179 +90,226 @@ some_byte b (x ∷ t) e = omega arith
 
 two_each : (b : List ℕ) (c : ℕ) (s : List ℕ) (ts : List (List ℕ)) → read_texts in_table (some b) c s ≡ some ts → 2 * c ≤ length s
 two_each b zero s ts e = omega arith
-two_each b (suc c) [] ts e = absurd (none_left in_table (some b) c ts e)
+two_each b (suc c) [] ts e = absurd (none_some (sym (read_nil in_table (some b) c) ∙ e))
 two_each b (suc c) (n ∷ s) ts e =
     let F = texts_got in_table (some b) c n s ts e in
     omega (arith, F.fits, two_each (take n s) c (drop n s) F.more F.next, some_byte b (take n s) F.ruled, length-take n s, length-drop n s)
 
 two_but_first : (c : ℕ) (s : List ℕ) (ts : List (List ℕ)) → read_texts in_table none c s ≡ some ts → 2 * c ≤ length s + 1
 two_but_first zero s ts e = omega arith
-two_but_first (suc c) [] ts e = absurd (none_left in_table none c ts e)
+two_but_first (suc c) [] ts e = absurd (none_some (sym (read_nil in_table none c) ∙ e))
 two_but_first (suc c) (n ∷ s) ts e =
     let F = texts_got in_table none c n s ts e in
     omega (arith, two_each (take n s) c (drop n s) F.more F.next, length-drop n s)
 
--- ---- a table that was read
-pub record Table (a : List ℕ) (ts : List (List ℕ)) : Type 0 where
-  pub two : 2 ≤ length a
-  pub most : length a ≤ most_bytes
-  pub texts : read_texts in_table none (num_at 2 0 a) (drop 2 a) ≡ some ts
-
+-- ---- a table's bytes
 num_two : (a b : ℕ) → num (a ∷ b ∷ []) ≡ a + b * 256
 unfolding num
 num_two a b = omega arith
 
-counted : (a : List ℕ) (ts : List (List ℕ)) → length a ≤ most_bytes → counted_texts a ≡ some ts → Table a ts
-counted [] ts h e = absurd (none_some e)
-counted (x ∷ []) ts h e = absurd (none_some e)
-counted (x ∷ y ∷ s) ts h e = record { two = omega arith; most = h; texts = ap (λ (k : ℕ). read_texts in_table none k s) (num_two x y) ∙ e }
-
-pub table : (a : List ℕ) (ts : List (List ℕ)) → read_table a ≡ some ts → Table a ts
+table_is : (a : List ℕ) → length a ≤ most_bytes → 2 ≤ length a → read_table a ≡ read_texts in_table none (num_at 2 0 a) (drop 2 a)
 unfolding read_table
-table a ts e = go (leb (length a) most_bytes) refl e
+table_is [] h k = absurd (omega arith)
+table_is (x ∷ []) h k = absurd (omega arith)
+table_is (x ∷ y ∷ s) h k =
+    ap (λ q. provided q (read_texts in_table none (x + y * 256) s)) (le-leb (suc (suc (length s))) most_bytes h) ∙ ap (λ (n : ℕ). read_texts in_table none n s) (sym (num_two x y))
+
+table_got : (a : List ℕ) (ts : List (List ℕ)) → read_table a ≡ some ts → (length a ≤ most_bytes) × (2 ≤ length a)
+unfolding read_table
+table_got a ts e = let g = provided_got (leb (length a) most_bytes) (counted_texts a) ts e in (leb-true (length a) most_bytes g.0, go a g.1)
   where
-    go : (q : Bool) → leb (length a) most_bytes ≡ q → provided q (counted_texts a) ≡ some ts → Table a ts
-    go false h f = absurd (none_some f)
-    go true h f = counted a ts (leb-true (length a) most_bytes h) f
+    go : (a : List ℕ) → counted_texts a ≡ some ts → 2 ≤ length a
+    go [] e = absurd (none_some e)
+    go (x ∷ []) e = absurd (none_some e)
+    go (x ∷ y ∷ s) e = omega arith
 
 -- a text of a table
 pub table_named : (a : List ℕ) (ts : List (List ℕ)) → read_table a ≡ some ts → (n : ℕ) → Most most_bytes (nth ts n)
-table_named a ts e n = let T = table a ts e in all_most in_table most_bytes none (num_at 2 0 a) (drop 2 a) ts T.texts (omega (arith, length-drop 2 a, T.most)) n
+table_named a ts e n =
+    let g = table_got a ts e in
+    all_most in_table most_bytes none (num_at 2 0 a) (drop 2 a) ts (sym (table_is a g.0 g.1) ∙ e) (omega (arith, length-drop 2 a, g.0)) n
 
 -- ---- the loop
-locates : (a : List ℕ) (n : ℕ) (ts : List (List ℕ)) (r : Span) → read_table a ≡ some ts → Located (nth ts n) a r → Locates (read_table a) n a r
-unfolding Locates
-locates a n ts r e h = rw e h
+-- the text whose length byte stands at `at`
+record Found (a : List ℕ) (at : ℕ) (t b : List ℕ) : Type 0 where
+  is : text_from a at ≡ t
+  fits : at + 1 + get_or a at 0 ≤ length a
+  next : drop (at + 1 + length t) a ≡ b
 
-pub located : (a : List ℕ) (n : ℕ) (ts : List (List ℕ)) (r : Span) → read_table a ≡ some ts → Locates (read_table a) n a r → Located (nth ts n) a r
-unfolding Locates
-located a n ts r e h = rw e at h
+byte_at : (a : List ℕ) (at n : ℕ) (s : List ℕ) → drop at a ≡ n ∷ s → (get_or a at 0 ≡ n) × (drop (suc at) a ≡ s)
+byte_at [] zero n s e = absurd (let z : ◌≡◌ {A = ℕ} 0 1 = cc in omega arith)
+byte_at [] (suc at) n s e = absurd (let z : ◌≡◌ {A = ℕ} 0 1 = cc in omega arith)
+byte_at (x ∷ a) zero n s e = (cc, cc)
+byte_at (x ∷ a) (suc at) n s e = byte_at a at n s e
 
-module _ (a : List ℕ) (ok : Ok (read_table a)) where
-  abbrev R : (ts : List (List ℕ)) × (read_table a ≡ some ts)
-  R = ok_got (read_table a) ok
+found : (a : List ℕ) (at : ℕ) (rest t b : List ℕ) → drop at a ≡ rest → split_text rest ≡ some (t, b) → Found a at t b
+found a at [] t b e f = absurd (none_some f)
+found a at (n ∷ s) t b e f =
+    let g = byte_at a at n s e in
+    let S = split_got n s t b f in
+    let d : drop (at + 1) a ≡ s = ap (λ (k : ℕ). drop k a) (add-one at) ∙ g.1 in
+    let l : length t ≡ n = ap length S.first ∙ length-take-le n s (leb-true n (length s) S.test) in
+    record {
+      is = ap₂ take g.0 d ∙ sym S.first;
+      fits = omega (arith, g.0, ap length d, length-drop (at + 1) a, leb-true n (length s) S.test, ap length e, length-drop at a);
+      next = sym (drop-drop (length t) (at + 1) a) ∙ ap₂ drop l d ∙ sym S.rest;
+    }
 
-  pub table_two : 2 ≤ length a
-  table_two = (table a R.0 R.1).two
+behind_next : (i : ℕ) (t : List ℕ) → behind (i + 1) t ≡ some t
+behind_next i t = ap (λ (k : ℕ). behind k t) (add-one i)
 
-  pub not_there : (number count : ℕ) → count ≡ num_at 2 0 a → count ≤ number → Locates (read_table a) number a span-is.None
-  not_there number count e h =
-      let T = table a R.0 R.1 in
-      let c = texts_counted in_table none (num_at 2 0 a) (drop 2 a) R.0 T.texts in
-      locates a number R.0 span-is.None R.1 (record { text = sym (beyond R.0 number (omega arith)); inside = tt })
+one_more : (xs : List (List ℕ)) (t : List ℕ) (o : Option (List (List ℕ))) → optional (λ ts. xs ++ ts) (optional (λ ts. t ∷ ts) o) ≡ optional (λ ts. (xs ++ (t ∷ [])) ++ ts) o
+one_more xs t none = refl
+one_more xs t (some ts) = ap some (sym (append_assoc xs (t ∷ []) ts))
 
-  pub table_few : num_at 2 0 a ≤ 8192
-  table_few = let T = table a R.0 R.1 in omega (arith, two_but_first (num_at 2 0 a) (drop 2 a) R.0 T.texts, length-drop 2 a, T.most)
-
-  pub first_stands : Stands a 0 2
-  first_stands =
-      let T = table a R.0 R.1 in
-      let c : num_at 2 0 a - 0 ≡ num_at 2 0 a = omega arith in
-      record {
-        all = R.0;
-        left = R.0;
-        before = none;
-        whole = R.1;
-        read = ap (λ (k : ℕ). read_texts in_table none k (drop 2 a)) c ∙ T.texts;
-        same = λ n. let z : n ≡ 0 + n = omega arith in ap (nth R.0) z;
-      }
-
-nth_first : (t : List ℕ) (ts : List (List ℕ)) → nth (t ∷ ts) 0 ≡ some t
-unfolding nth
-nth_first t ts = refl
-
-pub nth_next : (t : List ℕ) (ts : List (List ℕ)) (n : ℕ) → nth (t ∷ ts) (suc n) ≡ nth ts n
-unfolding nth
-nth_next t ts n = refl
-
-module _ {a : List ℕ} {i at : ℕ} (Q : Stands a i at) (h : i < num_at 2 0 a) where
-  abbrev A : TextAt in_table (num_at 2 0 a - (i + 1)) at a Q.left
-  A = text_there in_table Q.before (num_at 2 0 a - (i + 1)) at a Q.left (ap (λ (z : ℕ). read_texts in_table Q.before z (drop at a)) (sym (step i (num_at 2 0 a) h)) ∙ Q.read)
-
-  pub stands_fits : (at + 1 + get_or a at 0 ≤ length a) × (length a ≤ most_bytes)
-  stands_fits = (A.fits, (table a Q.all Q.whole).most)
-
-  module _ (n : ℕ) (e : n ≡ get_or a at 0) where
-    pub next_stands : Stands a (i + 1) (at + 1 + n)
-    next_stands =
-        record {
-          all = Q.all;
-          left = A.more;
-          before = some (take (get_or a at 0) (drop (at + 1) a));
-          whole = Q.whole;
-          read = ap (λ (k : ℕ). read_texts in_table (some (take (get_or a at 0) (drop (at + 1) a))) (num_at 2 0 a - (i + 1)) (drop (at + 1 + k) a)) e ∙ A.second;
-          same = λ k.
-              let z : i + suc k ≡ i + 1 + k = omega arith in
-              sym (nth_next (take (get_or a at 0) (drop (at + 1) a)) A.more k)
-              ∙ ap (λ (ts : List (List ℕ)). nth ts (suc k)) (sym A.is)
-              ∙ Q.same (suc k)
-              ∙ ap (nth Q.all) z;
-        }
-
-    pub stands_found : Locates (read_table a) i a (span-is.At (at + 1) (at + 1 + n))
-    stands_found =
-        let z : i + 0 ≡ i = omega arith in
-        let k : at + 1 + n - (at + 1) ≡ get_or a at 0 = omega arith in
-        locates a i Q.all (span-is.At (at + 1) (at + 1 + n)) Q.whole
-        (record {
-          text = ap (λ (j : ℕ). some (take j (drop (at + 1) a))) k
-              ∙ sym (nth_first (take (get_or a at 0) (drop (at + 1) a)) A.more)
-              ∙ ap (λ (ts : List (List ℕ)). nth ts 0) (sym A.is)
-              ∙ Q.same 0
-              ∙ ap (nth Q.all) z;
-          inside = (omega arith, omega (arith, A.fits));
-        })
-
--- ---- the loop that marks the texts
-pub record MarkInv (a old marks : List ℕ) (count at i : ℕ) : Type 0 where
-  pub counted : count ≡ num_at 2 0 a
+-- the texts up to i are marked, `before` is the last of them, and `rest` is left
+pub record Marking (a old marks before rest : List ℕ) (left i : ℕ) : Type 0 where
+  pub texts : List (List ℕ)
+  pub same : read_table a ≡ optional (λ ts. texts ++ ts) (read_texts in_table (behind i before) left rest)
+  pub long : length texts ≡ i
+  pub marked : texts_of a (take i marks) ≡ texts
+  pub inside : (k : ℕ) → k < i → get_or marks k 0 + 1 + get_or a (get_or marks k 0) 0 ≤ length a
   pub kept : length marks ≡ length old
-  pub room : count ≤ length marks
-  pub below : i ≤ count
-  pub here : Stands a i at
-  pub stands : (j : ℕ) → j < i → Stands a j (get_or marks j 0)
+  pub short : length rest ≤ length a
+  pub here : drop (length a - length rest) a ≡ rest
 
-pub mark_start : (a marks : List ℕ) (count : ℕ) → Ok (read_table a) → num_at 2 0 a ≤ length marks → count ≡ num_at 2 0 a → MarkInv a marks marks count 2 0
-mark_start a marks count ok h e = record { counted = e; kept = refl; room = omega arith; below = omega arith; here = first_stands a ok; stands = λ j l. absurd (omega arith) }
+pub marking_starts : (a marks before : List ℕ) (n : ℕ) → length a ≤ most_bytes → 2 ≤ length a → n ≡ num_at 2 0 a → Marking a marks marks before (take (length a - 2) (drop 2 a)) (n - 0) 0
+marking_starts a marks before n h k e =
+    let z : n - 0 ≡ num_at 2 0 a = omega arith in
+    let y : length a - length (drop 2 a) ≡ 2 = omega (arith, length-drop 2 a) in
+    rw (rest a 2)
+    (record {
+      texts = [];
+      same = table_is a h k ∙ ap (λ (j : ℕ). read_texts in_table none j (drop 2 a)) (sym z) ∙ sym (all_left (read_texts in_table none (n - 0) (drop 2 a)));
+      long = refl;
+      marked = refl;
+      inside = λ j l. absurd (omega arith);
+      kept = refl;
+      short = omega (arith, length-drop 2 a);
+      here = ap (λ (j : ℕ). drop j a) y;
+    })
+  where
+    all_left : (o : Option (List (List ℕ))) → optional (λ ts. [] ++ ts) o ≡ o
+    all_left none = refl
+    all_left (some ts) = refl
 
-module _ {a old marks : List ℕ} {count at i : ℕ} (Q : MarkInv a old marks count at i) where
-  pub mark_fits : i < count → (at + 1 + get_or a at 0 ≤ length a) × (length a ≤ most_bytes)
-  mark_fits h = stands_fits Q.here (omega (arith, Q.counted))
+nothing : (o : Option (List (List ℕ))) (a marks : List ℕ) (r : Answer ℕ) → o ≡ none → r ≡ None → Reads o a marks r
+unfolding Reads
+nothing o a marks r e h = rw e h
 
-  pub mark_next : i < count → (n : ℕ) → n ≡ get_or a at 0 → MarkInv a old (set marks i at) count (at + 1 + n) (i + 1)
-  mark_next h n e =
-      record {
-        counted = Q.counted;
-        kept = length-set marks i at ∙ Q.kept;
-        room = omega (arith, Q.room, length-set marks i at);
-        below = omega arith;
-        here = next_stands Q.here (omega (arith, Q.counted)) n e;
-        stands = λ j l. go j l (ltb j i) refl;
-      }
+-- too few bytes, or too many
+pub no_table : (a marks : List ℕ) → (length a < 2) ⊎ ((2 ≤ length a) × (most_bytes < length a)) → (r : Answer ℕ) → r ≡ None → Reads (read_table a) a marks r
+unfolding read_table
+no_table [] marks h r e = nothing (read_table []) [] marks r refl e
+no_table (x ∷ []) marks h r e = nothing (read_table (x ∷ [])) (x ∷ []) marks r refl e
+no_table (x ∷ y ∷ a) marks (inl h) r e = absurd (omega arith)
+no_table (x ∷ y ∷ a) marks (inr h) r e =
+    nothing (read_table (x ∷ y ∷ a)) (x ∷ y ∷ a) marks r (ap (λ q. provided q (counted_texts (x ∷ y ∷ a))) (lt-leb (length (x ∷ y ∷ a)) most_bytes h.1)) e
+
+module _ {a old marks before rest : List ℕ} {left i : ℕ} (Q : Marking a old marks before rest left i) where
+  none_read : read_texts in_table (behind i before) left rest ≡ none → (r : Answer ℕ) → r ≡ None → Reads (read_table a) a marks r
+  none_read e r h = nothing (read_table a) a marks r (Q.same ∙ ap (optional (λ ts. Q.texts ++ ts)) e) h
+
+  pub marking_none : 0 < left → split_text rest ≡ none → (r : Answer ℕ) → r ≡ None → Reads (read_table a) a marks r
+  marking_none h e =
+      let z : left ≡ suc (left - 1) = omega arith in
+      none_read (ap (λ (k : ℕ). read_texts in_table (behind i before) k rest) z ∙ split_none in_table (behind i before) (left - 1) rest e)
+
+  module _ (t b : List ℕ) (e : split_text rest ≡ some (t, b)) (q : Bool) (eq : q ≡ in_table (behind i before) t) where
+    next_read : (c : ℕ) → left ≡ suc c → read_texts in_table (behind i before) left rest ≡ provided q (optional (λ ts. t ∷ ts) (read_texts in_table (some t) c b))
+    next_read c z = ap (λ (k : ℕ). read_texts in_table (behind i before) k rest) z ∙ split_some in_table (behind i before) c rest t b e
+        ∙ ap (λ p. provided p (optional (λ ts. t ∷ ts) (read_texts in_table (some t) c b))) (sym eq)
+
+    pub marking_bad : 0 < left → q ≡ false → (r : Answer ℕ) → r ≡ None → Reads (read_table a) a marks r
+    marking_bad h f = none_read (next_read (left - 1) (omega arith) ∙ ap (λ p. provided p (optional (λ ts. t ∷ ts) (read_texts in_table (some t) (left - 1) b))) f)
+
+    pub marking_next : (c : ℕ) → left ≡ suc c → q ≡ true → i < length marks → (at : ℕ) → at ≡ length a - length rest → Marking a old (set marks i at) t b c (i + 1)
+    marking_next c z f r at p =
+        let F = found a at rest t b (ap (λ (k : ℕ). drop k a) p ∙ Q.here) e in
+        let l = split_length rest t b e in
+        let y : length a - length b ≡ at + 1 + length t = omega (arith, Q.short) in
+        record {
+          texts = Q.texts ++ (t ∷ []);
+          same = Q.same ∙ ap (optional (λ ts. Q.texts ++ ts)) (next_read c z ∙ ap (λ w. provided w (optional (λ ts. t ∷ ts) (read_texts in_table (some t) c b))) f)
+              ∙ one_more Q.texts t (read_texts in_table (some t) c b)
+              ∙ ap (λ o. optional (λ ts. (Q.texts ++ (t ∷ [])) ++ ts) (read_texts in_table o c b)) (sym (behind_next i t));
+          long = omega (arith, length-append Q.texts (t ∷ []), Q.long);
+          marked = ap (λ (k : ℕ). texts_of a (take k (set marks i at))) (add-one i) ∙ ap (texts_of a) (take-suc-set marks i at r)
+              ∙ map-append (text_from a) (take i marks) (at ∷ []) ∙ ap₂ (λ xs x. xs ++ (x ∷ [])) Q.marked F.is;
+          inside = λ k h. go k h (ltb k i) refl;
+          kept = length-set marks i at ∙ Q.kept;
+          short = omega (arith, Q.short);
+          here = ap (λ (k : ℕ). drop k a) y ∙ F.next;
+        }
+      where
+        go : (k : ℕ) → k < i + 1 → (w : Bool) → ltb k i ≡ w → get_or (set marks i at) k 0 + 1 + get_or a (get_or (set marks i at) k 0) 0 ≤ length a
+        go k h true w =
+            let less = ltb-true k i w in
+            subst (λ (j : ℕ). j + 1 + get_or a j 0 ≤ length a) (sym (get_or-set_other marks i k at 0 (λ x. omega arith))) (Q.inside k less)
+        go k h false w =
+            let same : i ≡ k = omega (arith, ltb-false k i w) in
+            let F = found a at rest t b (ap (λ (k : ℕ). drop k a) p ∙ Q.here) e in
+            subst (λ (n : ℕ). get_or (set marks i at) n 0 + 1 + get_or a (get_or (set marks i at) n 0) 0 ≤ length a) same
+            (subst (λ (j : ℕ). j + 1 + get_or a j 0 ≤ length a) (sym (get_or-set_same marks i at 0 r)) F.fits)
+
+  ended : left ≡ 0 → read_table a ≡ optional (λ ts. Q.texts ++ ts) (at_end rest)
+  ended z = Q.same ∙ ap (λ (k : ℕ). optional (λ ts. Q.texts ++ ts) (read_texts in_table (behind i before) k rest)) z ∙ ap (optional (λ ts. Q.texts ++ ts)) (read_zero in_table (behind i before) rest)
+
+  pub marking_over : left ≡ 0 → (length rest ≡ 0 → ⊥) → (r : Answer ℕ) → r ≡ None → Reads (read_table a) a marks r
+  marking_over z d r h = nothing (read_table a) a marks r (ended z ∙ go rest d) h
     where
-      go : (j : ℕ) → j < i + 1 → (q : Bool) → ltb j i ≡ q → Stands a j (get_or (set marks i at) j 0)
-      go j l true p =
-          let k : j < i = ltb-true j i p in
-          subst (λ (z : ℕ). Stands a j z) (sym (get_or-set_other marks i j at 0 (λ x. omega arith))) (Q.stands j k)
-      go j l false p =
-          let k : i ≡ j = omega (arith, ltb-false j i p) in
-          let r : i < length marks = omega (arith, Q.room) in
-          subst (λ (z : ℕ). Stands a z (get_or (set marks i at) z 0)) k (subst (λ (z : ℕ). Stands a i z) (sym (get_or-set_same marks i at 0 r)) Q.here)
+      go : (s : List ℕ) → (length s ≡ 0 → ⊥) → optional (λ ts. Q.texts ++ ts) (at_end s) ≡ none
+      go [] d = absurd (d refl)
+      go (b ∷ s) d = refl
 
-  pub mark_done : count ≤ i → Marked a marks
-  mark_done h = record { room = omega (arith, Q.counted, Q.room); stands = λ j l. Q.stands j (omega (arith, Q.counted)) }
+  pub marking_ended : left ≡ 0 → length rest ≡ 0 → i ≤ length marks → length a ≤ most_bytes → (r : Answer ℕ) → r ≡ Some i → Reads (read_table a) a marks r
+  unfolding Reads
+  marking_ended z d l m r h =
+      rw (ended z ∙ go rest d)
+      (rw (append-nil Q.texts, Q.long) (
+        h,
+        l,
+        Q.marked,
+        record {
+          short = m;
+          inside = λ k g. let y : k < i = omega (arith, length-take i marks) in subst (λ (j : ℕ). j + 1 + get_or a j 0 ≤ length a) (sym (get_or-take i marks k 0 y)) (Q.inside k y);
+        },
+      ))
+    where
+      go : (s : List ℕ) → length s ≡ 0 → optional (λ ts. Q.texts ++ ts) (at_end s) ≡ some (Q.texts ++ [])
+      go [] d = refl
+      go (b ∷ s) d = absurd (omega arith)
 
--- ---- the text at a mark
-module _ {a marks : List ℕ} (M : Marked a marks) (number count at : ℕ) (ec : count ≡ num_at 2 0 a) (h : number < count) (ea : at ≡ get_or marks number 0) where
-  at_mark : Stands a number at
-  at_mark = subst (λ (z : ℕ). Stands a number z) (sym ea) (M.stands number (omega arith))
+-- ---- more texts than a table can have
+pub too_many : (a marks : List ℕ) (n : ℕ) → length a ≤ most_bytes → 2 ≤ length a → n ≡ num_at 2 0 a → min (num_at 2 0 a) 8192 ≤ length marks → length marks < n → (r : Answer ℕ) → r ≡ None
+    → Reads (read_table a) a marks r
+too_many a marks n h k e w l r z = nothing (read_table a) a marks r (go (read_table a) refl) z
+  where
+    go : (o : Option (List (List ℕ))) → read_table a ≡ o → o ≡ none
+    go none p = refl
+    go (some ts) p = absurd (omega (arith, two_but_first (num_at 2 0 a) (drop 2 a) ts (sym (table_is a h k) ∙ p), length-drop 2 a))
 
-  pub text_fits : (at + 1 + get_or a at 0 ≤ length a) × (length a ≤ most_bytes)
-  text_fits = stands_fits at_mark (omega arith)
+-- ---- what was read
+pub record Marked (o : Option (List (List ℕ))) (a marks : List ℕ) (n : ℕ) : Type 0 where
+  pub long : n ≤ length marks
+  pub is : o ≡ some (texts_of a (take n marks))
+  pub good : Marks a (take n marks)
 
-  pub text_found : (n : ℕ) → n ≡ get_or a at 0 → Locates (read_table a) number a (span-is.At (at + 1) (at + 1 + n))
-  text_found n e = stands_found at_mark (omega arith) n e
+module _ (o : Option (List (List ℕ))) (a marks : List ℕ) (r : Answer ℕ) (R : Reads o a marks r) where
+  pub reads_none : r ≡ None → o ≡ none
+  unfolding Reads
+  reads_none e = go o R
+    where
+      go : (o : Option (List (List ℕ))) → Reads o a marks r → o ≡ none
+      go none h = refl
+      go (some ts) h = absurd (none-some (length ts) (sym e ∙ h.0))
 
--- room for m marks
-pub room_for : (count n m l : ℕ) → count ≡ n → count ≤ m → l ≡ m → n ≤ l
-room_for count n m l e h k = omega arith
+  pub reads_some : (n : ℕ) → r ≡ Some n → Marked o a marks n
+  unfolding Reads
+  reads_some n e = go o R
+    where
+      go : (o : Option (List (List ℕ))) → Reads o a marks r → Marked o a marks n
+      go none h = absurd (none-some n (sym h ∙ e))
+      go (some ts) h =
+          let k : length ts ≡ n = same_Some (length ts) n (sym h.0 ∙ e) in
+          record { long = omega (arith, h.1); is = ap some (sym h.2 ∙ ap (λ (j : ℕ). texts_of a (take j marks)) k); good = subst (λ (j : ℕ). Marks a (take j marks)) k h.3 }

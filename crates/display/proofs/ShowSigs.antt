@@ -1,184 +1,137 @@
 -- The loop that shows the parameters of a function type, and then its result: what is left of them, and what was written of their text.
 -- Idea: what was written and the text of what is left make the whole text.
--- Index: `SigInv`, `sig_start`; `param_there`, `param_missing`, `param_ends`, `param_next` (a parameter); `result_there`, `result_missing`, `result_ends`, `sig_done` (the result).
+-- Index: `SigInv`, `sig_start`; `param_there`, `param_missing`, `gap_fits`, `param_fits`, `param_next` (a parameter); `result_there`, `result_missing`, `result_fits`, `sig_done` (the result).
 -- Assumes nothing.
-use Prim.Native.Nat.{ℕ, ◌+◌, ◌-◌, ◌*◌, ◌<◌, ◌≤◌, min}
-use mathlib.Core.Path.{◌≡◌, refl, sym, ap, ◌∙◌}
+use Prim.Native.Nat.{ℕ, ◌+◌, ◌-◌, ◌*◌, ◌<◌, ◌≤◌}
+use mathlib.Core.Path.{◌≡◌, sym, ap, ◌∙◌}
 use mathlib.Core.Option.{none, some}
 use mathlib.Core.List.{List, [], ◌++◌}
 use native.Mathlib.Omega.{arith}
 use lib.ListN.{length, drop, length-append}
-use borrow.Rule.Slice.PartMut.{put_mid}
+use Rattle.std.specs.Prelude.{Option as Answer, None, Some}
 use Rattle.form.specs.Limits.{most_bytes}
+use Rattle.form.proofs.Runs.{behind}
 use Rattle.types.specs.At.{type_at, sig_at, Sig, size_sig, Ok}
 use Rattle.types.proofs.Reading.{is_ok, ok_got}
-use Rattle.output.proofs.FillLaws.{length_fill, fill_then, put_then}
-use Rattle.names.proofs.Pieces.{fill_none}
-use Rattle.display.specs.declared.Shown.{Shown}
-use Rattle.display.specs.declared.Shown.TheVariants.{Yes, No}
-use Rattle.display.specs.Texts.{arrow, text_sig}
-use Rattle.display.specs.Tables.{read_table}
-use Rattle.display.specs.Writing.{gap, Gave, Shows, of_types, of_sigs}
-use Rattle.display.proofs.ShowPieces.{gap_length}
-use Rattle.display.proofs.Texts.{after, sig_from, sig_all, no_param, one_param, no_result, one_result, text_most}
-use Rattle.display.proofs.Marks.{table_named}
-use Rattle.display.proofs.ShowContract.{shows, shows_is, gave_some, gave_none, Got, gave_yes, gave_no, gave_length}
 use Rattle.types.proofs.ChildAt.{item_behind}
 use Rattle.types.proofs.Signatures.{Param, param_at, Last, last}
-use Rattle.output.specs.Output.{fill, puts}
-use Rattle.output.proofs.OntoLaws.{back_length}
-use Rattle.form.proofs.Runs.{behind}
+use Rattle.output.specs.Output.{puts}
+use Rattle.names.proofs.Pieces.{put_none, put_twice}
+use Rattle.display.specs.declared.Shown.{Shown}
+use Rattle.display.specs.Texts.{arrow, text_sig}
+use Rattle.display.specs.Writing.{gap, Shows, of_types, of_sigs}
+use Rattle.display.proofs.ShowPieces.{gap_length}
+use Rattle.display.proofs.Texts.{after, sig_from, sig_all, no_param, one_param, no_result, one_result}
+use Rattle.display.proofs.ShowContract.{shows_none, shows_some, shown_none, Got, shown_some}
 
-pub record SigInv (l : ℕ) (s : List ℕ) (count : ℕ) (tab old out : List ℕ) (at to i : ℕ) : Type 0 where
+pub record SigInv (l : ℕ) (s : List ℕ) (count : ℕ) (ts : List (List ℕ)) (at : ℕ) (old out : List ℕ) (read to i : ℕ) : Type 0 where
   pub all : Sig
   -- what is left
   pub f : Sig
-  pub ts : List (List ℕ)
   -- what was written
   pub done : List ℕ
   pub whole : sig_at l count s ≡ some all
-  pub tabled : read_table tab ≡ some ts
-  pub short : length s ≤ most_bytes
-  pub below : i ≤ count
-  pub in_s : at ≤ length s
-  pub low : to ≤ most_bytes * at
-  pub read : sig_at l (count - i) (drop at s) ≡ some f
-  pub sizes : at + size_sig f ≡ size_sig all
+  pub in_s : read ≤ length s
+  pub low : to ≤ at + most_bytes * read
+  pub left : sig_at l (count - i) (drop read s) ≡ some f
+  pub sizes : read + size_sig f ≡ size_sig all
   pub goes : after done (sig_from i ts f) ≡ text_sig ts all
-  pub long : length done ≡ to
-  pub state : out ≡ fill done old
+  pub ends : to ≡ at + length done
+  pub state : out ≡ puts at done old
 
-pub sig_start : (l : ℕ) (s : List ℕ) (count : ℕ) (tab old : List ℕ) → length s ≤ most_bytes → Ok (sig_at l count s) → Ok (read_table tab) → SigInv l s count tab old old 0 0 0
-sig_start l s count tab old h p q = go (ok_got (sig_at l count s) p) (ok_got (read_table tab) q)
-  where
-    go : (x : Sig) × (sig_at l count s ≡ some x) → (ts : List (List ℕ)) × (read_table tab ≡ some ts) → SigInv l s count tab old old 0 0 0
-    go x y =
-        let en : count - 0 ≡ count = omega arith in
-        record {
-          all = x.0;
-          f = x.0;
-          ts = y.0;
-          done = [];
-          whole = x.1;
-          tabled = y.1;
-          short = h;
-          below = omega arith;
-          in_s = omega arith;
-          low = omega arith;
-          read = ap (λ (z : ℕ). sig_at l z s) en ∙ x.1;
-          sizes = omega arith;
-          goes = sig_all y.0 x.0;
-          long = refl;
-          state = fill_none old;
-        }
+pub sig_start : (l : ℕ) (s : List ℕ) (count : ℕ) (ts : List (List ℕ)) (at : ℕ) (old : List ℕ) → Ok (sig_at l count s) → SigInv l s count ts at old old 0 at 0
+sig_start l s count ts at old p =
+    let F = ok_got (sig_at l count s) p in
+    let en : count - 0 ≡ count = omega arith in
+    record {
+      all = F.0;
+      f = F.0;
+      done = [];
+      whole = F.1;
+      in_s = omega arith;
+      low = omega arith;
+      left = ap (λ (z : ℕ). sig_at l z s) en ∙ F.1;
+      sizes = omega arith;
+      goes = sig_all ts F.0;
+      ends = omega arith;
+      state = sym (put_none at old);
+    }
 
-module _ {l : ℕ} {s : List ℕ} {count : ℕ} {tab old out : List ℕ} {at to i : ℕ} (Q : SigInv l s count tab old out at to i) where
+module _ {l : ℕ} {s : List ℕ} {count : ℕ} {ts : List (List ℕ)} {at : ℕ} {old out : List ℕ} {read to i : ℕ} (Q : SigInv l s count ts at old out read to i) where
   -- a name that is missing
-  failed : (new : List ℕ) → sig_from i Q.ts Q.f ≡ none → length new ≡ length old → Shows of_sigs (sig_at l count s) (read_table tab) old new No
-  failed new e h =
-      shows of_sigs (sig_at l count s) (read_table tab) Q.all Q.ts old new No Q.whole Q.tabled
-      (gave_none of_sigs Q.ts Q.all old new (sym Q.goes ∙ ap (after Q.done) e) h)
+  failed : sig_from i ts Q.f ≡ none → (new : List ℕ) (r : Answer Shown) → r ≡ None → Shows of_sigs ts (sig_at l count s) at old new r
+  failed e new r h = shows_none of_sigs ts (sig_at l count s) Q.all Q.whole at old new r (sym Q.goes ∙ ap (after Q.done) e) h
 
   -- ---- a parameter, behind its gap
   module _ (h : i < count) where
-    abbrev N : Param l (count - (i + 1)) at s Q.f
-    N = param_at l i count at s Q.f h Q.in_s Q.read
+    abbrev N : Param l (count - (i + 1)) read s Q.f
+    N = param_at l i count read s Q.f h Q.in_s Q.left
 
-    pub param_there : Ok (type_at l (behind at s))
-    param_there = is_ok (type_at l (behind at s)) N.x (item_behind N)
+    pub param_there : Ok (type_at l (behind read s))
+    param_there = is_ok (type_at l (behind read s)) N.x (item_behind N)
 
     module _ (k : ℕ) (one : List ℕ) (ek : k ≡ to + length (gap i)) (eo : one ≡ puts to (gap i) out) where
-      one_is : one ≡ fill (Q.done ++ gap i) old
-      one_is = put_then Q.done (gap i) old out one to Q.state Q.long eo
+      pub gap_fits : k ≤ at + most_bytes * read + 2
+      gap_fits = omega (arith, Q.low, gap_length i)
 
-      module _ (p : ℕ) (ys : List ℕ) (x : Shown) (T : Shows of_types (type_at l (behind at s)) (read_table tab) (behind p one) ys x) where
-        gave : Gave of_types Q.ts N.x (behind p one) ys x
-        gave = shows_is of_types (type_at l (behind at s)) (read_table tab) N.x Q.ts (behind p one) ys x (item_behind N) Q.tabled T
+      parted : one ≡ puts at (Q.done ++ gap i) old
+      parted = eo ∙ ap (puts to (gap i)) Q.state ∙ put_twice to at Q.done (gap i) old Q.ends
 
-        pub param_kept : length (put_mid p (length one - p) one ys) ≡ length old
-        param_kept = back_length p one ys (gave_length of_types Q.ts N.x (behind p one) ys x gave) ∙ ap length one_is ∙ length_fill (Q.done ++ gap i) old
+      module _ (ys : List ℕ) (x : Answer Shown) (T : Shows of_types ts (type_at l (behind read s)) k one ys x) where
+        pub param_missing : x ≡ None → (new : List ℕ) (r : Answer Shown) → r ≡ None → Shows of_sigs ts (sig_at l count s) at old new r
+        param_missing ex = failed (ap (sig_from i ts) N.is ∙ no_param i ts N.x N.more (shown_none of_types ts (type_at l (behind read s)) N.x (item_behind N) k one ys x T ex))
 
-        pub param_missing : x ≡ No → Shows of_sigs (sig_at l count s) (read_table tab) old (put_mid p (length one - p) one ys) No
-        param_missing ex =
-            failed (put_mid p (length one - p) one ys)
-            (ap (sig_from i Q.ts) N.is ∙ no_param i Q.ts N.x N.more (gave_no of_types Q.ts N.x (behind p one) ys x gave ex))
-            param_kept
+        module _ (q : Shown) (ex : x ≡ Some q) where
+          G : Got of_types ts N.x k one ys q
+          G = shown_some of_types ts (type_at l (behind read s)) N.x (item_behind N) k one ys x T q ex
 
-        module _ (a c : ℕ) (ex : x ≡ Yes a c) where
-          G : Got of_types Q.ts N.x (behind p one) ys a c
-          G = gave_yes of_types Q.ts N.x (behind p one) ys x gave a c ex
+          pub param_fits : read + q.read ≤ length s
+          param_fits = omega (arith, G.size, N.fits)
 
-          most : c + 2 ≤ most_bytes * a
-          most = omega (arith, G.size, G.long, text_most Q.ts (table_named tab Q.ts Q.tabled) N.x G.bs G.is)
-
-          pub param_ends : (at + a ≤ length s) × (k + c ≤ most_bytes * (at + a))
-          param_ends = (omega (arith, G.size, N.fits), omega (arith, most, gap_length i, Q.low))
-
-          pub param_next : p ≡ min k (length one) → SigInv l s count tab old (put_mid p (length one - p) one ys) (at + a) (k + c) (i + 1)
-          param_next ep =
-              let kl : length (Q.done ++ gap i) ≡ k = omega (arith, length-append Q.done (gap i), Q.long) in
+          pub param_next : q.to + 2 ≤ k + most_bytes * q.read → SigInv l s count ts at old ys (read + q.read) q.to (i + 1)
+          param_next b =
+              let kl : k ≡ at + length (Q.done ++ gap i) = omega (arith, length-append Q.done (gap i), Q.ends) in
               record {
                 all = Q.all;
                 f = N.more;
-                ts = Q.ts;
                 done = (Q.done ++ gap i) ++ G.bs;
                 whole = Q.whole;
-                tabled = Q.tabled;
-                short = Q.short;
-                below = omega arith;
-                in_s = param_ends.0;
-                low = param_ends.1;
-                read = ap (λ (z : ℕ). sig_at l (count - (i + 1)) (drop (at + z) s)) G.size ∙ N.second;
+                in_s = param_fits;
+                low = omega (arith, gap_fits);
+                left = ap (λ (z : ℕ). sig_at l (count - (i + 1)) (drop (read + z) s)) G.size ∙ N.second;
                 sizes = omega (arith, Q.sizes, N.sized, G.size);
-                goes =
-                    sym (ap (λ (z : Sig). after Q.done (sig_from i Q.ts z)) N.is ∙ one_param i Q.done Q.ts N.x N.more G.bs G.is)
-                    ∙ Q.goes;
-                long = omega (arith, length-append (Q.done ++ gap i) G.bs, kl, G.long);
-                state = fill_then (Q.done ++ gap i) G.bs old one ys k p one_is kl ep G.out;
+                goes = sym (ap (λ (z : Sig). after Q.done (sig_from i ts z)) N.is ∙ one_param i Q.done ts N.x N.more G.bs G.is) ∙ Q.goes;
+                ends = omega (arith, length-append (Q.done ++ gap i) G.bs, kl, G.ends);
+                state = G.out ∙ ap (puts k G.bs) parted ∙ put_twice k at (Q.done ++ gap i) G.bs old kl;
               }
 
   -- ---- the result, behind the arrow
   module _ (h : count ≤ i) where
-    abbrev Z : Last l at s Q.f
-    Z = last l i count at s Q.f h Q.in_s Q.read
+    abbrev Z : Last l read s Q.f
+    Z = last l i count read s Q.f h Q.in_s Q.left
 
-    pub result_there : Ok (type_at l (behind at s))
-    result_there = is_ok (type_at l (behind at s)) Z.t Z.first
+    pub result_there : Ok (type_at l (behind read s))
+    result_there = is_ok (type_at l (behind read s)) Z.t Z.first
 
     module _ (k : ℕ) (one : List ℕ) (ek : k ≡ to + length arrow) (eo : one ≡ puts to arrow out) where
-      arrow_is : one ≡ fill (Q.done ++ arrow) old
-      arrow_is = put_then Q.done arrow old out one to Q.state Q.long eo
+      pointed : one ≡ puts at (Q.done ++ arrow) old
+      pointed = eo ∙ ap (puts to arrow) Q.state ∙ put_twice to at Q.done arrow old Q.ends
 
-      module _ (p : ℕ) (ys : List ℕ) (x : Shown) (T : Shows of_types (type_at l (behind at s)) (read_table tab) (behind p one) ys x) where
-        told : Gave of_types Q.ts Z.t (behind p one) ys x
-        told = shows_is of_types (type_at l (behind at s)) (read_table tab) Z.t Q.ts (behind p one) ys x Z.first Q.tabled T
+      module _ (ys : List ℕ) (x : Answer Shown) (T : Shows of_types ts (type_at l (behind read s)) k one ys x) where
+        pub result_missing : x ≡ None → (new : List ℕ) (r : Answer Shown) → r ≡ None → Shows of_sigs ts (sig_at l count s) at old new r
+        result_missing ex = failed (ap (sig_from i ts) Z.is ∙ no_result i ts Z.t (shown_none of_types ts (type_at l (behind read s)) Z.t Z.first k one ys x T ex))
 
-        pub result_kept : length (put_mid p (length one - p) one ys) ≡ length old
-        result_kept = back_length p one ys (gave_length of_types Q.ts Z.t (behind p one) ys x told) ∙ ap length arrow_is ∙ length_fill (Q.done ++ arrow) old
+        module _ (q : Shown) (ex : x ≡ Some q) where
+          H : Got of_types ts Z.t k one ys q
+          H = shown_some of_types ts (type_at l (behind read s)) Z.t Z.first k one ys x T q ex
 
-        pub result_missing : x ≡ No → Shows of_sigs (sig_at l count s) (read_table tab) old (put_mid p (length one - p) one ys) No
-        result_missing ex =
-            failed (put_mid p (length one - p) one ys)
-            (ap (sig_from i Q.ts) Z.is ∙ no_result i Q.ts Z.t (gave_no of_types Q.ts Z.t (behind p one) ys x told ex))
-            result_kept
+          pub result_fits : read + q.read ≤ length s
+          result_fits = omega (arith, H.size, Z.fits)
 
-        module _ (a c : ℕ) (ex : x ≡ Yes a c) where
-          H : Got of_types Q.ts Z.t (behind p one) ys a c
-          H = gave_yes of_types Q.ts Z.t (behind p one) ys x told a c ex
-
-          pub result_ends : (at + a ≤ length s) × (k + c ≤ most_bytes * (at + a) + 1)
-          result_ends = (
-            omega (arith, H.size, Z.fits),
-            omega (arith, H.size, H.long, text_most Q.ts (table_named tab Q.ts Q.tabled) Z.t H.bs H.is, Q.low),
-          )
-
-          pub sig_done : p ≡ min k (length one) → Shows of_sigs (sig_at l count s) (read_table tab) old (put_mid p (length one - p) one ys) (Yes (at + a) (k + c))
-          sig_done ep =
-              let kl : length (Q.done ++ arrow) ≡ k = omega (arith, length-append Q.done arrow, Q.long) in
-              let new = put_mid p (length one - p) one ys in
-              shows of_sigs (sig_at l count s) (read_table tab) Q.all Q.ts old new (Yes (at + a) (k + c)) Q.whole Q.tabled
-              (gave_some of_sigs Q.ts Q.all old new ((Q.done ++ arrow) ++ H.bs) (at + a) (k + c)
-              (sym Q.goes ∙ ap (λ (z : Sig). after Q.done (sig_from i Q.ts z)) Z.is ∙ one_result i Q.done Q.ts Z.t H.bs H.is)
-              (omega (arith, Q.sizes, Z.sized, H.size))
-              (omega (arith, length-append (Q.done ++ arrow) H.bs, kl, H.long))
-              (fill_then (Q.done ++ arrow) H.bs old one ys k p arrow_is kl ep H.out))
+          pub sig_done : (r : Answer Shown) → r ≡ Some (record { read = read + q.read; to = q.to }) → Shows of_sigs ts (sig_at l count s) at old ys r
+          sig_done r er =
+              let kl : k ≡ at + length (Q.done ++ arrow) = omega (arith, length-append Q.done arrow, Q.ends) in
+              shows_some of_sigs ts (sig_at l count s) Q.all Q.whole at old ys r ((Q.done ++ arrow) ++ H.bs)
+              (sym Q.goes ∙ ap (λ (z : Sig). after Q.done (sig_from i ts z)) Z.is ∙ one_result i Q.done ts Z.t H.bs H.is) (record { read = read + q.read; to = q.to }) er
+              (omega (arith, Q.sizes, Z.sized, H.size)) (omega (arith, length-append (Q.done ++ arrow) H.bs, kl, H.ends))
+              (H.out ∙ ap (puts k H.bs) pointed ∙ put_twice k at (Q.done ++ arrow) H.bs old kl)

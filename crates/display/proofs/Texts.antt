@@ -184,7 +184,7 @@ abbrev Shorts : ℕ → Option (List (List ℕ)) → Type 0
 Shorts n none = Unit {0}
 Shorts n (some xs) = length (commas xs) ≤ n
 
-leaf_short : (x : Simple) → length (name_of x) ≤ 25
+pub leaf_short : (x : Simple) → length (name_of x) ≤ 25
 leaf_short any = omega arith
 leaf_short boolean = omega arith
 leaf_short number = omega arith

@@ -24,13 +24,20 @@ use Rattle.names.specs.BuiltInNames.{name_of}
 use Rattle.names.specs.Reader.{read_texts}
 use Rattle.names.proofs.Reader.{provided_got, end_none, read_zero, read_nil, texts_got}
 use Rattle.display.specs.Texts.{nth, join, text, text_built, texts_of_fields, texts_of_tys}
-use Rattle.display.specs.Tables.{printable, tidy, less_text, in_table, counted_texts, read_table}
+use Rattle.display.specs.Tables.{tidy, less_text, in_table, counted_texts, read_table}
 use Rattle.display.specs.Calls.{display_call}
-use Rattle.display.proofs.Tables.{less_nil, less_begin}
 use Rattle.display.proofs.Texts.{text_leaf}
-use Rattle.display.proofs.Marks.{nth_next}
 
 -- ---- the order of texts
+less_nil : (s : List ℕ) → less_text s [] ≡ false
+unfolding less_text
+less_nil [] = refl
+less_nil (a ∷ s) = refl
+
+less_begin : (b : ℕ) (t : List ℕ) → less_text [] (b ∷ t) ≡ true
+unfolding less_text
+less_begin b t = refl
+
 less_empty : (s : List ℕ) → less_text s [] ≡ true → ⊥
 less_empty s e = false≢true (sym (less_nil s) ∙ e)
 
@@ -73,6 +80,10 @@ nth_none n b e = none_some e
 nth_first : (t b : List ℕ) (ts : List (List ℕ)) → nth (t ∷ ts) 0 ≡ some b → t ≡ b
 unfolding nth
 nth_first t b ts e = some_same e
+
+nth_next : (t : List ℕ) (ts : List (List ℕ)) (n : ℕ) → nth (t ∷ ts) (suc n) ≡ nth ts n
+unfolding nth
+nth_next t ts n = refl
 
 none_left : (before : Option (List ℕ)) (s : List ℕ) (ts : List (List ℕ)) (n : ℕ) (b : List ℕ) → read_texts in_table before 0 s ≡ some ts → nth ts n ≡ some b → ⊥
 none_left before s ts n b e p = nth_none n b (sym (ap (λ x. nth x n) (end_none s ts (sym (read_zero in_table before s) ∙ e))) ∙ p)
@@ -160,7 +171,7 @@ two_texts = 0x02 ∷ 0x00 ∷ 0x04 ∷ 0x3E ∷ 0x2C ∷ 0x20 ∷ 0x61 ∷ 0x01 
 -- "context<: Any, a: Any>"
 small_types : OneText two_entries one_entry three_texts
 unfolding num kind_of front and_then or_else operand read_run named read_named counted read_function step_type step_t read_t number_of all read_whole ◌>>=◌ ◌>>◌ nth join text
-    text_built texts_of_fields texts_of_tys printable less_text read_texts read_table display_call
+    text_built texts_of_fields texts_of_tys less_text read_texts read_table display_call
 small_types = record {
   said = 0x63 ∷ 0x6F ∷ 0x6E ∷ 0x74 ∷ 0x65 ∷ 0x78 ∷ 0x74 ∷ 0x3C ∷ 0x3A ∷ 0x20 ∷ 0x41 ∷ 0x6E ∷ 0x79 ∷ 0x2C ∷ 0x20 ∷ 0x61 ∷ 0x3A ∷ 0x20 ∷ 0x41 ∷ 0x6E ∷ 0x79 ∷ 0x3E ∷ [];
   first = refl;
@@ -171,7 +182,7 @@ small_types = record {
 -- "context<>, a: context<>, a: context<>, a: Any>>"
 small_table : OneText second_inside both_inside two_texts
 unfolding num kind_of front and_then or_else operand read_run named read_named counted read_function step_type step_t read_t number_of all read_whole ◌>>=◌ ◌>>◌ nth join text
-    text_built texts_of_fields texts_of_tys printable less_text read_texts read_table display_call
+    text_built texts_of_fields texts_of_tys less_text read_texts read_table display_call
 small_table = record {
   said = 0x63 ∷ 0x6F ∷ 0x6E ∷ 0x74 ∷ 0x65 ∷ 0x78 ∷ 0x74 ∷ 0x3C ∷ 0x3E ∷ 0x2C ∷ 0x20 ∷
       0x61 ∷ 0x3A ∷ 0x20 ∷ 0x63 ∷ 0x6F ∷ 0x6E ∷ 0x74 ∷ 0x65 ∷ 0x78 ∷ 0x74 ∷ 0x3C ∷ 0x3E ∷ 0x2C ∷ 0x20 ∷ 0x61 ∷ 0x3A ∷ 0x20 ∷

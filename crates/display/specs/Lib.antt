@@ -1,4 +1,5 @@
 pub mod Texts
 pub mod Tables
+pub mod Marks
 pub mod Writing
 pub mod Calls

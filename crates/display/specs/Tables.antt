@@ -1,15 +1,15 @@
 -- The table of texts: a 16-bit count, then each text behind its length byte, strictly ascending.
 -- Assumes nothing.
-use Rattle.std.specs.Prelude.{ℕ, ◌+◌, ◌*◌, Bool, true, false, cond, not, ◌&&◌, List, [], ◌∷◌, length, leb, ltb, eqb}
+use Rattle.std.specs.Prelude.{ℕ, zero, suc, ◌+◌, ◌*◌, Bool, true, false, cond, not, ◌&&◌, List, [], ◌∷◌, length, leb, ltb, eqb}
+use Rattle.std.specs.List.{list_all}
 use Rattle.std.proofs.Math.Option.{Option, none, some}
 use Rattle.form.specs.Limits.{most_bytes}
 use Rattle.names.specs.Reader.{first, last, Rule, provided, read_texts}
 
 -- ---- the rules of a text
 -- bytes 20 to 7E
-unfoldable pub printable : List ℕ → Bool
-printable [] = true
-printable (b ∷ s) = (leb 0x20 b && leb b 0x7E) && printable s
+abbrev pub printable : List ℕ → Bool
+printable s = list_all (λ b. leb 0x20 b && leb b 0x7E) s
 
 -- a text of a table: bytes 20 to 7E, neither first nor last 20
 abbrev pub tidy : List ℕ → Bool
@@ -26,6 +26,11 @@ less_text (a ∷ s) (b ∷ t) = cond (eqb a b) (less_text s t) (ltb a b)
 abbrev pub above : Option (List ℕ) → List ℕ → Bool
 above none t = true
 above (some s) t = less_text s t
+
+-- the one before text i, which the first does not have
+abbrev pub behind : ℕ → List ℕ → Option (List ℕ)
+behind zero before = none
+behind (suc i) before = some before
 
 abbrev pub in_table : Rule
 in_table before t = tidy t && above before t

@@ -1,5 +1,5 @@
 -- A part that a call finds has a place and a length below 65,536: an accepted context is short.
--- Index: `halves_deep`, `halves_entry`, `halves_first` (the calls); `part_halves` (their number).
+-- Index: `halves_deep`, `halves_entry`, `halves_first` (the calls).
 -- Assumes nothing.
 use Prim.Native.Nat.{ℕ, ◌+◌, ◌<◌, ◌≤◌}
 use native.Mathlib.Omega.{arith}
@@ -14,8 +14,6 @@ use Rattle.form.specs.Outcome.{Outcome, done, refused, ◌>>=◌}
 use Rattle.paths.specs.Paths.{get_first}
 use Rattle.paths.specs.Places.{Spot, spot, Piece, found, extent_of, spot_in, Within}
 use Rattle.paths.specs.Calls.{context_of, search_deep_call, get_entry_call, get_first_call}
-use Rattle.paths.specs.declared.Found.{Found}
-use Rattle.paths.specs.declared.Found.TheVariants as found_is
 use Rattle.paths.proofs.CallContracts.{opened_short, entry_call, stand_deep, stand_first, lend_within}
 use Rattle.feel.specs.Numbers.{Halves}
 use Rattle.form.specs.Options.{map}
@@ -43,7 +41,3 @@ halves_entry c n x bs e = halves_deep c (n ∷ []) x bs (e ∙ ap extent_of (sym
 pub halves_first : (c : List ℕ) (x : Outcome (Option Piece)) → Bytes c → x ≡ extent_of (get_first_call c) → Halves x
 halves_first c x bs e = subst Halves (sym e) (halves c 0 (λ es. map (spot (3 + name_width)) (get_first es)) bs (lend_within c (get_first_call c) (extent_of (get_first_call c))
     (stand_first c bs) refl))
-
--- ---- their number
-pub part_halves : (f : Found) (p n : ℕ) → f ≡ found_is.Part p n → Halves (found f) → (p < 65536) × (n < 65536)
-part_halves f p n e h = subst (λ z. Halves (found z)) e h

@@ -1,8 +1,8 @@
 // The exported C functions. Each answers one number: specs/Numbers.antt has the convention, include/feel.h the words for callers.
 #![tactic(auto)]
 
-ghost use Rattle.std.specs.Prelude.{◌≡◌, length};
-ghost use Rattle.form.specs.Answers.{checked, verdict, written};
+ghost use Rattle.std.specs.Prelude.{◌≡◌, ◌+◌, length};
+ghost use Rattle.form.specs.Answers.{number, outcome};
 ghost use Rattle.form.specs.Read.{check_value, check_type};
 ghost use Rattle.tables.specs.Calls.{check_table};
 ghost use Rattle.types.specs.Calls.{is_conformant, strict_is_conformant, table_is_conformant, instance_of, is_simple_built_in_type, is_null};
@@ -14,17 +14,16 @@ ghost use Rattle.ranges.specs.Calls.{is_invalid_coercion_call, is_valid_range_ca
 ghost use Rattle.ranges.specs.Calls.{interval, opened_call, closed_call, undefined_call, bif_type_call};
 ghost use Rattle.bounds.specs.Calls.{common_supertype, common_subtype, strict_common_supertype, strict_common_subtype, table_common_supertype, table_common_subtype, reduced_call};
 ghost use Rattle.paths.specs.Places.{found, extent_of};
-ghost use Rattle.paths.specs.Calls.{search_deep_call, get_entry_call, get_first_call, contains_deep_call, contains_entry_call, is_context_call, is_empty_call, len_call, count};
+ghost use Rattle.paths.specs.Calls.{search_deep_call, get_entry_call, get_first_call, contains_deep_call, contains_entry_call, is_context_call, is_empty_call, len_call};
 ghost use Rattle.context.specs.Calls.{create_entries_call, apply_entries_call, zip_call, overwrite_call, move_entry_call, set_entry_call, remove_entry_call, set_null_call};
 ghost use Rattle.form.specs.Outcome.{done};
 ghost use Rattle.names.specs.BuiltInNames.{is_built_in_type_name};
 ghost use Rattle.names.specs.Calls.{name_new_call, trim_call, from_str_call, known};
 ghost use Rattle.display.specs.Calls.{display_call};
-ghost use Rattle.feel.specs.Numbers.{numbered, judged, parted, named, Halves, Exported, ExportedApart};
+ghost use Rattle.feel.specs.Numbers.{high, numbered, judged, parted, named, Halves, Exported, ExportedApart};
 
-use form::{Checked, Verdict, Written, refusals};
-use names::Known;
-use paths::{Count, Found};
+use form::Refusal;
+use paths::Part;
 
 // High word 1: refused.
 const REFUSED: u64 = 0x1_0000_0000;
@@ -32,32 +31,38 @@ const REFUSED: u64 = 0x1_0000_0000;
 // High word 2: none.
 const NONE: u64 = 0x2_0000_0000;
 
-// The number of a reader's answer.
-fn check_number(c: Checked) -> u64
-    ensures { result ≡ numbered (checked c) }
+// The number of a level, a count or a length.
+fn plain_number(answer: Result<usize, Refusal>) -> u64
+    ensures { result ≡ numbered (outcome answer) }
 {
-    match c {
-        Checked::Accepted { level } => level as u64,
-        Checked::Refused(n) => REFUSED + n as u64,
+    match answer {
+        Ok(n) => n as u64,
+        Err(refusal) => refused_number(refusal),
     }
 }
 
 // The number of a verdict.
-fn verdict_number(v: Verdict) -> u64
-    ensures { result ≡ judged (verdict v) }
+fn verdict_number(answer: Result<bool, Refusal>) -> u64
+    ensures { result ≡ judged (outcome answer) }
 {
-    match v {
-        Verdict::Yes => 1,
-        Verdict::No => 0,
-        Verdict::Refused(n) => REFUSED + n as u64,
+    match answer {
+        Ok(yes) => u64::from(yes),
+        Err(refusal) => refused_number(refusal),
     }
+}
+
+// The number of a refusal.
+fn refused_number(refusal: Refusal) -> u64
+    ensures { result ≡ high 1 + number refusal }
+{
+    REFUSED + u64::from(u8::from(refusal))
 }
 
 // The number of a question that refuses nothing.
 fn yes_number(b: bool) -> u64
     ensures { result ≡ judged (done b) }
 {
-    if b { 1 } else { 0 }
+    u64::from(b)
 }
 
 // The number of a question on the interval type i, of which `yes` is the answer. A verdict between would cost more than the question: its three
@@ -66,50 +71,30 @@ fn interval_number(i: u8, yes: bool) -> u64
     ensures { result ≡ judged (interval (λ x. yes) i) }
 {
     if 3 < i {
-        return REFUSED + refusals::VALUE_SHAPE as u64;
+        return refused_number(Refusal::ValueShape);
     }
     yes_number(yes)
 }
 
-// The number of a length that was written.
-fn written_number(w: Written) -> u64
-    ensures { result ≡ numbered (written w) }
-{
-    match w {
-        Written::Bytes(n) => n as u64,
-        Written::Refused(n) => REFUSED + n as u64,
-    }
-}
-
-// The number of a count.
-fn count_number(c: Count) -> u64
-    ensures { result ≡ numbered (count c) }
-{
-    match c {
-        Count::Entries(n) => n as u64,
-        Count::Refused(n) => REFUSED + n as u64,
-    }
-}
-
 // The number of a part that was found.
-fn found_number(f: Found) -> u64
-    requires { Halves (found f) }
-    ensures { result ≡ parted (found f) }
+fn part_number(answer: Result<Option<Part>, Refusal>) -> u64
+    requires { Halves (found answer) }
+    ensures { result ≡ parted (found answer) }
 {
-    match f {
-        Found::Part { place, size } => place as u64 * 65536 + size as u64,
-        Found::None => NONE,
-        Found::Refused(n) => REFUSED + n as u64,
+    match answer {
+        Ok(Some(part)) => part.place as u64 * 65536 + part.size as u64,
+        Ok(None) => NONE,
+        Err(refusal) => refused_number(refusal),
     }
 }
 
 // The number of a name that is known, or not.
-fn known_number(k: Known) -> u64
-    ensures { result ≡ named (known k) }
+fn known_number(answer: Option<u8>) -> u64
+    ensures { result ≡ named (known answer) }
 {
-    match k {
-        Known::Type(c) => c as u64,
-        Known::Unknown => NONE,
+    match answer {
+        Some(c) => u64::from(c),
+        None => NONE,
     }
 }
 
@@ -118,7 +103,7 @@ fn known_number(k: Known) -> u64
 pub extern "C" fn feel_check_value(v: &[u8]) -> u64
     ensures { result ≡ numbered (check_value v.now) }
 {
-    check_number(form::check_value(v))
+    plain_number(form::check_value(v))
 }
 
 // Is this a type? Its level, or refusal 6 to 10.
@@ -126,7 +111,7 @@ pub extern "C" fn feel_check_value(v: &[u8]) -> u64
 pub extern "C" fn feel_check_type(t: &[u8]) -> u64
     ensures { result ≡ numbered (check_type t.now) }
 {
-    check_number(form::check_type(t))
+    plain_number(form::check_type(t))
 }
 
 // Does the type a conform to the type b?
@@ -171,7 +156,7 @@ pub extern "C" fn feel_type_common_supertype(
 ) -> u64
     ensures { Exported (common_supertype a.now b.now (length scratch.old) (length out.old)) out.old out.new result }
 {
-    written_number(bounds::common_supertype(a, b, scratch, out))
+    plain_number(bounds::common_supertype(a, b, scratch, out))
 }
 
 // The common subtype of two types.
@@ -184,7 +169,7 @@ pub extern "C" fn feel_type_common_subtype(
 ) -> u64
     ensures { Exported (common_subtype a.now b.now (length scratch.old) (length out.old)) out.old out.new result }
 {
-    written_number(bounds::common_subtype(a, b, scratch, out))
+    plain_number(bounds::common_subtype(a, b, scratch, out))
 }
 
 // The reduced form of a type.
@@ -192,7 +177,7 @@ pub extern "C" fn feel_type_common_subtype(
 pub extern "C" fn feel_type_reduced(t: &[u8], out: &mut [u8]) -> u64
     ensures { Exported (reduced_call t.now (length out.old)) out.old out.new result }
 {
-    written_number(bounds::reduced(t, out))
+    plain_number(bounds::reduced(t, out))
 }
 
 // Does the value conform to the type?
@@ -208,7 +193,7 @@ pub extern "C" fn feel_value_is_conformant(v: &[u8], t: &[u8]) -> u64
 pub extern "C" fn feel_value_least_type(v: &[u8], scratch: &mut [u8], out: &mut [u8]) -> u64
     ensures { Exported (least_type_call v.now (length scratch.old) (length out.old)) out.old out.new result }
 {
-    written_number(infer::least_type(v, scratch, out))
+    plain_number(infer::least_type(v, scratch, out))
 }
 
 // The type of a value as the Rust infers it.
@@ -216,7 +201,7 @@ pub extern "C" fn feel_value_least_type(v: &[u8], scratch: &mut [u8], out: &mut 
 pub extern "C" fn feel_value_type_of(v: &[u8], scratch: &mut [u8], out: &mut [u8]) -> u64
     ensures { Exported (type_of_call v.now (length scratch.old) (length out.old)) out.old out.new result }
 {
-    written_number(infer::type_of(v, scratch, out))
+    plain_number(infer::type_of(v, scratch, out))
 }
 
 // The value, retrieved by the type.
@@ -224,7 +209,7 @@ pub extern "C" fn feel_value_type_of(v: &[u8], scratch: &mut [u8], out: &mut [u8
 pub extern "C" fn feel_type_get_value_checked(t: &[u8], v: &[u8], out: &mut [u8]) -> u64
     ensures { Exported (get_value_checked_call t.now v.now (length out.old)) out.old out.new result }
 {
-    written_number(retrieval::get_value_checked(t, v, out))
+    plain_number(retrieval::get_value_checked(t, v, out))
 }
 
 // The value, retrieved by the type where it conforms; otherwise null.
@@ -232,7 +217,7 @@ pub extern "C" fn feel_type_get_value_checked(t: &[u8], v: &[u8], out: &mut [u8]
 pub extern "C" fn feel_type_get_conformant_value(t: &[u8], v: &[u8], out: &mut [u8]) -> u64
     ensures { Exported (get_conformant_value_call t.now v.now (length out.old)) out.old out.new result }
 {
-    written_number(retrieval::get_conformant_value(t, v, out))
+    plain_number(retrieval::get_conformant_value(t, v, out))
 }
 
 // The value, coerced to the type.
@@ -240,7 +225,7 @@ pub extern "C" fn feel_type_get_conformant_value(t: &[u8], v: &[u8], out: &mut [
 pub extern "C" fn feel_value_coerced(v: &[u8], t: &[u8], out: &mut [u8]) -> u64
     ensures { Exported (coerced_call v.now t.now (length out.old)) out.old out.new result }
 {
-    written_number(coercion::coerced(v, t, out))
+    plain_number(coercion::coerced(v, t, out))
 }
 
 // Is it the null of a coercion that failed?
@@ -344,7 +329,7 @@ pub extern "C" fn feel_interval_undefined(i: u8) -> u64
 pub extern "C" fn feel_bif_feel_type(b: u8, out: &mut [u8]) -> u64
     ensures { Exported (bif_type_call b (length out.old)) out.old out.new result }
 {
-    written_number(ranges::bif_feel_type(b, out))
+    plain_number(ranges::bif_feel_type(b, out))
 }
 
 // The value of the name: its place in the context and its length.
@@ -352,7 +337,7 @@ pub extern "C" fn feel_bif_feel_type(b: u8, out: &mut [u8]) -> u64
 pub extern "C" fn feel_context_get_entry(c: &[u8], name: u16) -> u64
     ensures { result ≡ parted (extent_of (get_entry_call c.now name)) }
 {
-    found_number(paths::entry_place(c, name))
+    part_number(paths::entry_place(c, name))
 }
 
 // The value at the path: its place in the context and its length.
@@ -360,7 +345,7 @@ pub extern "C" fn feel_context_get_entry(c: &[u8], name: u16) -> u64
 pub extern "C" fn feel_context_search_deep(c: &[u8], path: &[u16]) -> u64
     ensures { result ≡ parted (extent_of (search_deep_call c.now path.now)) }
 {
-    found_number(paths::search_place(c, path))
+    part_number(paths::search_place(c, path))
 }
 
 // The first value: its place in the context and its length.
@@ -368,7 +353,7 @@ pub extern "C" fn feel_context_search_deep(c: &[u8], path: &[u16]) -> u64
 pub extern "C" fn feel_context_get_first(c: &[u8]) -> u64
     ensures { result ≡ parted (extent_of (get_first_call c.now)) }
 {
-    found_number(paths::first_place(c))
+    part_number(paths::first_place(c))
 }
 
 // Has the context the name?
@@ -408,7 +393,7 @@ pub extern "C" fn feel_context_is_empty(c: &[u8]) -> u64
 pub extern "C" fn feel_context_len(c: &[u8]) -> u64
     ensures { result ≡ numbered (len_call c.now) }
 {
-    count_number(paths::len(c))
+    plain_number(paths::len(c))
 }
 
 // The context with the value at the path; contexts on the way are made where there are none.
@@ -421,7 +406,7 @@ pub extern "C" fn feel_context_create_entries(
 ) -> u64
     ensures { Exported (create_entries_call c.now path.now v.now (length out.old)) out.old out.new result }
 {
-    written_number(context::create_entries(c, path, v, out))
+    plain_number(context::create_entries(c, path, v, out))
 }
 
 // The context with the value at the path; refused where a value on the way is no context.
@@ -434,7 +419,7 @@ pub extern "C" fn feel_context_apply_entries(
 ) -> u64
     ensures { Exported (apply_entries_call c.now path.now v.now (length out.old)) out.old out.new result }
 {
-    written_number(context::apply_entries(c, path, v, out))
+    plain_number(context::apply_entries(c, path, v, out))
 }
 
 // The context with all entries of the other one.
@@ -442,7 +427,7 @@ pub extern "C" fn feel_context_apply_entries(
 pub extern "C" fn feel_context_zip(c: &[u8], other: &[u8], out: &mut [u8]) -> u64
     ensures { Exported (zip_call c.now other.now (length out.old)) out.old out.new result }
 {
-    written_number(context::zip(c, other, out))
+    plain_number(context::zip(c, other, out))
 }
 
 // The context with those entries of the other one whose names it has.
@@ -450,7 +435,7 @@ pub extern "C" fn feel_context_zip(c: &[u8], other: &[u8], out: &mut [u8]) -> u6
 pub extern "C" fn feel_context_overwrite(c: &[u8], other: &[u8], out: &mut [u8]) -> u64
     ensures { Exported (overwrite_call c.now other.now (length out.old)) out.old out.new result }
 {
-    written_number(context::overwrite(c, other, out))
+    plain_number(context::overwrite(c, other, out))
 }
 
 // The context with the entry of the name moved below the parent.
@@ -458,7 +443,7 @@ pub extern "C" fn feel_context_overwrite(c: &[u8], other: &[u8], out: &mut [u8])
 pub extern "C" fn feel_context_move_entry(c: &[u8], name: u16, parent: u16, out: &mut [u8]) -> u64
     ensures { Exported (move_entry_call c.now name parent (length out.old)) out.old out.new result }
 {
-    written_number(context::move_entry(c, name, parent, out))
+    plain_number(context::move_entry(c, name, parent, out))
 }
 
 // The context with the value at the name.
@@ -466,7 +451,7 @@ pub extern "C" fn feel_context_move_entry(c: &[u8], name: u16, parent: u16, out:
 pub extern "C" fn feel_context_set_entry(c: &[u8], name: u16, v: &[u8], out: &mut [u8]) -> u64
     ensures { Exported (set_entry_call c.now name v.now (length out.old)) out.old out.new result }
 {
-    written_number(context::set_entry(c, name, v, out))
+    plain_number(context::set_entry(c, name, v, out))
 }
 
 // The context without the entry of the name.
@@ -474,7 +459,7 @@ pub extern "C" fn feel_context_set_entry(c: &[u8], name: u16, v: &[u8], out: &mu
 pub extern "C" fn feel_context_remove_entry(c: &[u8], name: u16, out: &mut [u8]) -> u64
     ensures { Exported (remove_entry_call c.now name (length out.old)) out.old out.new result }
 {
-    written_number(context::remove_entry(c, name, out))
+    plain_number(context::remove_entry(c, name, out))
 }
 
 // The context with null at the name.
@@ -482,7 +467,7 @@ pub extern "C" fn feel_context_remove_entry(c: &[u8], name: u16, out: &mut [u8])
 pub extern "C" fn feel_context_set_null(c: &[u8], name: u16, out: &mut [u8]) -> u64
     ensures { Exported (set_null_call c.now name (length out.old)) out.old out.new result }
 {
-    written_number(context::set_null(c, name, out))
+    plain_number(context::set_null(c, name, out))
 }
 
 // The text of the type t with the names that the table gives.
@@ -490,7 +475,7 @@ pub extern "C" fn feel_context_set_null(c: &[u8], name: u16, out: &mut [u8]) -> 
 pub extern "C" fn feel_names_display(t: &[u8], table: &[u8], out: &mut [u8]) -> u64
     ensures { Exported (display_call t.now table.now (length out.old)) out.old out.new result }
 {
-    written_number(display::display(t, table, out))
+    plain_number(display::display(t, table, out))
 }
 
 // The command of the type with this name, or unknown.
@@ -514,7 +499,7 @@ pub extern "C" fn feel_names_is_built_in_type_name(s: &[u8]) -> u64
 pub extern "C" fn feel_names_name_new(parts: &[u8], out: &mut [u8]) -> u64
     ensures { Exported (name_new_call parts.now (length out.old)) out.old out.new result }
 {
-    written_number(names::name_new(parts, out))
+    plain_number(names::name_new(parts, out))
 }
 
 // The bytes without the blanks at both ends.
@@ -522,7 +507,7 @@ pub extern "C" fn feel_names_name_new(parts: &[u8], out: &mut [u8]) -> u64
 pub extern "C" fn feel_names_trim(s: &[u8], out: &mut [u8]) -> u64
     ensures { Exported (trim_call s.now (length out.old)) out.old out.new result }
 {
-    written_number(names::trim_into(s, out))
+    plain_number(names::trim_into(s, out))
 }
 
 // Does the type a conform to the type b as DMN has it?
@@ -543,7 +528,7 @@ pub extern "C" fn feel_strict_type_common_supertype(
 ) -> u64
     ensures { Exported (strict_common_supertype a.now b.now (length scratch.old) (length out.old)) out.old out.new result }
 {
-    written_number(bounds::strict_common_supertype(a, b, scratch, out))
+    plain_number(bounds::strict_common_supertype(a, b, scratch, out))
 }
 
 // The common subtype of two types as DMN has it.
@@ -556,7 +541,7 @@ pub extern "C" fn feel_strict_type_common_subtype(
 ) -> u64
     ensures { Exported (strict_common_subtype a.now b.now (length scratch.old) (length out.old)) out.old out.new result }
 {
-    written_number(bounds::strict_common_subtype(a, b, scratch, out))
+    plain_number(bounds::strict_common_subtype(a, b, scratch, out))
 }
 
 // Does the value conform to the type as DMN has it?
@@ -572,7 +557,7 @@ pub extern "C" fn feel_strict_value_is_conformant(v: &[u8], t: &[u8]) -> u64
 pub extern "C" fn feel_strict_value_least_type(v: &[u8], scratch: &mut [u8], out: &mut [u8]) -> u64
     ensures { Exported (strict_least_type_call v.now (length scratch.old) (length out.old)) out.old out.new result }
 {
-    written_number(infer::strict_least_type(v, scratch, out))
+    plain_number(infer::strict_least_type(v, scratch, out))
 }
 
 // Does the table of simple types load? Yes, or refusal 26 to 28.
@@ -602,7 +587,7 @@ pub extern "C" fn feel_table_type_common_supertype(
 ) -> u64
     ensures { ExportedApart (table_common_supertype table.now a.now b.now) scratch.old out.old out.new result }
 {
-    written_number(bounds::table_common_supertype(table, a, b, scratch, out))
+    plain_number(bounds::table_common_supertype(table, a, b, scratch, out))
 }
 
 // The common subtype of two types over the table.
@@ -616,7 +601,7 @@ pub extern "C" fn feel_table_type_common_subtype(
 ) -> u64
     ensures { ExportedApart (table_common_subtype table.now a.now b.now) scratch.old out.old out.new result }
 {
-    written_number(bounds::table_common_subtype(table, a, b, scratch, out))
+    plain_number(bounds::table_common_subtype(table, a, b, scratch, out))
 }
 
 // Does the value conform to the type over the table?
@@ -637,5 +622,5 @@ pub extern "C" fn feel_table_value_least_type(
 ) -> u64
     ensures { ExportedApart (table_least_type_call table.now v.now) scratch.old out.old out.new result }
 {
-    written_number(infer::table_least_type(table, v, scratch, out))
+    plain_number(infer::table_least_type(table, v, scratch, out))
 }

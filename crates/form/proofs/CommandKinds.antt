@@ -12,7 +12,10 @@ use mathlib.Core.Logic.{◌⊎◌, inl, inr}
 use native.Mathlib.Omega.{arith}
 use lib.Dec.{T, ltb, eqb, eqb→eq, ltb→lt}
 use borrow.Author.Tests.{ltb-false, ltb-true, eqb-true, eqb-false, lt-ltb, le-ltb, ne_eqb}
+use Rattle.std.specs.declared.option.Option.{Option}
+use Rattle.std.specs.declared.option.Option.TheVariants.{None, Some}
 use Rattle.form.specs.Outcome.{pick}
+use Rattle.form.proofs.Some.{some_is}
 use Rattle.form.proofs.Table.{every, steps, between}
 use Rattle.form.specs.Layout.{ValueKind, k_null, k_boolean, k_number, k_string, k_temporal, k_range, k_list, k_context, k_definition, k_built_in, k_type, k_irrelevant, k_decimal, TypeKind}
 use Rattle.form.specs.Layout.{t_simple, t_list}
@@ -265,22 +268,23 @@ pub low_is : (c n : ℕ) → n ≡ pick (is_leaf_command c) (width_of c) no_widt
 low_is c n e h = rw h at e
 
 -- with its command, by its width w
-pub sized_none : (c w : ℕ) → w ≡ pick (is_leaf_command c) (width_of c) no_width → w ≡ no_width → 0 ≡ pick (is_leaf_command c) (width_of c + 1) 0
+pub sized_none : (c w : ℕ) → w ≡ pick (is_leaf_command c) (width_of c) no_width → w ≡ no_width → ◌≡◌ {A = Option ℕ} None (pick (is_leaf_command c) (Some (width_of c + 1)) None)
 sized_none c w e z = go (is_leaf_command c) refl
   where
-    go : (t : Bool) → is_leaf_command c ≡ t → 0 ≡ pick (is_leaf_command c) (width_of c + 1) 0
+    go : (t : Bool) → is_leaf_command c ≡ t → ◌≡◌ {A = Option ℕ} None (pick (is_leaf_command c) (Some (width_of c + 1)) None)
     go true q = absurd (let f = rw q at e in omega (arith, leaf_few c q))
     go false q = rw q
 
-pub sized_leaf : (c w : ℕ) → w ≡ pick (is_leaf_command c) (width_of c) no_width → (w ≡ no_width → ⊥) → (w < 10) × (w + 1 ≡ pick (is_leaf_command c) (width_of c + 1) 0)
+pub sized_leaf : (c w : ℕ) → w ≡ pick (is_leaf_command c) (width_of c) no_width → (w ≡ no_width → ⊥)
+    → (w < 10) × (◌≡◌ {A = Option ℕ} (Some (w + 1)) (pick (is_leaf_command c) (Some (width_of c + 1)) None))
 sized_leaf c w e n = go (is_leaf_command c) refl
   where
-    go : (t : Bool) → is_leaf_command c ≡ t → (w < 10) × (w + 1 ≡ pick (is_leaf_command c) (width_of c + 1) 0)
-    go true q = let f : w ≡ width_of c = rw q at e in (omega (arith, leaf_few c q), rw q (ap (λ (k : ℕ). k + 1) f))
+    go : (t : Bool) → is_leaf_command c ≡ t → (w < 10) × (◌≡◌ {A = Option ℕ} (Some (w + 1)) (pick (is_leaf_command c) (Some (width_of c + 1)) None))
+    go true q = let f : w ≡ width_of c = rw q at e in (omega (arith, leaf_few c q), rw q (ap (λ (k : ℕ). Some (k + 1)) f))
     go false q = absurd (n (rw q at e))
 
-pub leaf_wide : (c n : ℕ) → n ≡ pick (is_leaf_command c) (width_of c + 1) 0 → is_leaf_command c ≡ true → n ≡ width_of c + 1
-leaf_wide c n e h = rw h at e
+pub leaf_wide : (c n : ℕ) → ◌≡◌ {A = Option ℕ} (Some n) (pick (is_leaf_command c) (Some (width_of c + 1)) None) → is_leaf_command c ≡ true → n ≡ width_of c + 1
+leaf_wide c n e h = let f : ◌≡◌ {A = Option ℕ} (Some n) (Some (width_of c + 1)) = rw h at e in some_is f
 
 -- ---- the type of a leaf by its command
 pub null_type_lem : (c : ℕ) → c ≡ 0 → 0x29 ≡ leaf_type_command c

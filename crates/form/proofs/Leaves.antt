@@ -12,6 +12,8 @@ use lib.ListN.{length, get_or, drop, length-drop}
 use lib.Seq.{get_or-drop}
 use lib.Dec.{leb}
 use borrow.Author.Tests.{leb-true, leb-false, le-leb, ne_eqb}
+use Rattle.std.specs.declared.option.Option.{Option}
+use Rattle.std.specs.declared.option.Option.TheVariants.{None, Some}
 use Rattle.form.specs.Trees.{Ty, Val, simple, is_short_leaf}
 use Rattle.form.specs.Form.{level_v}
 use Rattle.form.specs.Layout.{ValueKind, t_simple, of_type, kind_of, operands, operands_v, width_of}
@@ -28,20 +30,20 @@ use Rattle.form.proofs.ValueLaws.{leaf_is}
 differ : false ≡ true → ⊥
 differ e = let z : ◌≡◌ {A = ℕ} 0 1 = cc in omega arith
 
--- ---- whatever is read: 0 where it is no leaf, its size where it is one
-none_in : {X : Type 0} (isLeaf : X → Bool) (g : Got X) → ((x : X) (n : ℕ) → g ≡ got x n → isLeaf x ≡ true → ⊥) → 0 ≡ leaf_in isLeaf g
+-- ---- whatever is read: none where it is no leaf, its size where it is one
+none_in : {X : Type 0} (isLeaf : X → Bool) (g : Got X) → ((x : X) (n : ℕ) → g ≡ got x n → isLeaf x ≡ true → ⊥) → None ≡ leaf_in isLeaf g
 unfolding leaf_in
 none_in isLeaf (got x n) h = go (isLeaf x) refl
   where
-    go : (t : Bool) → isLeaf x ≡ t → 0 ≡ leaf_in isLeaf (got x n)
+    go : (t : Bool) → isLeaf x ≡ t → None ≡ leaf_in isLeaf (got x n)
     go true e = absurd (h x n refl e)
     go false e = rw e
 none_in isLeaf (bad f) h = refl
 
 size_in_lem : {X : Type 0} (lx : X → ℕ) (isLeaf : X → Bool) (g : Got X) (n l : ℕ) → walk_of lx g ≡ walk.End n l
-    → ((x : X) (m : ℕ) → g ≡ got x m → isLeaf x ≡ true) → n ≡ leaf_in isLeaf g
+    → ((x : X) (m : ℕ) → g ≡ got x m → isLeaf x ≡ true) → ◌≡◌ {A = Option ℕ} (Some n) (leaf_in isLeaf g)
 unfolding walk_of leaf_in
-size_in_lem lx isLeaf (got x m) n l e h = let p : n ≡ m = cc in rw (h x m refl) p
+size_in_lem lx isLeaf (got x m) n l e h = let p : n ≡ m = cc in rw (h x m refl) (ap (λ (k : ℕ). Some k) p)
 size_in_lem lx isLeaf (bad f) n l e h = absurd (end_stop (sym e))
 
 -- ---- a simple type
@@ -53,8 +55,8 @@ simple_node left s t n (n_context c k fs m p) e = absurd (differ e)
 simple_node left s t n (n_function c k ts m p u j q) e = absurd (differ e)
 
 module _ (l : ℕ) (s : List ℕ) (at : ℕ) where
-  pub simple_none : (0 < l → at < length s → 32 ≤ get_or s at 0 → get_or s at 0 < 42 → ⊥) → Short simple (read_t l (drop at s)) 0 (length s - at)
-  simple_none away = record { size = none_in simple (read_t l (drop at s)) clash; room = omega arith }
+  pub simple_none : (0 < l → at < length s → 32 ≤ get_or s at 0 → get_or s at 0 < 42 → ⊥) → Short simple (read_t l (drop at s)) None (length s - at)
+  simple_none away = record { size = none_in simple (read_t l (drop at s)) clash; room = tt }
     where
       clash : (t : Ty) (n : ℕ) → read_t l (drop at s) ≡ got t n → simple t ≡ true → ⊥
       clash t n e z =
@@ -64,12 +66,12 @@ module _ (l : ℕ) (s : List ℕ) (at : ℕ) where
           let f = first_at s at in
           away R.some_level (omega arith) (omega arith) (omega arith)
 
-  pub simple_some : 0 < l → at < length s → 32 ≤ get_or s at 0 → get_or s at 0 < 42 → Short simple (read_t l (drop at s)) 1 (length s - at)
+  pub simple_some : 0 < l → at < length s → 32 ≤ get_or s at 0 → get_or s at 0 < 42 → Short simple (read_t l (drop at s)) (Some 1) (length s - at)
   unfolding leaf_in step_t step_type
   simple_some p h x y =
       let f = first_at s at in
       let k : kind_of (get_or (drop at s) 0 0) ≡ of_type t_simple = kind_simple (get_or (drop at s) 0 0) (omega arith) (omega arith) in
-      record { size = rw (t_step l (drop at s) (simp length-drop (omega arith)) p, k); room = omega arith }
+      record { size = rw (t_step l (drop at s) (simp length-drop (omega arith)) p, k) refl; room = (omega arith, omega arith) }
 
 -- ---- a leaf of data but a decimal, of n bytes: its command b, its last operand byte x, in len bytes
 pub record LeafHere (b x len n : ℕ) : Type 0 where
@@ -116,8 +118,8 @@ judged left s v n (n_irrelevant c) = no_leaf refl (omega arith)
 judged left s v n (n_decimal c k x) = no_leaf refl (omega arith)
 
 module _ (l : ℕ) (s : List ℕ) (at : ℕ) where
-  pub leaf_none : (0 < l → at < length s → (n : ℕ) → LeafHere (get_or s at 0) (get_or s (at + n - 1) 0) (length s - at) n → ⊥) → Short is_short_leaf (read_v l (drop at s)) 0 (length s - at)
-  leaf_none away = record { size = none_in is_short_leaf (read_v l (drop at s)) clash; room = omega arith }
+  pub leaf_none : (0 < l → at < length s → (n : ℕ) → LeafHere (get_or s at 0) (get_or s (at + n - 1) 0) (length s - at) n → ⊥) → Short is_short_leaf (read_v l (drop at s)) None (length s - at)
+  leaf_none away = record { size = none_in is_short_leaf (read_v l (drop at s)) clash; room = tt }
     where
       clash : (v : Val) (n : ℕ) → read_v l (drop at s) ≡ got v n → is_short_leaf v ≡ true → ⊥
       clash v n e z =
@@ -132,7 +134,7 @@ module _ (l : ℕ) (s : List ℕ) (at : ℕ) where
           go p h (no_leaf t f) = differ (sym t ∙ z)
 
   pub leaf_some : (n : ℕ) → 0 < l → at < length s → get_or s at 0 < 9 → n ≡ width_of (get_or s at 0) + 1 → n ≤ length s - at
-      → get_or s (at + n - 1) 0 ≤ operand_end (get_or s at 0) → Short is_short_leaf (read_v l (drop at s)) n (length s - at)
+      → get_or s (at + n - 1) 0 ≤ operand_end (get_or s at 0) → Short is_short_leaf (read_v l (drop at s)) (Some n) (length s - at)
   leaf_some n p h c w r q =
       let d : length (drop at s) ≡ length s - at = length-drop at s in
       let a : get_or (drop at s) 0 0 ≡ get_or s at 0 = first_at s at in
@@ -140,7 +142,10 @@ module _ (l : ℕ) (s : List ℕ) (at : ℕ) where
       let b : get_or (drop at s) (width_of (get_or (drop at s) 0 0)) 0 ≡ get_or s (at + n - 1) 0 = rw a (get_or-drop at s (width_of (get_or s at 0)) 0 ∙ ap (λ (j : ℕ). get_or s j 0) k) in
       let o : width_of (get_or (drop at s) 0 0) ≤ length (drop at s) - 1 = rw (a, d) (omega (arith, w)) in
       let e = leaf_is l (drop at s) (rw d (omega arith)) p o (rw (b, a) q) (leaf_low (get_or (drop at s) 0 0) (omega arith)) in
-      record { size = w ∙ ap (λ (z : ℕ). width_of z + 1) (sym a) ∙ size_in_lem level_v is_short_leaf (read_v l (drop at s)) _ 1 e leafy; room = r }
+      record {
+        size = ap (λ (k : ℕ). Some k) (w ∙ ap (λ (z : ℕ). width_of z + 1) (sym a)) ∙ size_in_lem level_v is_short_leaf (read_v l (drop at s)) _ 1 e leafy;
+        room = (omega (arith, w), r);
+      }
     where
       leafy : (v : Val) (m : ℕ) → read_v l (drop at s) ≡ got v m → is_short_leaf v ≡ true
       leafy v m e = go (judged (l - 1) (drop at s) v m (value_read l (drop at s) v m e).node)
@@ -155,24 +160,25 @@ and_true false = refl
 
 -- ---- from the tests of the code: a leaf of n bytes by its command
 module _ (l : ℕ) (s : List ℕ) (at n : ℕ) (p : 0 < l) (h : at < length s) (c : get_or s at 0 < 9) (w : n ≡ width_of (get_or s at 0) + 1) (y : get_or s (at + n - 1) 0 ≤ 255) where
-  pub leaf_bounded : (r m : ℕ) → r ≡ size_bounded n (length s - at) (get_or s (at + n - 1) 0) m → m ≡ operand_end (get_or s at 0) → Short is_short_leaf (read_v l (drop at s)) r (length s - at)
+  pub leaf_bounded : (r : Option ℕ) (m : ℕ) → r ≡ size_bounded n (length s - at) (get_or s (at + n - 1) 0) m → m ≡ operand_end (get_or s at 0)
+      → Short is_short_leaf (read_v l (drop at s)) r (length s - at)
   leaf_bounded r m e k = go (leb n (length s - at)) refl (leb (get_or s (at + n - 1) 0) m) refl
     where
-      known : (z : ℕ) → r ≡ z → Short is_short_leaf (read_v l (drop at s)) z (length s - at) → Short is_short_leaf (read_v l (drop at s)) r (length s - at)
-      known z q f = subst (λ (j : ℕ). Short is_short_leaf (read_v l (drop at s)) j (length s - at)) (sym q) f
+      known : (z : Option ℕ) → r ≡ z → Short is_short_leaf (read_v l (drop at s)) z (length s - at) → Short is_short_leaf (read_v l (drop at s)) r (length s - at)
+      known z q f = subst (λ (j : Option ℕ). Short is_short_leaf (read_v l (drop at s)) j (length s - at)) (sym q) f
 
       go : (a : Bool) → leb n (length s - at) ≡ a → (b : Bool) → leb (get_or s (at + n - 1) 0) m ≡ b → Short is_short_leaf (read_v l (drop at s)) r (length s - at)
-      go true a true b = known n (rw (a, b) at e) (leaf_some l s at n p h c w (leb-true n (length s - at) a) (omega (arith, leb-true (get_or s (at + n - 1) 0) m b)))
-      go true a false b = known 0 (rw (a, b) at e) (leaf_none l s at (λ _ _ j f.
+      go true a true b = known (Some n) (rw (a, b) at e) (leaf_some l s at n p h c w (leb-true n (length s - at) a) (omega (arith, leb-true (get_or s (at + n - 1) 0) m b)))
+      go true a false b = known None (rw (a, b) at e) (leaf_none l s at (λ _ _ j f.
           let z : j ≡ n = omega (arith, f.wide, w) in
           let x : get_or s (at + j - 1) 0 ≡ get_or s (at + n - 1) 0 = ap (λ (i : ℕ). get_or s (at + i - 1) 0) z in
           omega (arith, x, f.operand (omega (arith, x)), leb-false (get_or s (at + n - 1) 0) m b)))
-      go false a b _ = known 0 (rw a at e) (leaf_none l s at (λ _ _ j f. omega (arith, f.wide, w, f.room, leb-false n (length s - at) a)))
+      go false a b _ = known None (rw a at e) (leaf_none l s at (λ _ _ j f. omega (arith, f.wide, w, f.room, leb-false n (length s - at) a)))
 
   -- its last byte is any
-  pub leaf_within : (r : ℕ) → r ≡ size_within n (length s - at) → operand_end (get_or s at 0) ≡ 255 → Short is_short_leaf (read_v l (drop at s)) r (length s - at)
+  pub leaf_within : (r : Option ℕ) → r ≡ size_within n (length s - at) → operand_end (get_or s at 0) ≡ 255 → Short is_short_leaf (read_v l (drop at s)) r (length s - at)
   leaf_within r e k = leaf_bounded r 255 (e ∙ rw (le-leb (get_or s (at + n - 1) 0) 255 y, and_true (leb n (length s - at)))) (sym k)
 
 -- no leaf's command
-pub leaf_away : (l : ℕ) (s : List ℕ) (at : ℕ) → 9 ≤ get_or s at 0 → Short is_short_leaf (read_v l (drop at s)) 0 (length s - at)
+pub leaf_away : (l : ℕ) (s : List ℕ) (at : ℕ) → 9 ≤ get_or s at 0 → Short is_short_leaf (read_v l (drop at s)) None (length s - at)
 leaf_away l s at c = leaf_none l s at (λ p h n f. omega (arith, f.command))

@@ -24,3 +24,4 @@ pub mod Widths
 pub mod Encoded
 pub mod ByteForm
 pub mod Options
+pub mod Some

@@ -10,6 +10,7 @@ use mathlib.Core.List.{List}
 use native.Mathlib.Omega.{arith}
 use lib.ListN.{length, take, drop}
 use Rattle.form.specs.Limits.{name_width}
+use Rattle.std.specs.declared.option.Option.TheVariants.{Some}
 use Rattle.form.specs.Faults.{Fault, Shape, Names}
 use Rattle.form.specs.Form.{num_at}
 use Rattle.form.specs.Read.{Got, got, bad, read_run, read_named}
@@ -49,8 +50,8 @@ module _ {X R : Type 0} (lx : X → ℕ) (lr : R → ℕ) (nil : R) (cons : X �
   turn n l d q w z e = run_turn v (read_run nil cons child) at d n l q e z (omega arith) v.inside (item_turn lx lr nil cons law child s at deep n l w)
 
   pub items_short : (isLeaf : X → Bool) → ((x : X) → isLeaf x ≡ true → lx x ≡ 1) → (n d : ℕ) → i < count
-      → Short isLeaf (child (drop at s)) n (length s - at) → (n ≡ 0 → ⊥) → d ≡ max deep 1 → RunInv lr whole (read_run nil cons child) s count (at + n) d (i + 1)
-  items_short isLeaf one n d q h z e = turn n 1 d q (short_end lx isLeaf one (child (drop at s)) n (length s - at) h z) (h.room, omega arith) e
+      → Short isLeaf (child (drop at s)) (Some n) (length s - at) → d ≡ max deep 1 → RunInv lr whole (read_run nil cons child) s count (at + n) d (i + 1)
+  items_short isLeaf one n d q h e = turn n 1 d q (short_end lx isLeaf one (child (drop at s)) n (length s - at) h) (h.room.1, h.room.0) e
 
   pub items_walk : (r t d : ℕ) → i < count → ToldAt lx child s at r t → (r ≡ 0 → ⊥) → d ≡ max deep t → RunInv lr whole (read_run nil cons child) s count (at + r) d (i + 1)
   items_walk r t d q h z e = let a = told_end (walk_of lx (child (drop at s))) (length s - at) r t (here lx child s at r t h) (omega arith) in turn r t d q a.0 a.1 e
@@ -81,9 +82,10 @@ module _ {X R : Type 0} (lx : X → ℕ) (lr : R → ℕ) (nil : R) (cons : ℕ 
           (named_turn lx lr nil cons next law child s at deep least name named two n l above w)
 
       pub names_short : (isLeaf : X → Bool) → ((x : X) → isLeaf x ≡ true → lx x ≡ 1) → (n d : ℕ)
-          → Short isLeaf (child (drop (at + name_width) s)) n (length s - (at + name_width)) → (n ≡ 0 → ⊥) → d ≡ max deep 1
+          → Short isLeaf (child (drop (at + name_width) s)) (Some n) (length s - (at + name_width)) → d ≡ max deep 1
           → RunInv lr whole (λ (j : ℕ). read_named nil cons next child j (next name)) s count (at + name_width + n) d (i + 1)
-      names_short isLeaf one n d h z e = named_on n 1 d (short_end lx isLeaf one (child (drop (at + name_width) s)) n (length s - (at + name_width)) h z) (h.room, omega arith) e
+      names_short isLeaf one n d h e =
+          named_on n 1 d (short_end lx isLeaf one (child (drop (at + name_width) s)) n (length s - (at + name_width)) h) (h.room.1, h.room.0) e
 
       pub names_walk : (r t d : ℕ) → ToldAt lx child s (at + name_width) r t → (r ≡ 0 → ⊥) → d ≡ max deep t
           → RunInv lr whole (λ (j : ℕ). read_named nil cons next child j (next name)) s count (at + name_width + r) d (i + 1)

@@ -32,6 +32,14 @@ end_is p q = ap₂ walk.End p q
 pub end_stop : {n l : ℕ} {f : Fault} → walk.End n l ≡ walk.Stop f → ⊥
 end_stop e = let z : ◌≡◌ {A = ℕ} 0 1 = cc in omega arith
 
+fault_in : Fault → Walk → Fault
+fault_in f (walk.End n l) = f
+fault_in f (walk.Stop g) = g
+
+pub stop_is : {f g : Fault} → walk.Stop f ≡ walk.Stop g → f ≡ g
+unfolding fault_in
+stop_is {f} e = ap (fault_in f) e
+
 -- the first byte behind `at`
 pub first_at : (s : List ℕ) (at : ℕ) → get_or (drop at s) 0 0 ≡ get_or s at 0
 first_at s at = get_or-drop at s 0 0 ∙ ap (λ (n : ℕ). get_or s n 0) (omega arith)

@@ -9,11 +9,14 @@ use mathlib.Core.List.{List}
 use native.Mathlib.Omega.{arith}
 use lib.ListN.{length, get_or, take, drop, length-drop}
 use lib.Seq.{take_all}
+use Rattle.std.specs.declared.option.Option.{Option}
+use Rattle.std.specs.declared.option.Option.TheVariants.{None, Some}
 use Rattle.form.specs.Faults.{Fault, place}
 use Rattle.form.specs.Layout.{Kind, kind_of, operands, slot, width_of}
 use Rattle.form.specs.Read.{Got, got, bad}
 use Rattle.form.specs.Walks.{Walk, walk_of, Told, Inside, up, leaf_in, Short}
 use Rattle.form.specs.Walks as walk
+use Rattle.form.proofs.Some.{some_is, some_none}
 use Rattle.form.proofs.CommandKinds.{width_is}
 use Rattle.form.proofs.Runs.{rest, length_rest, end_is}
 
@@ -41,14 +44,14 @@ told_whole f s r t h = subst (λ (x : List ℕ). Told (f x) (length x) r t) (all
 
 -- a short way that took bytes: the walk of a leaf, which has level 1
 pub short_end : {X : Type 0} (lx : X → ℕ) (isLeaf : X → Bool) → ((x : X) → isLeaf x ≡ true → lx x ≡ 1)
-    → (g : Got X) (n room : ℕ) → Short isLeaf g n room → (n ≡ 0 → ⊥) → walk_of lx g ≡ walk.End n 1
+    → (g : Got X) (n room : ℕ) → Short isLeaf g (Some n) room → walk_of lx g ≡ walk.End n 1
 unfolding walk_of leaf_in
-short_end lx isLeaf one (got x m) n room h z = go (isLeaf x) refl
+short_end lx isLeaf one (got x m) n room h = go (isLeaf x) refl
   where
     go : (t : Bool) → isLeaf x ≡ t → walk.End m (lx x) ≡ walk.End n 1
-    go true e = end_is (sym (rw e at h.size)) (one x e)
-    go false e = absurd (z (rw e at h.size))
-short_end lx isLeaf one (bad f) n room h z = absurd (z h.size)
+    go true e = let p : ◌≡◌ {A = Option ℕ} (Some n) (Some m) = rw e at h.size in end_is (sym (some_is p)) (one x e)
+    go false e = absurd (some_none (rw e at h.size))
+short_end lx isLeaf one (bad f) n room h = absurd (some_none h.size)
 
 -- ---- an answer
 pub told_stop : (f : Fault) {w : Walk} {n r t : ℕ} → w ≡ walk.Stop f → r ≡ 0 → t ≡ place f → Told w n r t

@@ -1,22 +1,25 @@
 -- The reader of a whole, in the terms of the code: length first, leftovers last. And a slice's elements are bytes.
--- Index: `bytes_of` (a slice); `whole_empty`, `whole_long`, `whole_read` (`check_type`, `check_value`); `settled_fault`, `settled_end`, `settled_left`, `place_small` (`settle`).
+-- Index: `bytes_of` (a slice); `whole_empty`, `whole_long`, `whole_ended`, `whole_left`, `whole_fault` (`check_type`, `check_value`);
+-- `place_is`, `told_passed` (`pass_type`, `pass_value`).
 -- Assumes nothing.
 use Prim.Native.Nat.{ℕ, suc, ◌+◌, ◌<◌, ◌≤◌}
-use mathlib.Core.Path.{◌≡◌, refl}
-use mathlib.Core.Bool.{Bool, true, false}
+use mathlib.Core.Path.{◌≡◌, sym, ap, ◌∙◌}
 use mathlib.Core.List.{List, [], ◌∷◌}
 use native.Mathlib.Omega.{arith}
 use lib.ListN.{length, get_or}
-use lib.Dec.{eqb}
 use mir.Syntax.{w8}
 use mir.Val.{Fits}
 use borrow.Author.Tests.{lt-ltb, le-ltb, le-leb, lt-leb, eq-eqb, ne_eqb}
 use Rattle.form.specs.Limits.{most_bytes}
-use Rattle.form.specs.Outcome.{Outcome, done, refused, ◌>>=◌, ◌>>◌, pick}
+use Rattle.form.specs.Outcome.{Outcome, done, refused, ◌>>=◌, ◌>>◌}
 use Rattle.form.specs.Form.{Bytes}
 use Rattle.form.specs.Read.{Got, got, bad, number_of, all, read_whole}
-use Rattle.form.specs.Walks.{Walk, walk_of, size_in, told_in, Inside, Told, settled}
-use Rattle.form.specs.Faults.{Shape, Names, Level}
+use Rattle.std.specs.declared.result.Result.{Result}
+use Rattle.std.specs.declared.result.Result.TheVariants.{Ok, Err}
+use Rattle.form.specs.Walks.{Walk, walk_of, walked, walk_told, Told, Passed}
+use Rattle.form.specs.Faults.{Fault, Shape, Names, Level, place}
+use Rattle.form.specs.declared.walk.Walked.{Walked}
+use Rattle.form.proofs.Runs.{end_stop, stop_is}
 use Rattle.form.specs.Walks as walk
 
 -- what a code proof knows of every element of a `&[u8]` (`shared-slice-known`), as the premise of the laws
@@ -40,36 +43,46 @@ module _ {X : Type 0} (lv : X → ℕ) (base : ℕ) (read : List ℕ → Got X) 
   unfolding read_whole ◌>>=◌ ◌>>◌
   whole_long h k = rw (lt-ltb 0 (length s) (omega arith), lt-leb (length s) most_bytes k)
 
-  all_is : (n : ℕ) (r : Got X) → Inside (walk_of lv r) n → settled base n (size_in (walk_of lv r)) (told_in (walk_of lv r)) ≡ levelled lv (all base n r)
-  unfolding all walk_of settled number_of ◌>>=◌
-  all_is n (got x m) i = rw (ne_eqb m 0 (λ e. omega (arith, e, i.0))) (go (eqb m n))
+  -- a whole that was walked to its end
+  pub whole_ended : (length s ≡ 0 → ⊥) → length s ≤ most_bytes → (v : Walked) → Passed (walk_of lv (read s)) (length s) (Ok v) → v.size ≡ length s → done v.level ≡ levelled lv (read_whole base read s)
+  unfolding read_whole ◌>>◌ ◌>>=◌ all walk_of
+  whole_ended h k v a e = rw (lt-ltb 0 (length s) (omega arith), le-leb (length s) most_bytes k) (go (read s) (sym a.answer))
     where
-      go : (b : Bool) → pick b (done (lv x)) (refused (base + 4)) ≡ levelled lv (pick b (done x) (refused (base + 4)))
-      go true = refl
-      go false = refl
-  all_is n (bad f) i = refl
+      go : (g : Got X) → walk_of lv g ≡ walk.End v.size v.level → done v.level ≡ levelled lv (all base (length s) g)
+      go (got x m) w = let p : m ≡ v.size = cc in let q : lv x ≡ v.level = cc in rw (eq-eqb m (length s) (p ∙ e)) (ap done (sym q))
+      go (bad f) w = absurd (end_stop (sym w))
 
-  pub whole_read : (length s ≡ 0 → ⊥) → length s ≤ most_bytes → (r t : ℕ) → Told (walk_of lv (read s)) (length s) r t → settled base (length s) r t ≡ levelled lv (read_whole base read s)
-  unfolding read_whole ◌>>◌
-  whole_read h k r t a = rw (lt-ltb 0 (length s) (omega arith), le-leb (length s) most_bytes k, a.size, a.told) (all_is (length s) (read s) a.inside)
+  -- bytes are left over
+  pub whole_left : (length s ≡ 0 → ⊥) → length s ≤ most_bytes → (v : Walked) → Passed (walk_of lv (read s)) (length s) (Ok v) → (v.size ≡ length s → ⊥)
+      → refused (base + 4) ≡ levelled lv (read_whole base read s)
+  unfolding read_whole ◌>>◌ ◌>>=◌ all walk_of
+  whole_left h k v a z = rw (lt-ltb 0 (length s) (omega arith), le-leb (length s) most_bytes k) (go (read s) (sym a.answer))
+    where
+      go : (g : Got X) → walk_of lv g ≡ walk.End v.size v.level → refused (base + 4) ≡ levelled lv (all base (length s) g)
+      go (got x m) w = let p : m ≡ v.size = cc in rw (ne_eqb m (length s) (λ e. z (sym p ∙ e)))
+      go (bad f) w = absurd (end_stop (sym w))
 
--- a fault's number is small
-pub place_small : (w : Walk) (n r t : ℕ) → Told w n r t → r ≡ 0 → t ≤ 3
-place_small (walk.End size lv) n r t a q = absurd (omega (arith, a.size, a.inside))
-place_small (walk.Stop Shape) n r t a q = omega (arith, a.told)
-place_small (walk.Stop Names) n r t a q = omega (arith, a.told)
-place_small (walk.Stop Level) n r t a q = omega (arith, a.told)
+  -- a fault
+  pub whole_fault : (length s ≡ 0 → ⊥) → length s ≤ most_bytes → (f : Fault) → Passed (walk_of lv (read s)) (length s) (Err f) → refused (base + place f) ≡ levelled lv (read_whole base read s)
+  unfolding read_whole ◌>>◌ ◌>>=◌ all walk_of number_of
+  whole_fault h k f a = rw (lt-ltb 0 (length s) (omega arith), le-leb (length s) most_bytes k) (go (read s) (sym a.answer))
+    where
+      go : (g : Got X) → walk_of lv g ≡ walk.Stop f → refused (base + place f) ≡ levelled lv (all base (length s) g)
+      go (got x m) w = absurd (end_stop w)
+      go (bad e) w = rw (stop_is w)
 
--- ---- the outcome after a walk
-module _ (n base size told : ℕ) where
-  pub settled_fault : size ≡ 0 → refused (base + told) ≡ settled base n size told
-  unfolding settled
-  settled_fault e = rw (eq-eqb size 0 e)
+-- ---- a walk's two numbers
+-- a fault's number is from 1 to 3
+pub place_is : (w : Walk) (n r t : ℕ) → Told w n r t → r ≡ 0 → (1 ≤ t) × (t ≤ 3)
+place_is (walk.End size lv) n r t a q = absurd (omega (arith, a.size, a.inside))
+place_is (walk.Stop Shape) n r t a q = (omega (arith, a.told), omega (arith, a.told))
+place_is (walk.Stop Names) n r t a q = (omega (arith, a.told), omega (arith, a.told))
+place_is (walk.Stop Level) n r t a q = (omega (arith, a.told), omega (arith, a.told))
 
-  pub settled_end : (size ≡ 0 → ⊥) → size ≡ n → done told ≡ settled base n size told
-  unfolding settled
-  settled_end z e = rw (ne_eqb size 0 z, eq-eqb size n e)
-
-  pub settled_left : (size ≡ 0 → ⊥) → (size ≡ n → ⊥) → refused (base + 4) ≡ settled base n size told
-  unfolding settled
-  settled_left z e = rw (ne_eqb size 0 z, ne_eqb size n e)
+pub told_passed : (w : Walk) (n r t : ℕ) (x : Result Walked Fault) → Told w n r t → walked x ≡ walk_told r t → Passed w n x
+unfolding walk_told
+told_passed (walk.End size lv) n r t x a e =
+    record { answer = e ∙ rw (a.size, a.told, ne_eqb size 0 (λ z. omega (arith, z, a.inside))); inside = a.inside }
+told_passed (walk.Stop Shape) n r t x a e = record { answer = e ∙ rw (a.size, a.told); inside = tt }
+told_passed (walk.Stop Names) n r t x a e = record { answer = e ∙ rw (a.size, a.told); inside = tt }
+told_passed (walk.Stop Level) n r t x a e = record { answer = e ∙ rw (a.size, a.told); inside = tt }

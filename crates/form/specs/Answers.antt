@@ -1,29 +1,42 @@
--- The answers of the calls, as enums, and what each case means: document 01's number and values.
+-- The answers of the calls: what `Ok` and each refusal means, document 01's number and values.
 -- Assumes nothing.
-use Rattle.std.specs.Prelude.{ℕ, ◌≡◌, Bool, true, false, List, ◌++◌, length, drop}
+use Rattle.std.specs.Prelude.{ℕ, ◌≡◌, List, ◌++◌, length, drop}
+use Rattle.std.specs.declared.result.Result.{Result}
+use Rattle.std.specs.declared.result.Result.TheVariants.{Ok, Err}
 use Rattle.form.specs.Outcome.{Outcome, done, refused, ◌>>=◌}
-use Rattle.form.specs.declared.Checked.{Checked}
-use Rattle.form.specs.declared.Checked.TheVariants as checked_is
-use Rattle.form.specs.declared.Verdict.{Verdict}
-use Rattle.form.specs.declared.Verdict.TheVariants as verdict_is
-use Rattle.form.specs.declared.Written.{Written}
-use Rattle.form.specs.declared.Written.TheVariants as written_is
+use Rattle.form.specs.declared.refusals.Refusal.{Refusal}
+use Rattle.form.specs.declared.refusals.Refusal.TheVariants as refusal_is
 
--- accepted, with its level
-abbrev pub checked : Checked → Outcome ℕ
-checked (checked_is.Accepted level) = done level
-checked (checked_is.Refused n) = refused n
+-- document 01's number of a refusal
+abbrev pub number : Refusal → ℕ
+number refusal_is.ValueLength = 1
+number refusal_is.ValueShape = 2
+number refusal_is.ValueNames = 3
+number refusal_is.ValueLevel = 4
+number refusal_is.ValueLeftOver = 5
+number refusal_is.TypeLength = 6
+number refusal_is.TypeShape = 7
+number refusal_is.TypeNames = 8
+number refusal_is.TypeLevel = 9
+number refusal_is.TypeLeftOver = 10
+number refusal_is.PathLength = 11
+number refusal_is.NotContext = 12
+number refusal_is.NotData = 13
+number refusal_is.Scratch = 14
+number refusal_is.NotRetrieved = 15
+number refusal_is.NotApplied = 16
+number refusal_is.ResultSize = 17
+number refusal_is.Output = 18
+number refusal_is.Texts = 19
+number refusal_is.NoSuchName = 20
+number refusal_is.Table = 26
+number refusal_is.NotOrdered = 27
+number refusal_is.NoJoin = 28
 
--- yes or no
-abbrev pub verdict : Verdict → Outcome Bool
-verdict verdict_is.Yes = done true
-verdict verdict_is.No = done false
-verdict (verdict_is.Refused n) = refused n
-
--- the length of the answer that was written
-abbrev pub written : Written → Outcome ℕ
-written (written_is.Bytes n) = done n
-written (written_is.Refused n) = refused n
+-- what a call answers: the level, yes or no, or the length of what it wrote; or the number of the refusal
+abbrev pub outcome : {X : Type 0} → Result X Refusal → Outcome X
+outcome (Ok x) = done x
+outcome (Err refusal) = refused (number refusal)
 
 -- ---- the output of a call that builds
 -- `bs` over the front of `old`
@@ -42,6 +55,6 @@ length_of o = do
   done (length bs)
 
 -- what a call that builds owes, `o` being its definition, `old` and `new` the output before and after
-pub record Built (o : Outcome (List ℕ)) (old new : List ℕ) (r : Written) : Type 0 where
-  pub answer : written r ≡ length_of o
+pub record Built (o : Outcome (List ℕ)) (old new : List ℕ) (r : Result ℕ Refusal) : Type 0 where
+  pub answer : outcome r ≡ length_of o
   pub output : new ≡ leaves o old

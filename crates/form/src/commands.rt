@@ -116,12 +116,12 @@ pub fn width(c: u8) -> usize
 
 // ---- leaves
 
-// The size of a leaf of data by its command, 0 for every other command.
-pub fn leaf_size(c: u8) -> usize
-    ensures { result ≡ pick (is_leaf_command c) (width_of c + 1) 0 }
+// The size of a leaf of data by its command.
+pub fn leaf_size(c: u8) -> Option<usize>
+    ensures { result ≡ pick (is_leaf_command c) (Some (width_of c + 1)) None }
 {
     let w = leaf_width(c);
-    if w == NO_WIDTH { 0 } else { w + 1 }
+    if w == NO_WIDTH { None } else { Some(w + 1) }
 }
 
 // The command of a leaf's type by its own command, 0 for every other command.

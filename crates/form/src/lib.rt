@@ -4,7 +4,7 @@
 ghost use Rattle.std.specs.Prelude.{◌≡◌, ◌-◌, ◌<◌};
 ghost use Rattle.form.specs.Form.{level, Bytes};
 ghost use Rattle.form.specs.Read.{check_type, check_value};
-ghost use Rattle.form.specs.Answers.{checked};
+ghost use Rattle.form.specs.Answers.{outcome};
 
 pub mod bytes;
 pub mod commands;
@@ -13,59 +13,36 @@ pub mod refusals;
 pub mod walk;
 
 use crate::limits::{MOST_BYTES, TYPE_LEVELS, VALUE_LEVELS};
-
-// What a reader of a whole answers: its level, or the number of the refusal.
-#[derive(Drop)]
-pub enum Checked {
-    Accepted { level: usize },
-    Refused(u8),
-}
-
-// What a call that judges answers.
-#[derive(Drop)]
-pub enum Verdict {
-    Yes,
-    No,
-    Refused(u8),
-}
-
-// What a call that builds answers: the length of what it wrote.
-#[derive(Drop)]
-pub enum Written {
-    Bytes(usize),
-    Refused(u8),
-}
+pub use refusals::Refusal;
 
 // ---- the whole
 
 // The reader of a whole type: its level, or refusal 6 to 10.
-pub fn check_type(s: &[u8]) -> Checked
-    ensures result_value { checked result ≡ check_type s.now }
+pub fn check_type(s: &[u8]) -> Result<usize, Refusal>
+    ensures result_value { outcome result ≡ check_type s.now }
     ensures bytes { Bytes s.now }
 {
-    if s.len() == 0 {
-        return Checked::Refused(refusals::TYPE);
+    if s.is_empty() || MOST_BYTES < s.len() {
+        return Err(Refusal::TypeLength);
     }
-    if MOST_BYTES < s.len() {
-        return Checked::Refused(refusals::TYPE);
+    match walk::pass_type(s, TYPE_LEVELS) {
+        Ok(whole) if whole.size == s.len() => Ok(whole.level),
+        Ok(_) => Err(Refusal::TypeLeftOver),
+        Err(fault) => Err(fault.of_type()),
     }
-    let mut told: usize = 0;
-    let size = walk::walk_type(s, TYPE_LEVELS, &mut told);
-    walk::settle(size, told, s.len(), refusals::TYPE)
 }
 
 // The reader of a whole value: its level, or refusal 1 to 5.
-pub fn check_value(s: &[u8]) -> Checked
-    ensures result_value { checked result ≡ check_value s.now }
+pub fn check_value(s: &[u8]) -> Result<usize, Refusal>
+    ensures result_value { outcome result ≡ check_value s.now }
     ensures bytes { Bytes s.now }
 {
-    if s.len() == 0 {
-        return Checked::Refused(refusals::VALUE);
+    if s.is_empty() || MOST_BYTES < s.len() {
+        return Err(Refusal::ValueLength);
     }
-    if MOST_BYTES < s.len() {
-        return Checked::Refused(refusals::VALUE);
+    match walk::pass_value(s, VALUE_LEVELS) {
+        Ok(whole) if whole.size == s.len() => Ok(whole.level),
+        Ok(_) => Err(Refusal::ValueLeftOver),
+        Err(fault) => Err(fault.of_value()),
     }
-    let mut told: usize = 0;
-    let size = walk::walk_value(s, VALUE_LEVELS, &mut told);
-    walk::settle(size, told, s.len(), refusals::VALUE)
 }

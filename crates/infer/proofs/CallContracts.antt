@@ -1,11 +1,11 @@
 -- The calls behind the reader: refusals in their order, and the answer from the scratch.
 -- Idea: a value's type is no longer than the value, so a scratch of four times its length is enough.
--- Index: `Fine`, `fine`, `fine_ok` (an accepted value); `ask`, `build_long`, `build_scratch`, `build_ask`, `build_inside`, `build_short`, `build_done` (`build_with`);
+-- Index: `Fine`, `fine`, `fine_ok` (an accepted value); `ask`, `build_long`, `build_scratch`, `build_ask`, `build_inside`, `build_given` (`build_with`);
 -- `type_refused`, `type_done`, `least_refused`, `is_data_lem`, `least_other`, `least_done` (the calls).
 -- Assumes nothing.
 use Prim.Native.Nat.{ℕ, ◌*◌, ◌<◌, ◌≤◌}
 use mathlib.Core.Path.{◌≡◌, refl, sym, ap, subst, ◌∙◌}
-use mathlib.Core.Bool.{Bool, true, false, cond}
+use mathlib.Core.Bool.{Bool, true, false}
 use mathlib.Core.Option.{Option, some}
 use mathlib.Core.List.{List, [], append-nil}
 use native.Mathlib.Omega.{arith}
@@ -16,9 +16,13 @@ use Rattle.form.specs.Trees.{Val}
 use Rattle.form.specs.Form.{Bytes, enc, enc_v, level_v, WfV}
 use Rattle.form.specs.Outcome.{Outcome, done, refused, ◌>>=◌, ◌>>◌, fits}
 use Rattle.form.specs.Read.{read_v, read_value, check_value}
-use Rattle.form.specs.Answers.{onto, Built}
-use Rattle.form.specs.declared.Written.{Written}
-use Rattle.form.specs.declared.Written.TheVariants as written_is
+use Rattle.form.specs.Answers.{number, onto, Built}
+use Rattle.std.specs.declared.option.Option.{Option as Maybe}
+use Rattle.std.specs.Option.{is_some}
+use Rattle.std.specs.declared.result.Result.{Result}
+use Rattle.std.specs.declared.result.Result.TheVariants.{Err}
+use Rattle.form.specs.declared.refusals.Refusal.{Refusal}
+use Rattle.form.specs.declared.refusals.Refusal.TheVariants.{Scratch, NotData}
 use Rattle.form.specs.ByteForm.{Accepted}
 use Rattle.form.proofs.ExactValues.{read_enc_v}
 use Rattle.form.proofs.Values.{value_told, value_accepted}
@@ -29,13 +33,12 @@ use Rattle.order.proofs.LeastSize.{length_enc_v}
 use Rattle.types.specs.At.{Ok}
 use Rattle.types.proofs.Reading.{got_seen, is_ok}
 use Rattle.values.specs.At.{value_at}
-use Rattle.output.proofs.Outcomes.{built_refused, built_short, built_wrote}
+use Rattle.values.proofs.CallContracts.{value_refused}
+use Rattle.output.proofs.Outcomes.{built_refused}
 use Rattle.output.proofs.OntoLaws.{onto_front}
 use Rattle.infer.specs.Typing.{data_by, type_by, Fits, Fitting, FitVal, Starts, Wrote, Typed, type_text}
 use Rattle.infer.specs.Calls.{wanted, least_type_by, type_of_call, ReadyFor, Ready, type_call}
-use Rattle.infer.specs.declared.data.Data.{Data}
-use Rattle.infer.specs.declared.data.Data.TheVariants.{Yes, No}
-use Rattle.infer.proofs.OnlyData.{told_yes, told_no, by_got}
+use Rattle.infer.proofs.OnlyData.{told, some_told, by_got}
 
 -- a value that was accepted
 pub record Fine (s : List ℕ) : Type 0 where
@@ -55,21 +58,21 @@ fine_of s bs v e =
     let A = value_accepted s bs v e in
     record { v = v; reads = e; there = there_is s v A; sized = sym (length_enc_v v) ∙ ap length (sym A.bytes); well = A.well; short = A.short }
 
-pub fine : (s : List ℕ) (n : ℕ) → Bytes s → check_value s ≡ done n → Fine s
-fine s n bs e = let T = value_told s bs n e in fine_of s bs T.tree T.reads
+pub fine : (s : List ℕ) (n : ℕ) → Bytes s → done n ≡ check_value s → Fine s
+fine s n bs e = let T = value_told s bs n (sym e) in fine_of s bs T.tree T.reads
 
 pub fine_ok : {s : List ℕ} (F : Fine s) → Ok (value_at value_levels s)
 fine_ok {s} F = is_ok (value_at value_levels s) F.v F.there
 
 -- ---- the calls
-pub type_refused : (s : List ℕ) (n k : ℕ) (old : List ℕ) → read_value s ≡ refused n → Built (type_of_call s k (length old)) old old (written_is.Refused n)
+pub type_refused : (s : List ℕ) (r : Refusal) (k : ℕ) (old : List ℕ) → refused (number r) ≡ check_value s → Built (type_of_call s k (length old)) old old (Err r)
 unfolding type_of_call ◌>>=◌
-type_refused s n k old e = built_refused (type_of_call s k (length old)) n old is
+type_refused s r k old e = built_refused (type_of_call s k (length old)) r old is
   where
-    is : type_of_call s k (length old) ≡ refused n
-    is = rw e
+    is : type_of_call s k (length old) ≡ refused (number r)
+    is = rw (value_refused s (number r) e)
 
-pub type_done : (s : List ℕ) (k : ℕ) (old new : List ℕ) (r : Written) → Built (type_call fixed false s k (length old)) old new r → Built (type_of_call s k (length old)) old new r
+pub type_done : (s : List ℕ) (k : ℕ) (old new : List ℕ) (r : Result ℕ Refusal) → Built (type_call fixed false s k (length old)) old new r → Built (type_of_call s k (length old)) old new r
 unfolding type_call type_of_call
 type_done s k old new r b = b
 
@@ -102,9 +105,9 @@ module _ (O : Order) where
     pub build_long : length s ≤ most_bytes
     build_long = F.short
 
-    pub build_scratch : k < 4 * length s → Built (type_call O least s k (length old)) old old (written_is.Refused 14)
+    pub build_scratch : k < 4 * length s → Built (type_call O least s k (length old)) old old (Err Scratch)
     unfolding type_call ◌>>=◌ ◌>>◌
-    build_scratch l = built_refused (type_call O least s k (length old)) 14 old is
+    build_scratch l = built_refused (type_call O least s k (length old)) Scratch old is
       where
         is : type_call O least s k (length old) ≡ refused 14
         is = rw (F.reads, lt-leb (wanted s) k l)
@@ -131,35 +134,35 @@ module _ (O : Order) where
         unfolding Starts onto
         build_inside = omega (arith, W.long, ap length W.out, length-append (enc (type_by O least F.v)) (drop (length (enc (type_by O least F.v))) sc2))
 
-        pub build_short : length old < w → Built (type_call O least s k (length old)) old old (written_is.Refused 18)
-        build_short b = built_short (type_call O least s k (length old)) (enc (type_by O least F.v)) old call_is (omega (arith, W.long))
+        -- what stands in the scratch is handed on
+        pub build_given : (new : List ℕ) (r : Result ℕ Refusal) → Built (fits (length old) (take w sc2)) old new r → Built (type_call O least s k (length old)) old new r
+        build_given new r h = subst (λ o. Built o old new r) (ap (fits (length old)) part ∙ sym call_is) h
 
-        pub build_done : (new : List ℕ) → w ≤ length old → new ≡ onto (take w sc2) old → Built (type_call O least s k (length old)) old new (written_is.Bytes w)
-        build_done new b o = built_wrote (type_call O least s k (length old)) (enc (type_by O least F.v)) old new w call_is W.long (omega (arith, W.long))
-            (o ∙ ap (λ (z : List ℕ). onto z old) part)
-
-  pub least_refused : (s : List ℕ) (n k : ℕ) (old : List ℕ) → read_value s ≡ refused n → Built (least_type_by O s k (length old)) old old (written_is.Refused n)
+  pub least_refused : (s : List ℕ) (r : Refusal) (k : ℕ) (old : List ℕ) → refused (number r) ≡ check_value s → Built (least_type_by O s k (length old)) old old (Err r)
   unfolding least_type_by ◌>>=◌
-  least_refused s n k old e = built_refused (least_type_by O s k (length old)) n old is
+  least_refused s r k old e = built_refused (least_type_by O s k (length old)) r old is
     where
-      is : least_type_by O s k (length old) ≡ refused n
-      is = rw e
+      is : least_type_by O s k (length old) ≡ refused (number r)
+      is = rw (value_refused s (number r) e)
 
-  module _ (s : List ℕ) (F : Fine s) (d : Data) (e : d ≡ data_by (is_data_by O) size_val (value_at value_levels s)) where
-    is_told : d ≡ cond (is_data_by O F.v) (Yes (size_val F.v)) No
+  module _ (s : List ℕ) (F : Fine s) (d : Maybe ℕ) (e : d ≡ data_by (is_data_by O) size_val (value_at value_levels s)) where
+    is_told : d ≡ told (is_data_by O F.v) (size_val F.v)
     is_told = e ∙ by_got (is_data_by O) size_val (value_at value_levels s) F.v F.there
 
-    pub is_data_lem : (n : ℕ) → d ≡ Yes n → is_data_by O F.v ≡ true
-    is_data_lem n p = (told_yes (is_data_by O F.v) (size_val F.v) n (sym is_told ∙ p)).0
+    some_is_data : is_some d ≡ is_data_by O F.v
+    some_is_data = ap is_some is_told ∙ some_told (is_data_by O F.v) (size_val F.v)
 
-    pub least_other : d ≡ No → (k : ℕ) (old : List ℕ) → Built (least_type_by O s k (length old)) old old (written_is.Refused 13)
+    pub is_data_lem : is_some d ≡ true → is_data_by O F.v ≡ true
+    is_data_lem p = sym some_is_data ∙ p
+
+    pub least_other : is_some d ≡ false → (k : ℕ) (old : List ℕ) → Built (least_type_by O s k (length old)) old old (Err NotData)
     unfolding least_type_by ◌>>=◌ ◌>>◌
-    least_other p k old = built_refused (least_type_by O s k (length old)) 13 old is
+    least_other p k old = built_refused (least_type_by O s k (length old)) NotData old is
       where
         is : least_type_by O s k (length old) ≡ refused 13
-        is = rw (F.reads, told_no (is_data_by O F.v) (size_val F.v) (sym is_told ∙ p))
+        is = rw (F.reads, sym some_is_data ∙ p)
 
-  pub least_done : (s : List ℕ) (F : Fine s) → is_data_by O F.v ≡ true → (k : ℕ) (old new : List ℕ) (r : Written) → Built (type_call O true s k (length old)) old new r
+  pub least_done : (s : List ℕ) (F : Fine s) → is_data_by O F.v ≡ true → (k : ℕ) (old new : List ℕ) (r : Result ℕ Refusal) → Built (type_call O true s k (length old)) old new r
       → Built (least_type_by O s k (length old)) old new r
   unfolding type_call least_type_by ◌>>=◌ ◌>>◌
   least_done s F h k old new r b = subst (λ o. Built o old new r) is b

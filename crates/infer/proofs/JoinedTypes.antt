@@ -1,14 +1,16 @@
 -- Two types that stand one behind the other, joined at the front.
 -- Idea: equal types stay as they are; for the least type their common supertype is written, for the inferred one the first type is kept or Any written.
--- Index: `kept_equal`, `kept_conforms`, `kept_not` (`keeps`); `join_ask`, `keeps_ask`, `sup_inside`, `joined_super`, `joined_first`, `joined_same`, `joined_any` (`join`);
+-- Index: `kept_equal`, `kept_by` (`keeps`); `join_ask`, `keeps_ask`, `sup_inside`, `joined_super`, `joined_first`, `joined_same`, `joined_any` (`join`);
 -- `Two`, `two`, `both_inside`, `first_byte`, `onto_again`, `starts_taken`.
 -- Assumes nothing.
 use Prim.Native.Nat.{ℕ, ◌+◌, ◌-◌, ◌<◌, ◌≤◌}
 use mathlib.Core.Path.{◌≡◌, refl, sym, ap, subst, ◌∙◌}
-use mathlib.Core.Bool.{Bool, true, false, cond}
+use mathlib.Core.Bool.{Bool, true, false, cond, not}
 use mathlib.Core.Option.{Option, none, some}
 use mathlib.Core.List.{List, [], ◌∷◌, ◌++◌}
 use native.Mathlib.Omega.{arith}
+use lib.Dec.{eqb}
+use borrow.Author.Tests.{eqb-true, eqb-false}
 use lib.ListN.{length, take, drop, set, length-set, take-append-drop}
 use lib.Seq.{drop-append_seam}
 use Rattle.form.specs.Limits.{type_levels}
@@ -116,15 +118,12 @@ module _ (s : List ℕ) (n m spare : ℕ) (h : Sides (type_at type_levels s) (ty
     told : Met (conform_of fixed (type_at type_levels (drop n s)) (type_at type_levels s)) r t
     told = rw (rest s n) at w
 
-    pub kept_conforms : (r ≡ 0 → ⊥) → Kept q (type_at type_levels s) (type_at type_levels (drop n s)) true
-    kept_conforms z =
-        is_kept (type_at type_levels s) (type_at type_levels (drop n s)) T.t T.u q true T.read_t_lem T.read_u
-        (sym (told_yes size size conforms_to size_positive r t told T.u T.t T.read_u T.read_t_lem z).0 ∙ ap (λ z. keeps_first z T.t T.u) (sym e))
-
-    pub kept_not : r ≡ 0 → Kept q (type_at type_levels s) (type_at type_levels (drop n s)) false
-    kept_not z =
-        is_kept (type_at type_levels s) (type_at type_levels (drop n s)) T.t T.u q false T.read_t_lem T.read_u
-        (sym (told_no size size conforms_to size_positive r t told T.u T.t T.read_u T.read_t_lem z) ∙ ap (λ z. keeps_first z T.t T.u) (sym e))
+    pub kept_by : Kept q (type_at type_levels s) (type_at type_levels (drop n s)) (not (eqb r 0))
+    kept_by = is_kept (type_at type_levels s) (type_at type_levels (drop n s)) T.t T.u q (not (eqb r 0)) T.read_t_lem T.read_u (go (eqb r 0) refl ∙ ap (λ z. keeps_first z T.t T.u) (sym e))
+      where
+        go : (b : Bool) → eqb r 0 ≡ b → not b ≡ conforms_to T.u T.t
+        go true z = sym (told_no size size conforms_to size_positive r t told T.u T.t T.read_u T.read_t_lem (eqb-true r 0 z))
+        go false z = sym (told_yes size size conforms_to size_positive r t told T.u T.t T.read_u T.read_t_lem (eqb-false r 0 z)).0
 
   -- ---- `join`
   pub keeps_ask : Sides (type_at type_levels s) (type_at type_levels (drop n s)) s n m (n + m)

@@ -1,13 +1,18 @@
 -- Whether a value is data, item by item and entry by entry.
 -- Idea: the answer to all items or entries is the answer to those that are left, behind what was passed.
 -- Index: `ItemsInv`, `items_start`, `items_again`, `items_no`, `items_done`, `items_leaf` (items); `EntriesInv`, `entries_start`, `entries_again`, `entries_no`, `entries_done`, `entries_leaf`
--- (entries); `leaf_done`, `definition_done`, `definition_no`, `other_done`, `ranges`, `lists`, `contexts`, `run_ok`, `run_done` (a value by its command); `plain`, `same_key` (`leaf`).
+-- (entries); `leaf_done`, `definition_done`, `definition_no`, `other_done`, `ranges`, `lists`, `contexts`, `run_ok`, `run_done`, `run_no` (a value by its command); `plain`, `same_key` (`leaf`);
+-- `told`, `some_told`, `by_got`.
 -- Assumes nothing.
 use Prim.Native.Nat.{ℕ, suc, ◌+◌, ◌-◌, ◌<◌, ◌≤◌}
 use mathlib.Core.Path.{◌≡◌, refl, sym, ap, subst, ◌∙◌}
 use mathlib.Core.Bool.{Bool, true, false, cond, ◌&&◌}
 use mathlib.Core.Option.{Option, some}
 use mathlib.Core.List.{List}
+use Rattle.std.specs.declared.option.Option.{Option as Maybe}
+use Rattle.std.specs.declared.option.Option.TheVariants.{None, Some}
+use Rattle.std.specs.Prelude.{MatchOption}
+use Rattle.std.specs.Option.{is_some}
 use native.Mathlib.Omega.{arith}
 use lib.ListN.{length, get_or, take, drop}
 use Rattle.form.specs.Trees.{Val, Vals, no_items, item, Entries}
@@ -17,6 +22,7 @@ use Rattle.form.specs.Form.{num_at}
 use Rattle.form.specs.Layout.{ValueKind, k_range, k_list, k_context, k_definition, width_of, is_leaf_command}
 use Rattle.form.proofs.CommandKinds.{key_width, leaf_wide, leaf_low}
 use Rattle.form.proofs.Runs.{rest}
+use Rattle.form.proofs.Some.{some_is, some_none}
 use Rattle.order.specs.Order.{Order}
 use Rattle.order.specs.Size.{size_val, size_vals, size_entries}
 use Rattle.order.specs.Values.{is_data_by, are_data, hold_data}
@@ -28,22 +34,21 @@ use Rattle.values.proofs.Reading.{IsVal, is_null_lem, is_boolean_lem, is_number,
 use Rattle.values.proofs.Reading.{is_context_lem, is_definition_lem, is_built_in_lem, is_type_lem, is_irrelevant_lem, is_decimal_lem}
 use Rattle.values.proofs.Reading.{is_val, as_leaf, as_range, as_list, as_context, as_definition, some_byte, some_level, v_inside, items_inside, entries_inside, Nth, nth, no_nth}
 use Rattle.values.proofs.EntriesAt.{This, this, none_left}
-use Rattle.infer.specs.Typing.{data_by, add_size, Plain}
-use Rattle.infer.specs.declared.data.Data.{Data}
-use Rattle.infer.specs.declared.data.Data.TheVariants.{Yes, No}
+use Rattle.infer.specs.Typing.{data_by, Plain}
 
-abbrev told : Bool → ℕ → Data
-told q n = cond q (Yes n) No
+abbrev pub told : Bool → ℕ → Maybe ℕ
+told q n = cond q (Some n) None
 
-yes_no : {n : ℕ} → Yes n ≡ No → ⊥
-yes_no p = let z : ◌≡◌ {A = ℕ} 0 1 = cc in omega arith
+pub some_told : (q : Bool) (n : ℕ) → is_some (told q n) ≡ q
+some_told true n = refl
+some_told false n = refl
 
-pub told_yes : (q : Bool) (n x : ℕ) → told q n ≡ Yes x → (q ≡ true) × (n ≡ x)
-told_yes true n x e = (refl, cc)
-told_yes false n x e = absurd (yes_no (sym e))
+told_yes : (q : Bool) (n x : ℕ) → told q n ≡ Some x → (q ≡ true) × (n ≡ x)
+told_yes true n x e = (refl, some_is e)
+told_yes false n x e = absurd (some_none (sym e))
 
-pub told_no : (q : Bool) (n : ℕ) → told q n ≡ No → q ≡ false
-told_no true n e = absurd (yes_no e)
+told_no : (q : Bool) (n : ℕ) → told q n ≡ None → q ≡ false
+told_no true n e = absurd (some_none e)
 told_no false n e = refl
 
 pub by_got : {X : Type 0} (test : X → Bool) (sz : X → ℕ) (r : Option X) (x : X) → r ≡ some x → data_by test sz r ≡ told (test x) (sz x)
@@ -51,23 +56,22 @@ unfolding data_by
 by_got test sz r x e = ap (data_by test sz) e
 
 -- a child that is data, or is not, and the others
-and_data : (q s : Bool) (n x at m : ℕ) → told q n ≡ Yes x → told (q && s) (at + (n + m)) ≡ told s (at + x + m)
+and_data : (q s : Bool) (n x at m : ℕ) → told q n ≡ Some x → told (q && s) (at + (n + m)) ≡ told s (at + x + m)
 and_data q s n x at m e = let d = told_yes q n x e in ap (λ b. told (b && s) (at + (n + m))) d.0 ∙ ap (told s) (omega (arith, d.1))
 
-and_no : (q s : Bool) (n k : ℕ) → told q n ≡ No → told (q && s) k ≡ No
+and_no : (q s : Bool) (n k : ℕ) → told q n ≡ None → told (q && s) k ≡ None
 and_no q s n k e = ap (λ b. told (b && s) k) (told_no q n e)
 
--- a leaf c, and no null: the size n of the command k, which has the width of c
-pub plain : (c k n : ℕ) → n ≡ pick (is_leaf_command k) (width_of k + 1) 0 → width_of c ≡ width_of k → k < 9 → 0 < c → c < 9 → (0 < n → Plain c n) × (n ≡ 0 → 0 < c → 9 ≤ c)
-plain c k n e w l z h =
-    let s : n ≡ width_of k + 1 = leaf_wide k n e (leaf_low k l) in
-    (λ p. record { some = z; low = h; size = omega (arith, s, w) }, λ p q. absurd (omega (arith, s, p)))
+-- a leaf c, and no null: the size of the command k, which has the width of c
+pub plain : (c k : ℕ) (r : Maybe ℕ) → r ≡ pick (is_leaf_command k) (Some (width_of k + 1)) None → width_of c ≡ width_of k → k < 9 → 0 < c → c < 9 → MatchOption r (0 < c → 9 ≤ c) (Plain c)
+plain c k (Some n) e w l z h = record { some = z; low = h; size = omega (arith, leaf_wide k n e (leaf_low k l), w) }
+plain c k None e w l z h = absurd (some_none (sym (e ∙ ap (λ q. pick q (Some (width_of k + 1)) None) (leaf_low k l))))
 
 pub same_key : (c k : ℕ) → 4 ≤ c → c < 9 → 4 ≤ k → k < 9 → width_of c ≡ width_of k
 same_key c k p q r t = key_width c p q ∙ sym (key_width k r t)
 
 -- a run of children behind three bytes, which says all of a parent
-pub record Run {X : Type 0} (test : X → Bool) (sz : X → ℕ) (at : List ℕ → Option X) (s : List ℕ) (W : Data) : Type 0 where
+pub record Run {X : Type 0} (test : X → Bool) (sz : X → ℕ) (at : List ℕ → Option X) (s : List ℕ) (W : Maybe ℕ) : Type 0 where
   pub x : X
   pub three : 3 ≤ length s
   pub read : at (drop 3 s) ≡ some x
@@ -80,22 +84,25 @@ and_true true false = refl
 and_true false b = refl
 
 -- what a callee on the run asks and answers
-module _ {X : Type 0} {test : X → Bool} {sz : X → ℕ} {at : List ℕ → Option X} {s : List ℕ} {W : Data} (R : Run test sz at s W) where
+module _ {X : Type 0} {test : X → Bool} {sz : X → ℕ} {at : List ℕ → Option X} {s : List ℕ} {W : Maybe ℕ} (R : Run test sz at s W) where
   pub run_ok : Ok (at (take (length s - 3) (drop 3 s)))
   run_ok = rw (rest s 3) (is_ok (at (drop 3 s)) R.x R.read)
 
-  run_told : (d : Data) → d ≡ data_by test sz (at (take (length s - 3) (drop 3 s))) → d ≡ told (test R.x) (sz R.x)
+  run_told : (d : Maybe ℕ) → d ≡ data_by test sz (at (take (length s - 3) (drop 3 s))) → d ≡ told (test R.x) (sz R.x)
   run_told d e = e ∙ ap (λ r. data_by test sz (at r)) (rest s 3) ∙ by_got test sz (at (drop 3 s)) R.x R.read
 
-  pub run_fits : (d : Data) → d ≡ data_by test sz (at (take (length s - 3) (drop 3 s))) → (y : ℕ) → d ≡ Yes y → y + 3 ≤ length s
-  run_fits d e y q = omega (arith, R.fits, (told_yes (test R.x) (sz R.x) y (sym (run_told d e) ∙ q)).1)
+  module _ (y : ℕ) (e : Some y ≡ data_by test sz (at (take (length s - 3) (drop 3 s)))) where
+    run_yes : (test R.x ≡ true) × (sz R.x ≡ y)
+    run_yes = told_yes (test R.x) (sz R.x) y (sym (run_told (Some y) e))
 
-  pub run_done : (d r : Data) → r ≡ add_size 3 d → d ≡ data_by test sz (at (take (length s - 3) (drop 3 s))) → r ≡ W
-  run_done d r q e = q ∙ ap (add_size 3) (run_told d e) ∙ grown_told (test R.x) (sz R.x) ∙ sym R.whole
-    where
-      grown_told : (b : Bool) (n : ℕ) → add_size 3 (told b n) ≡ told b (n + 3)
-      grown_told true n = refl
-      grown_told false n = refl
+    pub run_fits : y + 3 ≤ length s
+    run_fits = omega (arith, R.fits, run_yes.1)
+
+    pub run_done : Some (y + 3) ≡ W
+    run_done = sym (R.whole ∙ ap (λ b. told b (sz R.x + 3)) run_yes.0 ∙ ap (λ (n : ℕ). Some (n + 3)) run_yes.1)
+
+  pub run_no : None ≡ data_by test sz (at (take (length s - 3) (drop 3 s))) → None ≡ W
+  run_no e = sym (R.whole ∙ ap (λ b. told b (sz R.x + 3)) (told_no (test R.x) (sz R.x) (sym (run_told None e))))
 
 -- what remains of n items from `at` on, i of them being passed
 pub record ItemsInv (O : Order) (l : ℕ) (v : List ℕ) (n at i : ℕ) : Type 0 where
@@ -132,11 +139,11 @@ module _ {O : Order} {l : ℕ} {v : List ℕ} {n at i : ℕ} (I : ItemsInv O l v
   pub items_end : at ≤ length v
   items_end = omega (arith, I.inside)
 
-  pub items_done : n ≤ i → Yes at ≡ data_by (are_data O) size_vals (items_at l n v)
+  pub items_done : n ≤ i → Some at ≡ data_by (are_data O) size_vals (items_at l n v)
   unfolding are_data size_val
   items_done h =
       let e = no_nth l i n at v I.more h I.read in
-      let p : told (are_data O I.more) (at + size_vals I.more) ≡ Yes at = ap (λ vs. told (are_data O vs) (at + size_vals vs)) e ∙ ap Yes (omega arith) in
+      let p : told (are_data O I.more) (at + size_vals I.more) ≡ Some at = ap (λ vs. told (are_data O vs) (at + size_vals vs)) e ∙ ap Some (omega arith) in
       sym (I.whole ∙ p)
 
   module _ (h : i < n) where
@@ -147,7 +154,7 @@ module _ {O : Order} {l : ℕ} {v : List ℕ} {n at i : ℕ} (I : ItemsInv O l v
     items_ok = rw (rest v at) (is_ok (value_at l (drop at v)) next.x next.first)
 
     -- the child's answer
-    item_told : (r : Data) → r ≡ data_by (is_data_by O) size_val (value_at l (take (length v - at) (drop at v))) → r ≡ told (is_data_by O next.x) (size_val next.x)
+    item_told : (r : Maybe ℕ) → r ≡ data_by (is_data_by O) size_val (value_at l (take (length v - at) (drop at v))) → r ≡ told (is_data_by O next.x) (size_val next.x)
     item_told r e = e ∙ ap (λ s. data_by (is_data_by O) size_val (value_at l s)) (rest v at) ∙ by_got (is_data_by O) size_val (value_at l (drop at v)) next.x next.first
 
     item_whole : (data_by (are_data O) size_vals (items_at l n v) ≡ told (is_data_by O next.x && are_data O next.more) (at + (size_val next.x + size_vals next.more))) ×
@@ -155,22 +162,22 @@ module _ {O : Order} {l : ℕ} {v : List ℕ} {n at i : ℕ} (I : ItemsInv O l v
     unfolding are_data size_val
     item_whole = (I.whole ∙ ap (λ vs. told (are_data O vs) (at + size_vals vs)) next.is, subst (λ vs. at + size_vals vs ≤ length v) next.is I.inside)
 
-    pub items_no : (r : Data) → r ≡ No → r ≡ data_by (is_data_by O) size_val (value_at l (take (length v - at) (drop at v))) → No ≡ data_by (are_data O) size_vals (items_at l n v)
-    items_no r p e = sym (item_whole.0 ∙ and_no (is_data_by O next.x) (are_data O next.more) (size_val next.x) (at + (size_val next.x + size_vals next.more)) (sym (item_told r e) ∙ p))
+    pub items_no : None ≡ data_by (is_data_by O) size_val (value_at l (take (length v - at) (drop at v))) → None ≡ data_by (are_data O) size_vals (items_at l n v)
+    items_no e = sym (item_whole.0 ∙ and_no (is_data_by O next.x) (are_data O next.more) (size_val next.x) (at + (size_val next.x + size_vals next.more)) (sym (item_told None e)))
 
-    pub items_fit : (r : Data) (x : ℕ) → r ≡ Yes x → r ≡ data_by (is_data_by O) size_val (value_at l (take (length v - at) (drop at v))) → at + x ≤ length v
-    items_fit r x p e = omega (arith, (told_yes (is_data_by O next.x) (size_val next.x) x (sym (item_told r e) ∙ p)).1, item_whole.1)
+    pub items_fit : (x : ℕ) → Some x ≡ data_by (is_data_by O) size_val (value_at l (take (length v - at) (drop at v))) → at + x ≤ length v
+    items_fit x e = omega (arith, (told_yes (is_data_by O next.x) (size_val next.x) x (sym (item_told (Some x) e))).1, item_whole.1)
 
-    pub items_again : (r : Data) (x : ℕ) → r ≡ Yes x → r ≡ data_by (is_data_by O) size_val (value_at l (take (length v - at) (drop at v))) → ItemsInv O l v n (at + x) (i + 1)
-    items_again r x p e =
-        let d = told_yes (is_data_by O next.x) (size_val next.x) x (sym (item_told r e) ∙ p) in
+    pub items_again : (x : ℕ) → Some x ≡ data_by (is_data_by O) size_val (value_at l (take (length v - at) (drop at v))) → ItemsInv O l v n (at + x) (i + 1)
+    items_again x e =
+        let d = told_yes (is_data_by O next.x) (size_val next.x) x (sym (item_told (Some x) e)) in
         let w = item_whole in
         record {
           more = next.more;
           read = ap (λ k. items_at l (n - (i + 1)) (drop (at + k) v)) (sym d.1) ∙ next.second;
           here = omega arith;
           inside = omega (arith, d.1, w.1);
-          whole = w.0 ∙ and_data (is_data_by O next.x) (are_data O next.more) (size_val next.x) x at (size_vals next.more) (sym (item_told r e) ∙ p);
+          whole = w.0 ∙ and_data (is_data_by O next.x) (are_data O next.more) (size_val next.x) x at (size_vals next.more) (sym (item_told (Some x) e));
         }
 
 -- ---- entries
@@ -189,11 +196,11 @@ entries_start O l v n h =
     }
 
 module _ {O : Order} {l : ℕ} {v : List ℕ} {n at i : ℕ} (I : EntriesInv O l v n at i) where
-  pub entries_done : n ≤ i → Yes at ≡ data_by (hold_data O) size_entries (entries_at l n 0 v)
+  pub entries_done : n ≤ i → Some at ≡ data_by (hold_data O) size_entries (entries_at l n 0 v)
   unfolding are_data size_val
   entries_done h =
       let e = none_left l i n at I.k v I.more h I.read in
-      let p : told (hold_data O I.more) (at + size_entries I.more) ≡ Yes at = ap (λ es. told (hold_data O es) (at + size_entries es)) e ∙ ap Yes (omega arith) in
+      let p : told (hold_data O I.more) (at + size_entries I.more) ≡ Some at = ap (λ es. told (hold_data O es) (at + size_entries es)) e ∙ ap Some (omega arith) in
       sym (I.whole ∙ p)
 
   module _ (h : i < n) where
@@ -206,7 +213,7 @@ module _ {O : Order} {l : ℕ} {v : List ℕ} {n at i : ℕ} (I : EntriesInv O l
     pub entries_ok : Ok (value_at l (take (length v - (at + name_width)) (drop (at + name_width) v)))
     entries_ok = entry_ok next_one
 
-    entry_told : (r : Data) → r ≡ data_by (is_data_by O) size_val (value_at l (take (length v - (at + name_width)) (drop (at + name_width) v)))
+    entry_told : (r : Maybe ℕ) → r ≡ data_by (is_data_by O) size_val (value_at l (take (length v - (at + name_width)) (drop (at + name_width) v)))
         → r ≡ told (is_data_by O next_one.x) (size_val next_one.x)
     entry_told r e = e ∙ ap (λ s. data_by (is_data_by O) size_val (value_at l s)) (rest v (at + name_width)) ∙ by_got (is_data_by O) size_val (value_at l (drop (at + name_width) v)) next_one.x
         next_one.first
@@ -216,19 +223,19 @@ module _ {O : Order} {l : ℕ} {v : List ℕ} {n at i : ℕ} (I : EntriesInv O l
     unfolding are_data size_val
     entry_whole = (I.whole ∙ ap (λ es. told (hold_data O es) (at + size_entries es)) next_one.is, subst (λ es. at + size_entries es ≤ length v) next_one.is I.inside)
 
-    pub entries_no : (r : Data) → r ≡ No → r ≡ data_by (is_data_by O) size_val (value_at l (take (length v - (at + name_width)) (drop (at + name_width) v)))
-        → No ≡ data_by (hold_data O) size_entries (entries_at l n 0 v)
-    entries_no r p e = sym (entry_whole.0 ∙ and_no (is_data_by O next_one.x) (hold_data O next_one.more) (size_val next_one.x)
-        (at + (name_width + size_val next_one.x + size_entries next_one.more)) (sym (entry_told r e) ∙ p))
+    pub entries_no : None ≡ data_by (is_data_by O) size_val (value_at l (take (length v - (at + name_width)) (drop (at + name_width) v)))
+        → None ≡ data_by (hold_data O) size_entries (entries_at l n 0 v)
+    entries_no e = sym (entry_whole.0 ∙ and_no (is_data_by O next_one.x) (hold_data O next_one.more) (size_val next_one.x)
+        (at + (name_width + size_val next_one.x + size_entries next_one.more)) (sym (entry_told None e)))
 
-    pub entries_fit : (r : Data) (x : ℕ) → r ≡ Yes x → r ≡ data_by (is_data_by O) size_val (value_at l (take (length v - (at + name_width)) (drop (at + name_width) v)))
+    pub entries_fit : (x : ℕ) → Some x ≡ data_by (is_data_by O) size_val (value_at l (take (length v - (at + name_width)) (drop (at + name_width) v)))
         → at + name_width + x ≤ length v
-    entries_fit r x p e = omega (arith, (told_yes (is_data_by O next_one.x) (size_val next_one.x) x (sym (entry_told r e) ∙ p)).1, entry_whole.1)
+    entries_fit x e = omega (arith, (told_yes (is_data_by O next_one.x) (size_val next_one.x) x (sym (entry_told (Some x) e))).1, entry_whole.1)
 
-    pub entries_again : (r : Data) (x : ℕ) → r ≡ Yes x → r ≡ data_by (is_data_by O) size_val (value_at l (take (length v - (at + name_width)) (drop (at + name_width) v)))
+    pub entries_again : (x : ℕ) → Some x ≡ data_by (is_data_by O) size_val (value_at l (take (length v - (at + name_width)) (drop (at + name_width) v)))
         → EntriesInv O l v n (at + name_width + x) (i + 1)
-    entries_again r x p e =
-        let d = told_yes (is_data_by O next_one.x) (size_val next_one.x) x (sym (entry_told r e) ∙ p) in
+    entries_again x e =
+        let d = told_yes (is_data_by O next_one.x) (size_val next_one.x) x (sym (entry_told (Some x) e)) in
         let w = entry_whole in
         record {
           k = suc next_one.name;
@@ -237,7 +244,7 @@ module _ {O : Order} {l : ℕ} {v : List ℕ} {n at i : ℕ} (I : EntriesInv O l
           here = omega arith;
           inside = omega (arith, d.1, w.1);
           whole = w.0 ∙ ap (told (is_data_by O next_one.x && hold_data O next_one.more)) (omega arith)
-              ∙ and_data (is_data_by O next_one.x) (hold_data O next_one.more) (size_val next_one.x) x (at + name_width) (size_entries next_one.more) (sym (entry_told r e) ∙ p);
+              ∙ and_data (is_data_by O next_one.x) (hold_data O next_one.more) (size_val next_one.x) x (at + name_width) (size_entries next_one.more) (sym (entry_told (Some x) e));
         }
 
 -- ---- a value by its command
@@ -267,7 +274,7 @@ not_data O l s v (is_irrelevant_lem c) h n = refl
 not_data O l s v (is_decimal_lem x p c) h n = absurd (n c)
 
 module _ (O : Order) (l : ℕ) (s : List ℕ) where
-  abbrev W : Data
+  abbrev W : Maybe ℕ
   W = data_by (is_data_by O) size_val (value_at l s)
 
   run_range : {v : Val} → IsVal l s k_range v → size_val v ≤ length s → W ≡ told (is_data_by O v) (size_val v) → Run (are_data O) size_vals (items_at (l - 1) 2) s W
@@ -320,27 +327,27 @@ module _ (O : Order) (l : ℕ) (s : List ℕ) (p : Ok (value_at l s)) where
   whole_is : (v : Val) → value_at l s ≡ some v → data_by (is_data_by O) size_val (value_at l s) ≡ told (is_data_by O v) (size_val v)
   whole_is v e = by_got (is_data_by O) size_val (value_at l s) v e
 
-  pub leaf_done : (w : ℕ) → w ≡ width_of (get_or s 0 0) → is_leaf_command (get_or s 0 0) ≡ true → Yes (w + 1) ≡ data_by (is_data_by O) size_val (value_at l s)
+  pub leaf_done : (w : ℕ) → w ≡ width_of (get_or s 0 0) → is_leaf_command (get_or s 0 0) ≡ true → Some (w + 1) ≡ data_by (is_data_by O) size_val (value_at l s)
   leaf_done w q h = tree l s p (λ v e.
       let d = data_leaf O l s v e h in
-      sym (whole_is v e ∙ ap (λ b. told b (size_val v)) d.0 ∙ ap Yes (omega (arith, d.1))))
+      sym (whole_is v e ∙ ap (λ b. told b (size_val v)) d.0 ∙ ap Some (omega (arith, d.1))))
 
-  leaf_known : (n : ℕ) → Plain (get_or s 0 0) n → Yes n ≡ data_by (is_data_by O) size_val (value_at l s)
-  leaf_known n P = ap Yes P.size ∙ leaf_done (width_of (get_or s 0 0)) refl (leaf_low (get_or s 0 0) P.low)
+  leaf_known : (n : ℕ) → Plain (get_or s 0 0) n → Some n ≡ data_by (is_data_by O) size_val (value_at l s)
+  leaf_known n P = ap Some P.size ∙ leaf_done (width_of (get_or s 0 0)) refl (leaf_low (get_or s 0 0) P.low)
 
   pub leaf_fits : (w : ℕ) → w ≡ width_of (get_or s 0 0) → is_leaf_command (get_or s 0 0) ≡ true → w + 1 ≤ length s
   leaf_fits w q h = tree l s p (λ v e. omega (arith, (data_leaf O l s v e h).1, v_inside l s v e))
 
-  pub other_done : 13 ≤ get_or s 0 0 → (get_or s 0 0 ≡ 16 → ⊥) → No ≡ data_by (is_data_by O) size_val (value_at l s)
+  pub other_done : 13 ≤ get_or s 0 0 → (get_or s 0 0 ≡ 16 → ⊥) → None ≡ data_by (is_data_by O) size_val (value_at l s)
   other_done h n = tree l s p (λ v e. sym (whole_is v e ∙ ap (λ b. told b (size_val v)) (not_data O l s v (is_val l s v e).1 h n)))
 
   -- a function definition is data exactly under the strict reading
-  pub definition_done : get_or s 0 0 ≡ 12 → O.strict ≡ true → (n : ℕ) → n ≡ size_at_v (value_at l s) → Yes n ≡ data_by (is_data_by O) size_val (value_at l s)
+  pub definition_done : get_or s 0 0 ≡ 12 → O.strict ≡ true → (n : ℕ) → n ≡ size_at_v (value_at l s) → Some n ≡ data_by (is_data_by O) size_val (value_at l s)
   unfolding size_at_v
   definition_done h e n q = tree l s p (λ v f.
-      sym (whole_is v f ∙ ap (λ b. told b (size_val v)) (is_definition_data O (as_definition l s v f h) ∙ e) ∙ ap Yes (sym (q ∙ ap size_at_v f))))
+      sym (whole_is v f ∙ ap (λ b. told b (size_val v)) (is_definition_data O (as_definition l s v f h) ∙ e) ∙ ap Some (sym (q ∙ ap size_at_v f))))
 
-  pub definition_no : get_or s 0 0 ≡ 12 → O.strict ≡ false → No ≡ data_by (is_data_by O) size_val (value_at l s)
+  pub definition_no : get_or s 0 0 ≡ 12 → O.strict ≡ false → None ≡ data_by (is_data_by O) size_val (value_at l s)
   definition_no h e = tree l s p (λ v f. sym (whole_is v f ∙ ap (λ b. told b (size_val v)) (is_definition_data O (as_definition l s v f h) ∙ e)))
 
   pub ranges : get_or s 0 0 ≡ 9 → Run (are_data O) size_vals (items_at (l - 1) 2) s (data_by (is_data_by O) size_val (value_at l s))
@@ -358,25 +365,25 @@ module _ {O : Order} {l : ℕ} {v : List ℕ} {n at i : ℕ} (I : ItemsInv O l v
   items_some = has_byte l (take (length v - at) (drop at v)) (items_ok I h)
 
   module _ (k : ℕ) (P : Plain (get_or (take (length v - at) (drop at v)) 0 0) k) where
-    item_leaf : Yes k ≡ data_by (is_data_by O) size_val (value_at l (take (length v - at) (drop at v)))
+    item_leaf : Some k ≡ data_by (is_data_by O) size_val (value_at l (take (length v - at) (drop at v)))
     item_leaf = leaf_known O l (take (length v - at) (drop at v)) (items_ok I h) k P
 
     pub items_leaf_fit : at + k ≤ length v
-    items_leaf_fit = items_fit I h (Yes k) k refl item_leaf
+    items_leaf_fit = items_fit I h k item_leaf
 
     pub items_leaf : ItemsInv O l v n (at + k) (i + 1)
-    items_leaf = items_again I h (Yes k) k refl item_leaf
+    items_leaf = items_again I h k item_leaf
 
 module _ {O : Order} {l : ℕ} {v : List ℕ} {n at i : ℕ} (I : EntriesInv O l v n at i) (h : i < n) where
   pub entries_some : 0 < length (take (length v - (at + name_width)) (drop (at + name_width) v))
   entries_some = has_byte l (take (length v - (at + name_width)) (drop (at + name_width) v)) (entries_ok I h)
 
   module _ (k : ℕ) (P : Plain (get_or (take (length v - (at + name_width)) (drop (at + name_width) v)) 0 0) k) where
-    entry_leaf : Yes k ≡ data_by (is_data_by O) size_val (value_at l (take (length v - (at + name_width)) (drop (at + name_width) v)))
+    entry_leaf : Some k ≡ data_by (is_data_by O) size_val (value_at l (take (length v - (at + name_width)) (drop (at + name_width) v)))
     entry_leaf = leaf_known O l (take (length v - (at + name_width)) (drop (at + name_width) v)) (entries_ok I h) k P
 
     pub entries_leaf_fit : at + name_width + k ≤ length v
-    entries_leaf_fit = entries_fit I h (Yes k) k refl entry_leaf
+    entries_leaf_fit = entries_fit I h k entry_leaf
 
     pub entries_leaf : EntriesInv O l v n (at + name_width + k) (i + 1)
-    entries_leaf = entries_again I h (Yes k) k refl entry_leaf
+    entries_leaf = entries_again I h k entry_leaf

@@ -2,6 +2,8 @@
 -- Assumes nothing.
 use Rattle.std.specs.Prelude.{◌≡◌, Bool, true, false, cond, List, ◌++◌, ℕ, ◌+◌, ◌<◌, ◌≤◌, length}
 use Rattle.std.proofs.Math.Option.{Option, none, some}
+use Rattle.std.specs.declared.option.Option.{Option as Maybe}
+use Rattle.std.specs.declared.option.Option.TheVariants.{None, Some}
 use Rattle.form.specs.Limits.{most_bytes}
 use Rattle.form.specs.Trees.{any, null, Ty, leaf, Fields, Val, Vals, no_items, item, Entries}
 use Rattle.form.specs.Form.{enc, enc_fields, enc_tys, Wf, WfV, WfVals, WfEntries}
@@ -16,18 +18,11 @@ use Rattle.order.specs.Values.{types_of, is_data_by, are_data, hold_data, least_
 use Rattle.order.specs.Values as values
 use Rattle.order.specs.Inferred.{type_of, entry_types}
 use Rattle.values.specs.At.{Definition, definition, size_definition}
-use Rattle.infer.specs.declared.data.Data.{Data}
-use Rattle.infer.specs.declared.data.Data.TheVariants as data_is
 
--- ---- data values: the size, or no
-unfoldable pub data_by : {X : Type 0} → (X → Bool) → (X → ℕ) → Option X → Data
-data_by test sz (some x) = cond (test x) (data_is.Yes (sz x)) data_is.No
-data_by test sz none = data_is.No
-
--- k bytes in front
-abbrev pub add_size : ℕ → Data → Data
-add_size k (data_is.Yes n) = data_is.Yes (n + k)
-add_size k data_is.No = data_is.No
+-- ---- data values: the size, or none
+unfoldable pub data_by : {X : Type 0} → (X → Bool) → (X → ℕ) → Option X → Maybe ℕ
+data_by test sz (some x) = cond (test x) (Some (sz x)) None
+data_by test sz none = None
 
 -- n bytes of a boolean, a whole number, a string or a temporal with the command c
 pub record Plain (c n : ℕ) : Type 0 where

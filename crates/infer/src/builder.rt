@@ -11,11 +11,11 @@ ghost use Rattle.infer.specs.Calls.{Ready, type_call};
 
 use crate::data;
 use form::limits::{MOST_BYTES, NAME_WIDTH, TYPE_LEVELS, VALUE_LEVELS};
-use form::{Written, commands, refusals};
-use tables::readings;
+use form::{Refusal, commands};
+use tables::readings::Reading;
 
 // How many bytes of the value were read, and how many of the type written.
-#[derive(Drop)]
+#[derive(Clone, Copy, Debug, PartialEq, Eq)]
 struct Ends {
     read: usize,
     wrote: usize,
@@ -30,13 +30,10 @@ fn keeps(equal: bool, s: &[u8], n: usize, m: usize) -> bool
 {
     if equal {
         let p = n + m;
-        return check::same(&s[..n], &s[n..p]);
+        return s[..n] == s[n..p];
     }
-    let mut other: usize = 0;
-    if types::compare::conforms(&s[n..], s, TYPE_LEVELS, &mut other, readings::DOCUMENT) == 0 {
-        return false;
-    }
-    true
+    let mut other = 0;
+    types::compare::conforms(&s[n..], s, TYPE_LEVELS, &mut other, Reading::DOCUMENT) != 0
 }
 
 // The type at the front, n bytes, and the one behind it, m bytes, become one at the front; answers its length. Of equal ones the first stays as it is.
@@ -47,7 +44,7 @@ fn join(
     n: usize,
     m: usize,
     spare: &mut [u8],
-    reading: u64,
+    reading: Reading,
 ) -> usize
     requires sides { Sides (type_at type_levels out.old) (type_at type_levels (drop n out.old)) out.old n m (length spare.old) }
     requires reduced { Reduced (order_of reading) least (type_at type_levels out.old) }
@@ -59,7 +56,7 @@ fn join(
     }
     if least {
         let w = &out[..];
-        let e = lattice::write_super(w, &w[n..], spare, TYPE_LEVELS, reading);
+        let e = lattice::write(true, w, &w[n..], spare, TYPE_LEVELS, reading);
         let k = e.wrote;
         output::copy(&spare[..k], out);
         return k;
@@ -79,15 +76,13 @@ fn write_signature(v: &[u8], count: usize, out: &mut [u8], left: usize) -> Ends
     let k = types::walk::skip(v, left);
     let mut at = k;
     let mut to: usize = 0;
-    let mut i: usize = 0;
-    while i < count {
+    for _ in 0..count {
         let p = at + NAME_WIDTH;
         let x = types::walk::skip(&v[p..], left);
         let q = p + x;
         output::copy(&v[p..q], &mut out[to..]);
         at = q;
         to = to + x;
-        i += 1;
     }
     output::copy(&v[..k], &mut out[to..]);
     Ends {
@@ -104,7 +99,7 @@ fn write_type(
     out: &mut [u8],
     spare: &mut [u8],
     left: usize,
-    reading: u64,
+    reading: Reading,
 ) -> Ends
     requires fit_val { FitVal (order_of reading) least (value_at left v.now) (length out.old) (length spare.old) }
     requires left_le_value_levels { left ≤ value_levels }
@@ -170,7 +165,7 @@ fn write_type(
             let n = v[1];
             out[0] = commands::FUNCTION_TYPE;
             out[1] = n;
-            let e = write_signature(&v[4..], form::bytes::wide(n), &mut out[2..], left - 1);
+            let e = write_signature(&v[4..], usize::from(n), &mut out[2..], left - 1);
             Ends {
                 read: e.read + 4,
                 wrote: e.wrote + 2,
@@ -202,7 +197,7 @@ fn write_items(
     out: &mut [u8],
     spare: &mut [u8],
     left: usize,
-    reading: u64,
+    reading: Reading,
 ) -> Ends
     requires fit_items { FitItems (order_of reading) least (items_at left n v.now) (length out.old) (length spare.old) }
     requires left_le_value_levels { left ≤ value_levels }
@@ -216,20 +211,16 @@ fn write_items(
     let e = write_type(least, v, out, spare, left, reading);
     let mut at = e.read;
     let mut to = e.wrote;
-    let mut i: usize = 1;
-    while i < n {
-        let k = data::leaf(&v[at..]);
-        if k != 0 {
+    for _ in 1..n {
+        if let Some(k) = data::leaf(&v[at..]) {
             out[to] = commands::leaf_type(v[at]);
-            at = at + k;
+            at += k;
             to = join(least, equal, out, to, 1, spare, reading);
-            i += 1;
             continue;
         }
         let e = write_type(least, &v[at..], &mut out[to..], spare, left, reading);
         at = at + e.read;
         to = join(least, equal, out, to, e.wrote, spare, reading);
-        i += 1;
     }
     Ends {
         read: at,
@@ -246,7 +237,7 @@ fn write_entries(
     out: &mut [u8],
     spare: &mut [u8],
     left: usize,
-    reading: u64,
+    reading: Reading,
 ) -> Ends
     requires fit_entries { FitEntries (order_of reading) least (entries_at left n 0 v.now) (length out.old) (length spare.old) }
     requires left_le_value_levels { left ≤ value_levels }
@@ -255,23 +246,19 @@ fn write_entries(
 {
     let mut at: usize = 0;
     let mut to: usize = 0;
-    let mut i: usize = 0;
-    while i < n {
+    for _ in 0..n {
         let p = at + NAME_WIDTH;
         let w = to + NAME_WIDTH;
         output::copy_name(v, at, out, to);
-        let k = data::leaf(&v[p..]);
-        if k != 0 {
+        if let Some(k) = data::leaf(&v[p..]) {
             out[w] = commands::leaf_type(v[p]);
             at = p + k;
             to = w + 1;
-            i += 1;
             continue;
         }
         let e = write_type(least, &v[p..], &mut out[w..], spare, left, reading);
         at = p + e.read;
         to = w + e.wrote;
-        i += 1;
     }
     Ends {
         read: at,
@@ -288,22 +275,17 @@ fn build_with(
     scratch: &mut [u8],
     spare: &mut [u8],
     out: &mut [u8],
-    reading: u64,
-) -> Written
+    reading: Reading,
+) -> Result<usize, Refusal>
     requires ready { Ready (order_of reading) least v.now }
     requires v_in_bounds { length v.now ≤ length spare.old }
     ensures { Built (type_call (order_of reading) least v.now (length scratch.old) (length out.old)) out.old out.new result }
 {
     if scratch.len() < 4 * v.len() {
-        return Written::Refused(refusals::SCRATCH);
+        return Err(Refusal::Scratch);
     }
     let e = write_type(least, v, scratch, spare, VALUE_LEVELS, reading);
-    let n = e.wrote;
-    if out.len() < n {
-        return Written::Refused(refusals::OUTPUT);
-    }
-    output::copy(&scratch[..n], out);
-    Written::Bytes(n)
+    output::give(&scratch[..e.wrote], out)
 }
 
 // All calls after the value was read, with a spare place: a small one for a short value, since all of it is set to zero. Refusals 14, 18.
@@ -312,8 +294,8 @@ pub(crate) fn build(
     v: &[u8],
     scratch: &mut [u8],
     out: &mut [u8],
-    reading: u64,
-) -> Written
+    reading: Reading,
+) -> Result<usize, Refusal>
     requires { Ready (order_of reading) least v.now }
     ensures { Built (type_call (order_of reading) least v.now (length scratch.old) (length out.old)) out.old out.new result }
 {

@@ -9,61 +9,57 @@ ghost use Rattle.infer.specs.Calls.{least_type_by, least_type_call, strict_least
 mod builder;
 mod data;
 
-use crate::data::Data;
+use form::Refusal;
 use form::limits::VALUE_LEVELS;
-use form::{Checked, Written, refusals};
-use tables::load::Loaded;
-use tables::{load, readings};
+use tables::load;
+use tables::readings::Reading;
 
 // The least type. Refusals 1 to 5, 13, 14, 18.
-pub fn least_type(v: &[u8], scratch: &mut [u8], out: &mut [u8]) -> Written
+pub fn least_type(v: &[u8], scratch: &mut [u8], out: &mut [u8]) -> Result<usize, Refusal>
     ensures { Built (least_type_call v.now (length scratch.old) (length out.old)) out.old out.new result }
 {
-    build_least(v, scratch, out, readings::DOCUMENT)
+    build_least(v, scratch, out, Reading::DOCUMENT)
 }
 
 // The least type as DMN has it: of a function definition its function type. Refusals likewise, 13 for 0D, 0E and 0F alone.
-pub fn strict_least_type(v: &[u8], scratch: &mut [u8], out: &mut [u8]) -> Written
+pub fn strict_least_type(v: &[u8], scratch: &mut [u8], out: &mut [u8]) -> Result<usize, Refusal>
     ensures { Built (strict_least_type_call v.now (length scratch.old) (length out.old)) out.old out.new result }
 {
-    build_least(v, scratch, out, readings::STRICT)
+    build_least(v, scratch, out, Reading::STRICT)
 }
 
 // The least type over a members' table, which is refused first: 26, 27, 28; then as document 01's own call.
-pub fn table_least_type(table: &[u8], v: &[u8], scratch: &mut [u8], out: &mut [u8]) -> Written
+pub fn table_least_type(
+    table: &[u8],
+    v: &[u8],
+    scratch: &mut [u8],
+    out: &mut [u8],
+) -> Result<usize, Refusal>
     ensures { Built (table_least_type_call table.now v.now (length scratch.old) (length out.old)) out.old out.new result }
 {
-    match load::load(table) {
-        Loaded::Refused(n) => Written::Refused(n),
-        Loaded::Reading(reading) => build_least(v, scratch, out, reading),
-    }
+    build_least(v, scratch, out, load::load(table)?)
 }
 
 // All three calls.
-fn build_least(v: &[u8], scratch: &mut [u8], out: &mut [u8], reading: u64) -> Written
+fn build_least(
+    v: &[u8],
+    scratch: &mut [u8],
+    out: &mut [u8],
+    reading: Reading,
+) -> Result<usize, Refusal>
     ensures { Built (least_type_by (order_of reading) v.now (length scratch.old) (length out.old)) out.old out.new result }
 {
-    match form::check_value(v) {
-        Checked::Refused(n) => Written::Refused(n),
-        Checked::Accepted { level: _ } => match data::is_data(v, VALUE_LEVELS, reading) {
-            Data::No => Written::Refused(refusals::NOT_DATA),
-            Data::Yes(_) => builder::build(true, v, scratch, out, reading),
-        },
+    form::check_value(v)?;
+    if data::is_data(v, VALUE_LEVELS, reading).is_none() {
+        return Err(Refusal::NotData);
     }
+    builder::build(true, v, scratch, out, reading)
 }
 
 // `Value::type_of`. Refusals 1 to 5, 14, 18.
-pub fn type_of(v: &[u8], scratch: &mut [u8], out: &mut [u8]) -> Written
+pub fn type_of(v: &[u8], scratch: &mut [u8], out: &mut [u8]) -> Result<usize, Refusal>
     ensures { Built (type_of_call v.now (length scratch.old) (length out.old)) out.old out.new result }
 {
-    match form::check_value(v) {
-        Checked::Refused(n) => Written::Refused(n),
-        Checked::Accepted { level: _ } => builder::build(
-            false,
-            v,
-            scratch,
-            out,
-            readings::DOCUMENT,
-        ),
-    }
+    form::check_value(v)?;
+    builder::build(false, v, scratch, out, Reading::DOCUMENT)
 }

@@ -1,6 +1,7 @@
 -- The bytes of trees, and the common supertype and subtype by the command bytes, said once over the order and the direction.
 -- Index: `least`, `least_right`, `other`, `leaves`, `self` (by the commands); `lists`, `ranges`, `contexts`, `functions`, `functions_none`, `functions_other` (built types);
--- `fields_none`, `fields_both`, `answer_cons`, `answer_result`, `count_answer` (entries and parameters); `enc_ctx`, `enc_fun`, `enc_cons`, `enc_result`, `length_sig` (bytes).
+-- `fields_none`, `fields_both`, `Piece`, `piece_first`, `piece_second`, `piece_both` (entries); `answer_cons`, `answer_result`, `count_answer` (parameters); `turned`, `least_code` (the
+-- flag of the direction); `enc_ctx`, `enc_fun`, `enc_cons`, `enc_result`, `length_sig` (bytes).
 -- Assumes nothing.
 use Prim.Native.Nat.{ℕ, suc, ◌+◌, ◌-◌, ◌/◌, ◌%◌, ◌<◌}
 use mathlib.Core.Path.{◌≡◌, refl, sym, ap, ap₂, ◌∙◌}
@@ -13,14 +14,15 @@ use borrow.Author.Tests.{ne_eqb}
 use Rattle.form.specs.Trees.{Simple, any, null, code, decode, Ty, leaf, built, Built, list, range, context, function, Fields, no_fields, field, Tys, no_params, param}
 use Rattle.form.specs.Form.{bytes, enc, enc_fields, enc_tys, count_fields, count_tys}
 use Rattle.form.proofs.ExactTypes.{decode_code}
-use Rattle.order.specs.Order.{same, Dir, up, down, flip, Order, top, bottom, scmp, sbound, is_inner, closer, narrowed, nearest, order_of}
+use Rattle.order.specs.Order.{same, Dir, up, down, flip, toward, Order, top, bottom, scmp, sbound, is_inner, closer, narrowed, nearest, order_of}
 use Rattle.order.specs.Types.{same_count, kind, ignores, reduce, reduce_fields, reduce_tys, bound, bounds, sup, sub, sup_tys, sub_tys}
 use Rattle.order.specs.Ascending.{Asc, AscBuilt, AscFields, AscTys}
-use Rattle.order.specs.Size.{size}
+use Rattle.order.specs.Size.{size, size_fields}
 use Rattle.order.proofs.Bools.{and_false}
 use Rattle.order.proofs.Bound.{bound_other}
 use Rattle.order.proofs.Ends.{Ends, reading_ends}
-use Rattle.order.proofs.Sentences.{sup_functions, sub_functions, sup_functions_other, sub_functions_other, sup_fields_both, sub_fields_both}
+use Rattle.order.proofs.Sentences.{sup_functions, sub_functions, sup_functions_other, sub_functions_other, sup_fields_first, sub_fields_first, sup_fields_second, sub_fields_second}
+use Rattle.order.proofs.Sentences.{sup_fields_both, sub_fields_both}
 use Rattle.order.proofs.Size.{length_enc, length_tys}
 use Rattle.types.specs.At.{Sig, sig, cons, fun_of, size_sig}
 use Rattle.types.specs.Conform.{ignores_at}
@@ -133,6 +135,52 @@ module _ (O : Order) where
   pub fields_both : (d : Dir) (n : ℕ) (a b : Ty) (fs gs : Fields) → AscFields fs (suc n) → answer_fields O d (field n a fs) (field n b gs) ≡ field n (answer O d a b) (answer_fields O d fs gs)
   fields_both up n a b fs gs w = sup_fields_both O n a b fs gs w
   fields_both down n a b fs gs w = sub_fields_both O n a b fs gs w
+
+-- ---- the entries of an answer W: those that the next entry of one side or of both gives, F, and then R
+pub record Piece (W F R : Fields) : Type 0 where
+  pub text : enc_fields W ≡ enc_fields F ++ enc_fields R
+  pub sized : size_fields W ≡ size_fields F + size_fields R
+  pub many : count_fields W ≡ count_fields F + count_fields R
+
+no_piece : (W F R : Fields) → W ≡ R → F ≡ no_fields → Piece W F R
+unfolding enc size count_fields
+no_piece W F R e f = rw (e, f) (record { text = refl; sized = omega arith; many = omega arith })
+
+one_piece : (n : ℕ) (U : Ty) (W F R : Fields) → W ≡ field n U R → F ≡ field n U no_fields → Piece W F R
+unfolding enc size count_fields
+one_piece n U W F R e f = rw (e, f) (record { text = simp append_assoc; sized = omega arith; many = omega arith })
+
+module _ (O : Order) where
+  pub piece_first : (d : Dir) (n : ℕ) (t : Ty) (fs gs : Fields) → AscFields fs (suc n) → AscFields gs (suc n)
+      → Piece (answer_fields O d (field n t fs) gs) (answer_fields O d (field n t no_fields) no_fields) (answer_fields O d fs gs)
+  unfolding Asc
+  piece_first up n t fs gs v w = no_piece _ _ _ (sup_fields_first O n t fs gs w) (sup_fields_first O n t no_fields no_fields tt ∙ fields_none O up)
+  piece_first down n t fs gs v w =
+      one_piece n (reduce O t) _ _ _ (sub_fields_first O n t fs gs v w) (sub_fields_first O n t no_fields no_fields tt tt ∙ ap (field n (reduce O t)) (fields_none O down))
+
+  pub piece_second : (d : Dir) (n : ℕ) (t : Ty) (fs gs : Fields) → AscFields fs (suc n)
+      → Piece (answer_fields O d fs (field n t gs)) (answer_fields O d (field n t no_fields) no_fields) (answer_fields O d fs gs)
+  unfolding Asc
+  piece_second up n t fs gs v = no_piece _ _ _ (sup_fields_second O fs n (suc n) t gs v (omega arith)) (sup_fields_first O n t no_fields no_fields tt ∙ fields_none O up)
+  piece_second down n t fs gs v =
+      one_piece n (reduce O t) _ _ _ (sub_fields_second O fs n (suc n) t gs v (omega arith))
+      (sub_fields_first O n t no_fields no_fields tt tt ∙ ap (field n (reduce O t)) (fields_none O down))
+
+  pub piece_both : (d : Dir) (n : ℕ) (t u : Ty) (fs gs : Fields) → AscFields fs (suc n)
+      → Piece (answer_fields O d (field n t fs) (field n u gs)) (answer_fields O d (field n t no_fields) (field n u no_fields)) (answer_fields O d fs gs)
+  unfolding Asc
+  piece_both d n t u fs gs v =
+      one_piece n (answer O d t u) _ _ _ (fields_both O d n t u fs gs v) (fields_both O d n t u no_fields no_fields tt ∙ ap (field n (answer O d t u)) (fields_none O d))
+
+-- the other direction, as a flag
+pub turned : (q : Bool) → toward (not q) ≡ flip (toward q)
+turned true = refl
+turned false = refl
+
+-- the greatest in the other direction is the least
+pub least_code : (q : Bool) → 32 + code (top (toward (not q))) ≡ 32 + code (bottom (toward q))
+least_code true = refl
+least_code false = refl
 
 low_bottom : (d : Dir) → code (bottom d) < 10
 low_bottom up = omega arith

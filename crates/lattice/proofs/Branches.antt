@@ -19,7 +19,7 @@ use Rattle.form.specs.Form.{num_at, enc, enc_fields, count_fields, count_tys}
 use Rattle.form.specs.Answers.{onto}
 use Rattle.form.proofs.Runs.{rest, length_rest, behind}
 use Rattle.form.proofs.ExactTypes.{code_decode}
-use Rattle.order.specs.Order.{Dir, Order, top, bottom, up, down, toward, nearest, order_of}
+use Rattle.order.specs.Order.{Dir, Order, top, bottom, nearest, order_of}
 use Rattle.order.specs.Size.{size}
 use Rattle.order.proofs.Simple.{and_right}
 use Rattle.order.proofs.Ends.{Ends}
@@ -166,21 +166,23 @@ other_done reading d l a b n p h ca cb r g =
     ∙ ap₂ (λ (i j : ℕ). leaf (decode (nearest reading d (i - 32) (j - 32)))) ea eb ∙ ap (λ (k : ℕ). leaf (decode k)) (sym g.2))
     r (omega arith)
 
--- ---- two things inside the two types, k bytes behind their starts
-pub record Inner (O : Order) (d : Dir) (l : ℕ) (a b : List ℕ) (n : ℕ) {X : Type 0} (J : Joining X) (k : ℕ) (ga gb : Option X) : Type 0 where
-  pub mk : X → Ty
+-- ---- two things inside two others, k bytes behind their starts
+pub record Inner {Z : Type 0} (W : Joining Z) (wa wb : Option Z) (la lb n : ℕ) {X : Type 0} (J : Joining X) (k : ℕ) (ga gb : Option X) : Type 0 where
+  pub mk : X → Z
   pub x : X
   pub y : X
-  pub read_a : type_at l a ≡ some (mk x)
-  pub read_b : type_at l b ≡ some (mk y)
+  pub read_a : wa ≡ some (mk x)
+  pub read_b : wb ≡ some (mk y)
   pub part_a : ga ≡ some x
   pub part_b : gb ≡ some y
-  pub longer : (t : X) → size (mk t) ≡ J.sized t + k
-  pub joins : answer O d (mk x) (mk y) ≡ mk (J.join x y)
+  pub in_a : W.sized (mk x) ≤ la
+  pub in_b : W.sized (mk y) ≤ lb
+  pub longer : (t : X) → W.sized (mk t) ≡ J.sized t + k
+  pub joins : W.join (mk x) (mk y) ≡ mk (J.join x y)
   pub room : J.sized (J.join x y) + k ≤ n
   pub cap : J.sized (J.join x y) + k ≤ most_answer
 
-module _ {O : Order} {d : Dir} {l : ℕ} {a b : List ℕ} {n : ℕ} {X : Type 0} {J : Joining X} {k : ℕ} {ga gb : Option X} (I : Inner O d l a b n J k ga gb) where
+module _ {Z : Type 0} {W : Joining Z} {wa wb : Option Z} {la lb n : ℕ} {X : Type 0} {J : Joining X} {k : ℕ} {ga gb : Option X} (I : Inner W wa wb la lb n J k ga gb) where
   -- what the callee asks, of the rest of an output
   pub inner_ready : (xs : List ℕ) → length xs ≡ n → Ready J ga gb (length (take (length xs - k) (drop k xs)))
   inner_ready xs e = ready J ga gb I.x I.y _ I.part_a I.part_b (omega (arith, I.room, length_rest xs k)) (omega (arith, I.cap))
@@ -189,25 +191,25 @@ module _ {O : Order} {d : Dir} {l : ℕ} {a b : List ℕ} {n : ℕ} {X : Type 0}
     pub inner_wrote : Wrote J I.x I.y old ys i j w
     inner_wrote = combined_is J ga gb I.x I.y old ys i j w I.part_a I.part_b h
 
-    pub inner_ends : (i + k ≤ length a) × (j + k ≤ length b) × (w + k ≤ n)
+    pub inner_ends : (i + k ≤ la) × (j + k ≤ lb) × (w + k ≤ n)
     inner_ends =
-        let g = inner_wrote in (
-          omega (arith, g.one, I.longer I.x, (t_good l a (I.mk I.x) I.read_a).1),
-          omega (arith, g.two, I.longer I.y, (t_good l b (I.mk I.y) I.read_b).1),
-          omega
-              (arith, g.long, I.room),
-        )
+        let g = inner_wrote in
+        (omega (arith, g.one, I.longer I.x, I.in_a), omega (arith, g.two, I.longer I.y, I.in_b), omega (arith, g.long, I.room))
 
-    pub inner_done : (all new : List ℕ) → new ≡ onto (enc (I.mk (J.join I.x I.y))) all → Combined (of_types O d) (type_at l a) (type_at l b) all new (i + k) (j + k) (w + k)
+    pub inner_done : (all new : List ℕ) → new ≡ onto (W.text (I.mk (J.join I.x I.y))) all → Combined W wa wb all new (i + k) (j + k) (w + k)
     inner_done all new e =
         let g = inner_wrote in
-        is_combined (of_types O d) (type_at l a) (type_at l b) (I.mk I.x) (I.mk I.y) all new (i + k) (j + k) (w + k) I.read_a I.read_b
+        is_combined W wa wb (I.mk I.x) (I.mk I.y) all new (i + k) (j + k) (w + k) I.read_a I.read_b
         (record {
           one = omega (arith, g.one, I.longer I.x);
           two = omega (arith, g.two, I.longer I.y);
-          long = omega (arith, g.long, I.longer (J.join I.x I.y), ap size I.joins);
-          out = e ∙ ap (λ (z : Ty). onto (enc z) all) (sym I.joins);
+          long = omega (arith, g.long, I.longer (J.join I.x I.y), ap W.sized I.joins);
+          out = e ∙ ap (λ (z : Z). onto (W.text z) all) (sym I.joins);
         })
+
+-- inside two types
+abbrev pub InType : (O : Order) (d : Dir) (l : ℕ) (a b : List ℕ) (n : ℕ) {X : Type 0} → Joining X → ℕ → Option X → Option X → Type 0
+InType O d l a b n J k ga gb = Inner (of_types O d) (type_at l a) (type_at l b) (length a) (length b) n J k ga gb
 
 -- ---- of two types with the same command
 pub leaf_of : (t : Ty) → cmd t < 42 → (s : Simple) × (t ≡ leaf s)
@@ -219,7 +221,7 @@ leaf_of (built (function ps r)) h = absurd (omega arith)
 
 -- a list or a range, with the command c
 pub record Wrapped (O : Order) (d : Dir) (l : ℕ) (a b : List ℕ) (n c : ℕ) : Type 0 where
-  pub inner : Inner O d l a b n (of_types O d) 1 (type_at (l - 1) (behind 1 a)) (type_at (l - 1) (behind 1 b))
+  pub inner : InType O d l a b n (of_types O d) 1 (type_at (l - 1) (behind 1 a)) (type_at (l - 1) (behind 1 b))
   pub byte : (t : Ty) → enc (inner.mk t) ≡ c ∷ enc t
 
 -- two functions
@@ -281,6 +283,8 @@ module _ (O : Order) (d : Dir) (l : ℕ) (a b : List ℕ) (n : ℕ) (p : Ready (
               read_b = B.read_b ∙ ap some y.2;
               part_a = ap (type_at (l - 1)) (rest a 1) ∙ x.1;
               part_b = ap (type_at (l - 1)) (rest b 1) ∙ y.1;
+              in_a = (t_good l a _ (B.read_a ∙ ap some x.2)).1;
+              in_b = (t_good l b _ (B.read_b ∙ ap some y.2)).1;
               longer = λ t. (size_list t).0;
               joins = lists O d x.0 y.0;
               room = omega (arith, B.room, ap size s, (size_list (answer O d x.0 y.0)).0);
@@ -302,6 +306,8 @@ module _ (O : Order) (d : Dir) (l : ℕ) (a b : List ℕ) (n : ℕ) (p : Ready (
               read_b = B.read_b ∙ ap some y.2;
               part_a = ap (type_at (l - 1)) (rest a 1) ∙ x.1;
               part_b = ap (type_at (l - 1)) (rest b 1) ∙ y.1;
+              in_a = (t_good l a _ (B.read_a ∙ ap some x.2)).1;
+              in_b = (t_good l b _ (B.read_b ∙ ap some y.2)).1;
               longer = λ t. (size_range t).0;
               joins = ranges O d x.0 y.0;
               room = omega (arith, B.room, ap size s, (size_range (answer O d x.0 y.0)).0);
@@ -317,7 +323,7 @@ module _ (O : Order) (d : Dir) (l : ℕ) (a b : List ℕ) (n : ℕ) (p : Ready (
   pub ctx_three : get_or a 0 0 ≡ 44 → (3 ≤ length a) × (3 ≤ length b)
   ctx_three c = ((is_ctx l a B.t B.read_a c).three, (is_ctx l b B.u B.read_b (sym same ∙ c)).three)
 
-  abbrev pub in_contexts : get_or a 0 0 ≡ 44 → (i j : ℕ) → i ≡ num_at 2 1 a → j ≡ num_at 2 1 b → Inner O d l a b n (of_fields O d) 3
+  abbrev pub in_contexts : get_or a 0 0 ≡ 44 → (i j : ℕ) → i ≡ num_at 2 1 a → j ≡ num_at 2 1 b → InType O d l a b n (of_fields O d) 3
       (fields_at (l - 1) i 0 (behind 3 a)) (fields_at (l - 1) j 0 (behind 3 b))
   in_contexts c i j ei ej =
       let x = is_ctx l a B.t B.read_a c in
@@ -331,6 +337,8 @@ module _ (O : Order) (d : Dir) (l : ℕ) (a b : List ℕ) (n : ℕ) (p : Ready (
         read_b = B.read_b ∙ ap some y.is;
         part_a = ap₂ (λ (k : ℕ) (z : List ℕ). fields_at (l - 1) k 0 z) ei (rest a 3) ∙ x.read;
         part_b = ap₂ (λ (k : ℕ) (z : List ℕ). fields_at (l - 1) k 0 z) ej (rest b 3) ∙ y.read;
+        in_a = (t_good l a _ (B.read_a ∙ ap some x.is)).1;
+        in_b = (t_good l b _ (B.read_b ∙ ap some y.is)).1;
         longer = λ fs. size_ctx fs;
         joins = contexts O d x.fs y.fs;
         room = omega (arith, B.room, ap size s, size_ctx (answer_fields O d x.fs y.fs));
@@ -375,7 +383,7 @@ module _ (O : Order) (d : Dir) (l : ℕ) (a b : List ℕ) (n : ℕ) (p : Ready (
     (ei : i ≡ num_at 2 1 a) (ej : j ≡ num_at 2 1 b) (old ys : List ℕ) (u v w k : ℕ) (en : n ≡ length old)
     (h : Combined (of_fields O d) (fields_at (l - 1) i 0 (behind 3 a)) (fields_at (l - 1) j 0 (behind 3 b)) (behind 3 old) ys u v w)
     (m : Counted O d (fields_at (l - 1) i 0 (behind 3 a)) (fields_at (l - 1) j 0 (behind 3 b)) k) where
-  abbrev C : Inner O d l a b n (of_fields O d) 3 (fields_at (l - 1) i 0 (behind 3 a)) (fields_at (l - 1) j 0 (behind 3 b))
+  abbrev C : InType O d l a b n (of_fields O d) 3 (fields_at (l - 1) i 0 (behind 3 a)) (fields_at (l - 1) j 0 (behind 3 b))
   C = in_contexts O d l a b n p same c i j ei ej
 
   ctx_counted : k ≡ count_fields (answer_fields O d C.x C.y)
@@ -420,12 +428,12 @@ module _ {O : Order} {d : Dir} {l : ℕ} {a b : List ℕ} {n : ℕ} (F : Functio
   pub fun_one : 1 ≤ n
   fun_one = omega (arith, F.room, size_positive (answer O d (fun_of F.f) (fun_of F.g)))
 
-  pub fun_other : (get_or a 1 0 ≡ get_or b 1 0 → ⊥) → (old : List ℕ) → n ≡ length old → (x y : ℕ) → x ≡ size_at (type_at l a) → y ≡ size_at (type_at l b)
-      → Combined (of_types O d) (type_at l a) (type_at l b) old (set old 0 (32 + code (top d))) x y 1
+  pub fun_other : (get_or a 1 0 ≡ get_or b 1 0 → ⊥) → (r : ℕ) → r ≡ 32 + code (top d) → (old : List ℕ) → n ≡ length old → (x y : ℕ) → x ≡ size_at (type_at l a) → y ≡ size_at (type_at l b)
+      → Combined (of_types O d) (type_at l a) (type_at l b) old (set old 0 r) x y 1
   unfolding enc size
-  fun_other h old en x y ex ey =
+  fun_other h r er old en x y ex ey =
       let o = fun_one in
-      fun_known (leaf (top d)) (functions_other O d F.f F.g (λ e. h (sym F.count_a ∙ e ∙ F.count_b))) old _ (onto_first old (32 + code (top d)) (omega arith)) x y 1 ex ey refl
+      fun_known (leaf (top d)) (functions_other O d F.f F.g (λ e. h (sym F.count_a ∙ e ∙ F.count_b))) old _ (onto_first old r (omega arith) ∙ ap (λ (z : ℕ). onto (z ∷ []) old) er) x y 1 ex ey refl
 
   module _ (e : get_or a 1 0 ≡ get_or b 1 0) where
     pub counts : count_sig F.f ≡ count_sig F.g
@@ -451,7 +459,7 @@ module _ {O : Order} {d : Dir} {l : ℕ} {a b : List ℕ} {n : ℕ} (F : Functio
       pub fun_joins : answer O d (fun_of F.f) (fun_of F.g) ≡ fun_of (answer_sig O d F.f F.g)
       fun_joins = functions O d F.f F.g counts (ap (ignores_at O) F.count_a ∙ z)
 
-      abbrev pub in_sigs : (k : ℕ) → k ≡ get_or a 1 0 → Inner O d l a b n (of_sigs O d) 2 (sig_at (l - 1) k (behind 2 a)) (sig_at (l - 1) k (behind 2 b))
+      abbrev pub in_sigs : (k : ℕ) → k ≡ get_or a 1 0 → InType O d l a b n (of_sigs O d) 2 (sig_at (l - 1) k (behind 2 a)) (sig_at (l - 1) k (behind 2 b))
       in_sigs k ek =
           record {
             mk = fun_of;
@@ -461,6 +469,8 @@ module _ {O : Order} {d : Dir} {l : ℕ} {a b : List ℕ} {n : ℕ} (F : Functio
             read_b = F.read_b;
             part_a = ap₂ (λ (k : ℕ) (z : List ℕ). sig_at (l - 1) k z) ek (rest a 2) ∙ F.inner_a;
             part_b = ap₂ (λ (k : ℕ) (z : List ℕ). sig_at (l - 1) k z) (ek ∙ e) (rest b 2) ∙ F.inner_b;
+            in_a = (t_good l a (fun_of F.f) F.read_a).1;
+            in_b = (t_good l b (fun_of F.g) F.read_b).1;
             longer = size_fun;
             joins = fun_joins;
             room = omega (arith, F.room, ap size fun_joins, size_fun (answer_sig O d F.f F.g));
@@ -490,16 +500,3 @@ fun_head {O} {d} {l} {a} {b} {n} F e = go (ignores_at O (get_or a 1 0)) refl
     go : (q : Bool) → ignores_at O (get_or a 1 0) ≡ q → 2 ≤ n
     go true z = omega (arith, fun_none_room F e z)
     go false z = fun_two F e z
-
--- ---- common supertype and subtype
-pub ready_up : (O : Order) (q : Bool) (x y : Option Ty) (n : ℕ) → q ≡ true → Ready (of_types O (toward q)) x y n → Ready (of_types O up) x y n
-ready_up O q x y n e h = rw e at h
-
-pub ready_down : (O : Order) (q : Bool) (x y : Option Ty) (n : ℕ) → q ≡ false → Ready (of_types O (toward q)) x y n → Ready (of_types O down) x y n
-ready_down O q x y n e h = rw e at h
-
-pub from_up : (O : Order) (q : Bool) (x y : Option Ty) (old new : List ℕ) (i j w : ℕ) → q ≡ true → Combined (of_types O up) x y old new i j w → Combined (of_types O (toward q)) x y old new i j w
-from_up O q x y old new i j w e h = rw e h
-
-pub from_down : (O : Order) (q : Bool) (x y : Option Ty) (old new : List ℕ) (i j w : ℕ) → q ≡ false → Combined (of_types O down) x y old new i j w → Combined (of_types O (toward q)) x y old new i j w
-from_down O q x y old new i j w e h = rw e h

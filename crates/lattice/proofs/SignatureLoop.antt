@@ -97,26 +97,27 @@ module _ {O : Order} {d : Dir} {l : ℕ} {a b : List ℕ} {n : ℕ} {old out : L
   pub to_fits : to ≤ length out
   to_fits = omega (arith, v.room, v.out_len)
 
-  -- ---- a parameter
-  module _ (h : i < n) where
+  -- ---- a parameter, in the other direction
+  module _ {o : Dir} (turn : o ≡ flip d) (h : i < n) where
     abbrev A : Param l (n - (i + 1)) at a v.f
     A = param_at l i n at a v.f h v.in_a v.read_a
 
     abbrev B : Param l (n - (i + 1)) bt b v.g
     B = param_at l i n bt b v.g h v.in_b v.read_b
 
-    now : answer_sig O d v.f v.g ≡ cons (answer O (flip d) A.x B.x) (answer_sig O d A.more B.more)
+    now : answer_sig O d v.f v.g ≡ cons (answer O o A.x B.x) (answer_sig O d A.more B.more)
     now = ap₂ (answer_sig O d) A.is B.is ∙ answer_cons O d A.x B.x A.more B.more
+        ∙ ap (λ (z : Dir). cons (answer O z A.x B.x) (answer_sig O d A.more B.more)) (sym turn)
 
-    now_size : size_sig (answer_sig O d v.f v.g) ≡ size (answer O (flip d) A.x B.x) + size_sig (answer_sig O d A.more B.more)
-    now_size = ap size_sig now ∙ size_cons (answer O (flip d) A.x B.x) (answer_sig O d A.more B.more)
+    now_size : size_sig (answer_sig O d v.f v.g) ≡ size (answer O o A.x B.x) + size_sig (answer_sig O d A.more B.more)
+    now_size = ap size_sig now ∙ size_cons (answer O o A.x B.x) (answer_sig O d A.more B.more)
 
-    pub param_ready : Ready (of_types O (flip d)) (type_at l (behind at a)) (type_at l (behind bt b)) (length (behind to out))
-    param_ready = ready (of_types O (flip d)) _ _ A.x B.x _ (item_behind A) (item_behind B) (omega (arith, v.room, v.out_len, now_size, length_rest out to)) (omega (arith, left, now_size))
+    pub param_ready : Ready (of_types O o) (type_at l (behind at a)) (type_at l (behind bt b)) (length (behind to out))
+    param_ready = ready (of_types O o) _ _ A.x B.x _ (item_behind A) (item_behind B) (omega (arith, v.room, v.out_len, now_size, length_rest out to)) (omega (arith, left, now_size))
 
-    module _ (ns : List ℕ) (e f w : ℕ) (c : Combined (of_types O (flip d)) (type_at l (behind at a)) (type_at l (behind bt b)) (behind to out) ns e f w) where
-      param_wrote : Wrote (of_types O (flip d)) A.x B.x (behind to out) ns e f w
-      param_wrote = combined_is (of_types O (flip d)) _ _ A.x B.x (behind to out) ns e f w (item_behind A) (item_behind B) c
+    module _ (ns : List ℕ) (e f w : ℕ) (c : Combined (of_types O o) (type_at l (behind at a)) (type_at l (behind bt b)) (behind to out) ns e f w) where
+      param_wrote : Wrote (of_types O o) A.x B.x (behind to out) ns e f w
+      param_wrote = combined_is (of_types O o) _ _ A.x B.x (behind to out) ns e f w (item_behind A) (item_behind B) c
 
       pub param_ends : (at + e ≤ length a) × (bt + f ≤ length b) × (to + w ≤ length out)
       param_ends = let g = param_wrote in (omega (arith, g.one, A.fits), omega (arith, g.two, B.fits), omega (arith, g.long, v.room, v.out_len, now_size))
@@ -124,7 +125,7 @@ module _ {O : Order} {d : Dir} {l : ℕ} {a b : List ℕ} {n : ℕ} {old out : L
       pub param_next : length ns ≡ length (behind to out) → SigInv O d l a b n old (put_mid to (length out - to) out ns) (at + e) (bt + f) (to + w) (i + 1)
       param_next el =
           let g = param_wrote in
-          let U = answer O (flip d) A.x B.x in
+          let U = answer O o A.x B.x in
           let R = answer_sig O d A.more B.more in
           let s = now_size in
           record {

@@ -2,8 +2,8 @@
 -- of two functions.
 -- Assumes nothing.
 use Rattle.std.specs.Prelude.{◌≡◌, List, ◌++◌, ℕ, ◌≤◌}
-use Rattle.std.proofs.Math.Option.{Option}
-use Rattle.form.specs.Trees.{Ty, Fields}
+use Rattle.std.proofs.Math.Option.{Option, some}
+use Rattle.form.specs.Trees.{Ty, Fields, no_fields}
 use Rattle.form.specs.Form.{enc, enc_fields, enc_tys, count_fields}
 use Rattle.form.specs.Answers.{onto}
 use Rattle.form.specs.Options.{WhereBoth}
@@ -61,3 +61,7 @@ Combined J x y old new first second wrote = WhereBoth (Unit {0}) (λ t u. Wrote 
 -- so many entries
 unfoldable pub Counted : Order → Dir → Option Fields → Option Fields → ℕ → Type 0
 Counted O d x y n = WhereBoth (Unit {0}) (λ fs gs. n ≡ count_fields (answer_fields O d fs gs)) x y
+
+-- the entries of a context that has none (left)
+abbrev pub no_entry : Option Fields
+no_entry = some no_fields

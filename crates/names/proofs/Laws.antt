@@ -3,14 +3,14 @@
 use Prim.Native.Nat.{ℕ, suc, ◌-◌}
 use native.Mathlib.Omega.{arith}
 use mathlib.Core.Path.{◌≡◌, refl, sym, ap, subst, ◌∙◌}
-use mathlib.Core.Bool.{Bool, true, false, cond, ◌&&◌}
+use mathlib.Core.Bool.{Bool, true, false, cond, not, ◌&&◌}
 use mathlib.Core.List.{List, [], ◌∷◌, ◌++◌, append_assoc}
 use lib.ListN.{length, get_or, length-append}
-use Rattle.order.proofs.Simple.{and_left, and_right}
-use Rattle.names.specs.Names.{blank, trim_start, keep, trim_end, trim, is_mark, space, added, pushed, name_new}
+use borrow.Author.Tests.{lt-ltb}
+use Rattle.names.specs.Names.{blank, trim_start, keep, trim_end, trim, is_mark, is_empty, parted, space, added, pushed, name_new}
 use Rattle.names.specs.Reader.{first, last}
 use Rattle.names.specs.Laws.{blanks, Around, Trimming, between, Joining}
-use Rattle.names.proofs.TrimLoops.{start_more, start_kept, behind_first}
+use Rattle.names.proofs.Trimming.{start_more, start_kept}
 
 -- ---- blanks
 module _ (b : ℕ) (s : List ℕ) where
@@ -20,11 +20,11 @@ module _ (b : ℕ) (s : List ℕ) where
 
   first_blank : blanks (b ∷ s) ≡ true → blank b ≡ true
   unfolding blanks
-  first_blank h = and_left (blank b) (blanks s) h
+  first_blank h = grind arith
 
   other_blanks : blanks (b ∷ s) ≡ true → blanks s ≡ true
   unfolding blanks
-  other_blanks h = and_right (blank b) (blanks s) h
+  other_blanks h = grind arith
 
 -- ---- what is taken
 record Front (s t : List ℕ) : Type 0 where
@@ -148,9 +148,12 @@ pub trimming : Trimming
 trimming = record { around = around; first_kept = λ s. end_first (trim_start s) (start_first s); last_kept = λ s. end_last (trim_start s); only = only }
 
 -- ---- the parts
+behind_first : (i : ℕ) (p : Bool) (s : List ℕ) → (not p && (not (is_mark s) && not (is_empty s))) ≡ parted (suc i) p s
+behind_first i p s = sym (ap (λ q. q && (not p && (not (is_mark s) && not (is_empty s)))) (lt-ltb 0 (suc i) (omega arith)))
+
 pushed_more : (i : ℕ) (b : Bool) (r : List ℕ) (ps : List (List ℕ)) (p q : List ℕ) → pushed i b r (ps ++ (p ∷ q ∷ [])) ≡ pushed i b r (ps ++ (p ∷ [])) ++ (between (trim p) (trim q) ++ trim q)
 unfolding pushed
-pushed_more i b r [] p q = ap (λ z. (r ++ added i b (trim p)) ++ (space z ++ trim q)) (sym (behind_first (suc i) (is_mark (trim p)) (trim q) (λ e. omega arith)))
+pushed_more i b r [] p q = ap (λ z. (r ++ added i b (trim p)) ++ (space z ++ trim q)) (sym (behind_first i (is_mark (trim p)) (trim q)))
 pushed_more i b r (x ∷ ps) p q = pushed_more (suc i) (is_mark (trim x)) (r ++ added i b (trim x)) ps p q
 
 one_part : (p : List ℕ) → name_new (p ∷ []) ≡ trim p

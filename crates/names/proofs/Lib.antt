@@ -1,9 +1,8 @@
-pub mod LetterTable
 pub mod BuiltInNames
-pub mod TrimLoops
+pub mod Trimming
 pub mod Pieces
 pub mod Reader
-pub mod Parts
 pub mod NameNew
+pub mod CallContracts
 pub mod Theorems
 pub mod Laws

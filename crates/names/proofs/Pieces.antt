@@ -37,8 +37,8 @@ put_fill at a old = put_then (pad at old) a old old (puts at a old) at (pad_same
 pub put_none : (at : ℕ) (old : List ℕ) → puts at [] old ≡ old
 put_none at old = put_fill at [] old ∙ ap (λ (z : List ℕ). fill z old) (append-nil (pad at old)) ∙ sym (pad_same at old)
 
-pub put_twice : (a b old mid new : List ℕ) (at n : ℕ) → mid ≡ puts at a old → n ≡ at + length a → new ≡ puts n b mid → new ≡ puts at (a ++ b) old
-put_twice a b old mid new at n em en e =
-    put_then (pad at old ++ a) b old mid new n (em ∙ put_fill at a old) (omega (arith, length-append (pad at old) a, length_pad at old)) e
+pub put_twice : (n at : ℕ) (a b old : List ℕ) → n ≡ at + length a → puts n b (puts at a old) ≡ puts at (a ++ b) old
+put_twice n at a b old e =
+    put_then (pad at old ++ a) b old (puts at a old) (puts n b (puts at a old)) n (put_fill at a old) (omega (arith, length-append (pad at old) a, length_pad at old)) refl
     ∙ ap (λ (z : List ℕ). fill z old) (append_assoc (pad at old) a b)
     ∙ sym (put_fill at (a ++ b) old)

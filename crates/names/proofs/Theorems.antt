@@ -1,19 +1,21 @@
 -- What holds of the names of the built-in types (`wording`): they go both ways.
 -- Idea: of each name by computing, and that no other text is known by going through the names.
 -- Assumes nothing.
-use mathlib.Core.Path.{◌≡◌, refl, sym, ap, ◌∙◌}
+use mathlib.Core.Path.{◌≡◌, refl, ap, ◌∙◌}
 use mathlib.Core.Bool.{Bool, true, false, cond}
 use mathlib.Core.Option.{some}
 use mathlib.Core.List.{List, [], ◌∷◌}
 use Prim.Native.Nat.{ℕ}
 use Rattle.form.specs.Trees.{Simple, any, boolean, number, string, date, time, date_time, days_and_time, years_and_months, null}
+use Rattle.std.specs.Str.{bytes_eq}
 use Rattle.form.proofs.Options.{none_some}
-use Rattle.names.specs.BuiltInNames.{name_of, simples, same_text, one_named, from_str, is_built_in_type_name}
+use Rattle.names.specs.BuiltInNames.{name_of, simples, one_named, from_str, is_built_in_type_name}
 use Rattle.names.specs.Reader.{is_read}
-use Rattle.names.proofs.BuiltInNames.{same_text_lem, named_cons, named_read}
+use Rattle.std.proofs.lemmas.Slice.Eq.{bytes_eq-Decides}
+use Rattle.names.proofs.BuiltInNames.{named_read}
 
 known_name : (x : Simple) → from_str (name_of x) ≡ some x
-unfolding one_named same_text
+unfolding one_named
 known_name any = refl
 known_name boolean = refl
 known_name number = refl
@@ -28,10 +30,10 @@ known_name null = refl
 only_named : (s : List ℕ) (x : Simple) (xs : List Simple) → one_named s xs ≡ some x → s ≡ name_of x
 unfolding one_named
 only_named s x [] e = absurd (none_some e)
-only_named s x (y ∷ xs) e = go (same_text s (name_of y)) refl (only_named s x xs) (sym (named_cons s y xs) ∙ e)
+only_named s x (y ∷ xs) e = go (bytes_eq s (name_of y)) refl (only_named s x xs) e
   where
-    go : (q : Bool) → same_text s (name_of y) ≡ q → (one_named s xs ≡ some x → s ≡ name_of x) → cond q (some y) (one_named s xs) ≡ some x → s ≡ name_of x
-    go true t ih z = let p : y ≡ x = cc in same_text_lem s (name_of y) t ∙ ap name_of p
+    go : (q : Bool) → bytes_eq s (name_of y) ≡ q → (one_named s xs ≡ some x → s ≡ name_of x) → cond q (some y) (one_named s xs) ≡ some x → s ≡ name_of x
+    go true t ih z = let p : y ≡ x = cc in (bytes_eq-Decides s (name_of y)).0 t ∙ ap name_of p
     go false t ih z = ih z
 
 -- ---- in one place

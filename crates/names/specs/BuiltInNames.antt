@@ -1,8 +1,9 @@
 -- The names of the built-in types: the ten names of types.rs, `FeelType::from_str` and `is_built_in_type_name`.
 -- A name is a list of bytes. Assumes nothing.
-use Rattle.std.specs.Prelude.{ℕ, zero, suc, ◌+◌, ◌<◌, ◌≤◌, ◌≡◌, Bool, true, false, cond, ◌&&◌, ◌||◌, List, [], ◌∷◌, ◌++◌, length, eqb}
+use Rattle.std.specs.Prelude.{ℕ, ◌+◌, Bool, false, cond, ◌||◌, List, [], ◌∷◌}
+use Rattle.std.specs.Str.{bytes_eq}
 use Rattle.std.proofs.Math.Option.{Option, none, some}
-use Rattle.form.specs.Trees.{Simple, any, boolean, number, string, date, time, date_time, days_and_time, years_and_months, null, code, decode}
+use Rattle.form.specs.Trees.{Simple, any, boolean, number, string, date, time, date_time, days_and_time, years_and_months, null, code}
 
 -- ---- the ten names: FEEL_TYPE_NAME_ANY and the others
 abbrev pub name_of : Simple → List ℕ
@@ -36,22 +37,10 @@ simples = any ∷ boolean ∷ number ∷ string ∷ date ∷ time ∷ date_time 
 abbrev pub command : Simple → ℕ
 command x = 0x20 + code x
 
--- equal byte for byte
-unfoldable pub same_text : List ℕ → List ℕ → Bool
-same_text [] [] = true
-same_text [] (b ∷ t) = false
-same_text (a ∷ s) [] = false
-same_text (a ∷ s) (b ∷ t) = eqb a b && same_text s t
-
--- s is none of the ten names but the k-th; none at all where k is 10
-pub record Only (s : List ℕ) (k : ℕ) : Type 0 where
-  pub within : k ≤ 10
-  pub others : (j : ℕ) → j < 10 → (j ≡ k → ⊥) → same_text s (name_of (decode j)) ≡ false
-
 -- the one among them whose name it is
 unfoldable pub one_named : List ℕ → List Simple → Option Simple
 one_named s [] = none
-one_named s (x ∷ xs) = cond (same_text s (name_of x)) (some x) (one_named s xs)
+one_named s (x ∷ xs) = cond (bytes_eq s (name_of x)) (some x) (one_named s xs)
 
 -- `FeelType::from_str`: none is Err. No two of the names are equal, so the order in which they are tried does not matter.
 abbrev pub from_str : List ℕ → Option Simple
@@ -60,20 +49,8 @@ from_str s = one_named s simples
 -- it is the name of one among them
 unfoldable pub is_named : List ℕ → List Simple → Bool
 is_named s [] = false
-is_named s (x ∷ xs) = same_text s (name_of x) || is_named s xs
+is_named s (x ∷ xs) = bytes_eq s (name_of x) || is_named s xs
 
 -- `is_built_in_type_name`
 abbrev pub is_built_in_type_name : List ℕ → Bool
 is_built_in_type_name s = is_named s simples
-
--- ---- the names one behind the other, as the code has them: all letters, and where the k-th starts
-unfoldable pub letters_of : List Simple → List ℕ
-letters_of [] = []
-letters_of (x ∷ xs) = name_of x ++ letters_of xs
-
-abbrev pub letters : List ℕ
-letters = letters_of simples
-
-unfoldable pub start_of : ℕ → ℕ
-start_of zero = 0
-start_of (suc k) = start_of k + length (name_of (decode k))

@@ -1,14 +1,13 @@
 -- The definitions of the calls: refusals in document 01's order, then the answer.
 -- Assumes nothing.
 use Rattle.std.specs.Prelude.{ℕ, List, length, leb}
+use Rattle.std.specs.Prelude.{Option as Answer, None, Some}
 use Rattle.std.proofs.Math.Option.{Option, none, some}
 use Rattle.form.specs.Limits.{most_bytes}
 use Rattle.form.specs.Outcome.{Outcome, ◌>>=◌, ◌>>◌, check, or_refuse, fits}
 use Rattle.names.specs.BuiltInNames.{command, from_str}
 use Rattle.names.specs.Names.{trim, name_new}
 use Rattle.names.specs.Parts.{read_parts}
-use Rattle.names.specs.declared.Known.{Known}
-use Rattle.names.specs.declared.Known.TheVariants as Known-is
 use Rattle.form.specs.Options.{map}
 
 -- Name::new
@@ -27,7 +26,7 @@ trim_call s room = do
 abbrev pub from_str_call : List ℕ → Option ℕ
 from_str_call s = map command (from_str s)
 
--- the answer of that call
-abbrev pub known : Known → Option ℕ
-known (Known-is.Type c) = some c
-known Known-is.Unknown = none
+-- what that call answers
+abbrev pub known : Answer ℕ → Option ℕ
+known (Some c) = some c
+known None = none

@@ -1,10 +1,10 @@
 -- Names: `Name::from`, which trims, and `Name::new` over parts.
 -- Assumes nothing.
 use Rattle.std.specs.Prelude.{ℕ, suc, ◌-◌, ◌≡◌, Bool, true, false, cond, not, ◌&&◌, ◌||◌, List, [], ◌∷◌, ◌++◌, length, leb, ltb, eqb}
-use Rattle.std.proofs.Math.Option.{Option}
+use Rattle.std.specs.Prelude.{Option as Answer, None, Some}
+use Rattle.std.proofs.Math.Option.{Option, none, some}
 use Rattle.std.specs.Borrow.{Bor}
 use Rattle.form.specs.Parts.{LiesAt}
-use Rattle.form.specs.Options.{WhereRead}
 use Rattle.output.specs.Output.{fill}
 
 -- ---- trim
@@ -71,6 +71,7 @@ pushed index prev result (p ∷ ps) = pushed (suc index) (is_mark (trim p)) (res
 abbrev pub name_new : List (List ℕ) → List ℕ
 name_new parts = pushed 0 false [] parts
 
--- what a writer of a name leaves: its length, and as much of it as has room
-unfoldable pub Writes : Option (List ℕ) → List ℕ → List ℕ → ℕ → Type 0
-Writes r old new n = WhereRead (Unit {0}) (λ bs. (n ≡ length bs) × (new ≡ fill bs old)) r
+-- what a writer of a name leaves: its length, and as much of it as has room; nothing is said of the output where there is no name
+unfoldable pub Writes : Option (List ℕ) → List ℕ → List ℕ → Answer ℕ → Type 0
+Writes none old new r = r ≡ None
+Writes (some bs) old new r = (r ≡ Some (length bs)) × (new ≡ fill bs old)

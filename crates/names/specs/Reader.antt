@@ -23,6 +23,11 @@ at_end (b ∷ s) = none
 abbrev pub provided : {X : Type 0} → Bool → Option X → Option X
 provided test x = cond test x none
 
+-- the text at the front behind its length byte, and what stands behind it
+abbrev pub split_text : List ℕ → Option (List ℕ × List ℕ)
+split_text [] = none
+split_text (n ∷ s) = provided (leb n (length s)) (some (take n s, drop n s))
+
 -- so many texts, each a length byte and as many bytes, and nothing behind them
 unfoldable pub read_texts : Rule → Option (List ℕ) → ℕ → List ℕ → Option (List (List ℕ))
 read_texts rule before zero s = at_end s

@@ -12,7 +12,8 @@ use lib.Seq.{take_all}
 use borrow.Rule.Slice.PartMut.{put_mid}
 use Rattle.form.specs.Answers.{onto, Built}
 use Rattle.form.specs.Outcome.{Outcome, fits}
-use Rattle.form.specs.declared.Written.{Written}
+use Rattle.std.specs.declared.result.Result.{Result}
+use Rattle.form.specs.declared.refusals.Refusal.{Refusal}
 use Rattle.form.proofs.Runs.{rest}
 use Rattle.output.specs.Output.{fill, puts}
 use Rattle.form.specs.Form.{bytes}
@@ -39,7 +40,7 @@ fill_front (b ∷ bs) [] k = absurd (omega arith)
 fill_front (b ∷ bs) (o ∷ old) k = ap (take (suc (length bs))) (fill_one b o bs old) ∙ ap (λ (z : List ℕ). b ∷ z) (fill_front bs old (omega arith))
 
 -- what a spare place holds is handed on
-pub handed : (o : Outcome (List ℕ)) (bs spare was old new : List ℕ) (n : ℕ) (r : Written) → o ≡ fits (length old) bs → spare ≡ fill bs was → n ≡ length bs → n ≤ length was
+pub handed : (o : Outcome (List ℕ)) (bs spare was old new : List ℕ) (n : ℕ) (r : Result ℕ Refusal) → o ≡ fits (length old) bs → spare ≡ fill bs was → n ≡ length bs → n ≤ length was
     → Built (fits (length old) (take n spare)) old new r
     → Built o old new r
 handed o bs spare was old new n r e es en h b =

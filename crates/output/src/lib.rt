@@ -9,8 +9,8 @@ ghost use Rattle.output.specs.Output.{over};
 ghost use Rattle.form.specs.Outcome.{fits};
 ghost use Rattle.output.specs.Output.{fill, puts};
 
+use form::Refusal;
 use form::limits::NAME_WIDTH;
-use form::{Written, refusals};
 
 // ---- numbers and copies
 
@@ -49,18 +49,11 @@ pub fn copy_name(s: &[u8], at: usize, out: &mut [u8], to: usize)
 
 // ---- as much as has room
 
-// The smaller of two.
-pub fn min(a: usize, b: usize) -> usize
-    ensures { result ≡ min a b }
-{
-    if a < b { a } else { b }
-}
-
 // As much of `src` as has room, over the front of the output.
 pub fn fill(src: &[u8], out: &mut [u8])
     ensures { out.new ≡ fill src.now out.old }
 {
-    let n = min(src.len(), out.len());
+    let n = src.len().min(out.len());
     copy(&src[..n], out);
 }
 
@@ -70,7 +63,7 @@ pub fn put(src: &[u8], out: &mut [u8], at: usize) -> usize
     ensures value { result ≡ at + length src.now }
     ensures out_after { out.new ≡ puts at src.now out.old }
 {
-    let p = min(at, out.len());
+    let p = at.min(out.len());
     fill(src, &mut out[p..]);
     at + src.len()
 }
@@ -89,13 +82,13 @@ pub fn put_name(name: usize, out: &mut [u8], at: usize) -> usize
 // ---- an answer handed on
 
 // `src` at the front of the output, where it has room. Refusal 18.
-pub fn give(src: &[u8], out: &mut [u8]) -> Written
+pub fn give(src: &[u8], out: &mut [u8]) -> Result<usize, Refusal>
     ensures { Built (fits (length out.old) src.now) out.old out.new result }
 {
     let n = src.len();
     if out.len() < n {
-        return Written::Refused(refusals::OUTPUT);
+        return Err(Refusal::Output);
     }
     copy(src, out);
-    Written::Bytes(n)
+    Ok(n)
 }

@@ -1,8 +1,8 @@
 -- The walk along a path, over the bytes: what `way::survey`, its loop over the entries and `way::read` owe.
 -- Idea: the answer of the whole is the answer from here (`RunInv`); and where all entries were read, what stays and what is cut are those of the entries that are left, behind what was passed.
 -- Index: `Fitting`, `within_new`, `within_old`, `cut_small`, `stays_level` (on trees); `path_parts` (a path); `surveyed`, `surveyed_is`, `Answer`, `fault_answer`, `flat_answer` (answers);
--- `Child`, `child`, `child_is`, `child_cut`, `child_rest` (an entry's value); `Cutting`, `Left`, `Along`, `along_start`, `along_none`, `along_fall`, `along_fault`, `along_fits`, `along_cut`,
--- `along_this`, `along_before`, `along_behind`, `along_end` (the loop); `whole_surveyed`, `empty_surveyed`, `settled_refused`, `settled_done` (the whole).
+-- `Child`, `child`, `child_is`, `child_cut`, `child_rest` (an entry's value); `Cutting`, `Left`, `Along`, `along_start`, `along_none`, `along_fall`, `along_fault`, `along_cut`,
+-- `along_this`, `along_before`, `along_behind`, `along_end` (the loop); `whole_surveyed`, `read_ended`, `read_left`, `read_fault` (the whole).
 -- Assumes nothing.
 use Prim.Native.Nat.{ℕ, suc, ◌+◌, ◌-◌, ◌<◌, ◌≤◌, max}
 use native.Mathlib.Omega.{arith}
@@ -14,15 +14,16 @@ use mathlib.Core.List.{List, [], ◌∷◌}
 use lib.ListN.{length, get_or, drop}
 use lib.Dec.{eqb, ltb}
 use borrow.Author.Tests.{eq-eqb, ne_eqb}
-use Rattle.form.specs.Limits.{name_width}
+use Rattle.form.specs.Limits.{name_width, most_bytes, value_levels, value_refusals}
 use Rattle.form.specs.Trees.{Val, v_context, Entries, no_entries, entry}
 use Rattle.form.specs.Form.{num_at, level_v, level_entries}
 use Rattle.form.specs.Layout.{k_context, of_value, kind_of, operands, operands_v}
-use Rattle.form.specs.Read.{Got, got, bad, read_v, read_named, read_entries, ascending}
-use Rattle.form.specs.Outcome.{Outcome, done, refused, pick}
-use Rattle.form.specs.Walks.{walk_of, walk_by, up, Told, settled}
+use Rattle.form.specs.Outcome.{done, refused}
+use Rattle.form.specs.Read.{Got, got, bad, read_v, read_named, read_entries, ascending, read_value, check_value}
+use Rattle.form.specs.Walks.{Walk, End, Stop, walk_of, walk_by, walk_told, up, Told, Passed}
+use Rattle.std.specs.Prelude.{Ok}
+use Rattle.form.proofs.Whole.{levelled, told_passed, whole_ended, whole_left, whole_fault}
 use Rattle.form.proofs.Options.{none_some, some_same}
-use Rattle.form.proofs.Accepted.{refused_done}
 use Rattle.form.proofs.Runs.{RunInv, run_start, run_done, named_none, end_is, behind}
 use Rattle.form.proofs.Runs as runs
 use Rattle.form.proofs.WalkAnswers.{told_part, told_ended, ample}
@@ -32,14 +33,14 @@ use Rattle.order.specs.Size.{size_val, size_entries}
 use Rattle.types.proofs.Reading.{got_seen}
 use Rattle.types.specs.At.{seen}
 use Rattle.values.specs.At.{value_at, entries_at}
-use Rattle.values.proofs.Reading.{From, value_told, as_context, some_byte}
+use Rattle.values.proofs.Reading.{From, value_told, as_context}
 use Rattle.values.proofs.EntriesAt.{This, this, none_left, context_val, size_context, size_next, size_none}
 use Rattle.paths.specs.Paths.{value_of, entries_of, below, entry_place}
 use Rattle.paths.specs.Places.{whole_at}
 use Rattle.paths.proofs.Whole.{of_context, front_of}
 use Rattle.paths.proofs.PathSearch.{whole_value, entry_inside}
 use Rattle.paths.proofs.OneName.{value_first, value_later, value_absent, below_more, below_none, value_empty}
-use Rattle.paths.specs.Way.{stays_in, stays_of, stays, no_cut, cut_here, cut_inside, within, cut_at, cut_in, cut_of, Surveyed, judged}
+use Rattle.paths.specs.Way.{stays_in, stays_of, stays, no_cut, cut_here, cut_inside, within, cut_at, cut_in, cut_of, Surveyed}
 use Rattle.paths.specs.declared.way.Cut.{Cut}
 
 -- ---- on trees
@@ -332,10 +333,6 @@ module _ {l : ℕ} {s : List ℕ} {n name : ℕ} {p : List ℕ} {at deep rest le
         abbrev C : Child (l - 1) s (at + name_width) r t
         C = child (l - 1) s (at + name_width) r t told some_bytes
 
-        -- it ends within the bytes
-        pub along_fits : at + name_width + r ≤ length s
-        along_fits = omega (arith, C.fits, W.run.inside)
-
         -- its cut lies within it
         pub along_cut : (w : ℕ) (k : Cut) → Surveyed p (value_at (l - 1) (behind (at + name_width) s)) w k → Fitting r k
         along_cut w k h = child_cut C p w k h
@@ -410,15 +407,17 @@ module _ {l : ℕ} {s : List ℕ} {n name : ℕ} {p : List ℕ} {at deep rest le
             })
 
         -- past the entry of a larger name
-        pub along_behind : name < x → {d rest' : ℕ} → d ≡ max deep t → rest' ≡ max rest t → Along l s n name p (at + name_width + r) d rest' (x + 1) (i + 1) cut
-        along_behind b {d} {rest'} ed er =
-            on d rest' cut ed (omega (arith, er, W.low, C.low)) (λ es e.
+        pub along_behind : name < x → {d rest' : ℕ} {k : Cut} → d ≡ max deep t → rest' ≡ max rest t → k ≡ cut → Along l s n name p (at + name_width + r) d rest' (x + 1) (i + 1) k
+        along_behind b {d} {rest'} {k} ed er ek =
+            on d rest' k ed (omega (arith, er, W.low, C.low)) (λ es e.
             let L = W.left es e in
             record {
               more = (A es L).more;
               read = after es L;
               stay = stay-other es L (λ z. omega arith) rest' er;
-              cuts = cut_behind x C.x (A es L).more (first es L) above L.cuts b (others es L) (at + name_width + r);
+              cuts =
+                  subst (Cutting name (cut_of p) es (A es L).more (at + name_width + r) (x + 1)) (sym ek)
+                  (cut_behind x C.x (A es L).more (first es L) above L.cuts b (others es L) (at + name_width + r));
             })
 
 -- ---- the whole
@@ -426,29 +425,26 @@ module _ {l : ℕ} {s : List ℕ} {n name : ℕ} {p : List ℕ} {at deep rest le
 pub whole_surveyed : (l : ℕ) (s p : List ℕ) (rest : ℕ) (k : Cut) → Surveyed p (value_at l s) rest k → Surveyed p (whole_at l s) rest k
 whole_surveyed l s p rest k h = surveyed p (whole_at l s) rest k (λ v e. surveyed_is p (value_at l s) rest k v (whole_value l s v e) h)
 
--- no bytes: nothing is read
-pub empty_surveyed : (l : ℕ) (s p : List ℕ) (rest : ℕ) (k : Cut) → length s ≡ 0 → Surveyed p (whole_at l s) rest k
-empty_surveyed l s p rest k z = surveyed p (whole_at l s) rest k (λ v e. absurd (omega (arith, some_byte l s v (whole_value l s v e))))
+-- the answer for a whole, by what its walk told
+module _ (s : List ℕ) (some : length s ≡ 0 → ⊥) (short : length s ≤ most_bytes) {r t : ℕ} (told : Told (walk_of level_v (read_v value_levels s)) (length s) r t) where
+  ended : (r ≡ 0 → ⊥) → Passed (walk_of level_v (read_v value_levels s)) (length s) (Ok (record { size = r; level = t }))
+  unfolding walk_told
+  ended z = told_passed (walk_of level_v (read_v value_levels s)) (length s) r t (Ok (record { size = r; level = t })) told (rw (ne_eqb r 0 z))
 
--- the answer by the number that is left
-refused_same : {n m : ℕ} → ◌≡◌ {A = Outcome ℕ} (refused n) (refused m) → n ≡ m
-refused_same e = cc
+  pub read_ended : r ≡ length s → done t ≡ check_value s
+  unfolding check_value
+  read_ended e = whole_ended level_v value_refusals (read_v value_levels) s some short (record { size = r; level = t }) (ended (λ z. some (sym e ∙ z))) e
 
-module _ (base n size told : ℕ) where
-  pub settled_refused : (code : ℕ) → 1 ≤ base → refused code ≡ settled base n size told → judged code told ≡ settled base n size told
-  unfolding settled
-  settled_refused code h e = ap (λ q. pick q (done told) (refused code)) (ne_eqb code 0 (λ z. go (eqb size 0) (eqb size n) e z)) ∙ e
+  pub read_left : (r ≡ 0 → ⊥) → (r ≡ length s → ⊥) → refused 5 ≡ check_value s
+  unfolding check_value
+  read_left z d = whole_left level_v value_refusals (read_v value_levels) s some short (record { size = r; level = t }) (ended z) d
+
+  pub read_fault : r ≡ 0 → refused (1 + t) ≡ check_value s
+  unfolding check_value
+  read_fault z = go (walk_of level_v (read_v value_levels s)) refl told
     where
-      go : (a b : Bool) → refused code ≡ pick a (refused (base + told)) (pick b (done told) (refused (base + 4))) → code ≡ 0 → ⊥
-      go true b q z = omega (arith, refused_same q)
-      go false true q z = refused_done q
-      go false false q z = omega (arith, refused_same q)
-
-  pub settled_done : (level : ℕ) → done level ≡ settled base n size told → judged 0 told ≡ settled base n size told
-  unfolding settled
-  settled_done level e = go (eqb size 0) (eqb size n) e
-    where
-      go : (a b : Bool) → done level ≡ pick a (refused (base + told)) (pick b (done told) (refused (base + 4))) → done told ≡ pick a (refused (base + told)) (pick b (done told) (refused (base + 4)))
-      go true b q = absurd (refused_done (sym q))
-      go false true q = refl
-      go false false q = absurd (refused_done (sym q))
+      go : (w : Walk) → walk_of level_v (read_v value_levels s) ≡ w → Told w (length s) r t → refused (1 + t) ≡ levelled level_v (read_value s)
+      go (End n l) e h = absurd (omega (arith, h.size, h.inside))
+      go (Stop f) e h =
+          ap (λ (k : ℕ). refused (1 + k)) h.told
+          ∙ whole_fault level_v value_refusals (read_v value_levels) s some short f (record { answer = sym e; inside = rw e tt })

@@ -1,59 +1,38 @@
 -- The questions on a context beside each other (`lookups`). Each call is one function of the entries that were read, so a law on trees is one on calls.
 -- Assumes nothing.
-use Prim.Native.Nat.{ℕ, suc, ◌+◌}
+use Prim.Native.Nat.{ℕ, ◌+◌}
 use native.Mathlib.Omega.{arith}
 use mathlib.Core.Path.{◌≡◌, refl, sym, ap, subst, ◌∙◌}
 use mathlib.Core.Bool.{true, false, false≢true}
 use mathlib.Core.Option.{Option, none, some}
 use mathlib.Core.List.{List, [], ◌∷◌}
-use lib.ListN.{length, take, drop}
-use lib.Dec.{eqb}
-use borrow.Author.Tests.{ne_eqb}
+use lib.ListN.{take, drop}
 use Rattle.form.specs.Limits.{name_width}
 use Rattle.form.specs.Trees.{l_boolean, Val, v_leaf, v_context, Entries, no_entries, entry}
-use Rattle.form.specs.Form.{num, count_entries}
-use Rattle.form.specs.Outcome.{Outcome, done, refused, ◌>>=◌, ◌>>◌}
+use Rattle.form.specs.Form.{num}
+use Rattle.form.specs.Outcome.{Outcome, done, ◌>>=◌, ◌>>◌}
 use Rattle.form.specs.Layout.{kind_of}
-use Rattle.form.specs.Read.{front, and_then, or_else, operand, named, read_named, read_flag, counted, step_value, step_v, read_v, number_of, all, read_whole}
+use Rattle.form.specs.Read.{front, and_then, or_else, operand, named, read_named, read_flag, counted, step_value, step_v, read_v, all, read_whole}
 use Rattle.order.specs.Size.{size_val, size_entries}
 use Rattle.order.proofs.LeastSize.{length_enc_v}
-use Rattle.paths.specs.Paths.{value_of, below, entries_of, bind, is_some, is_context, is_empty, get_first, search, contains_deep, entry_place, place}
+use Rattle.paths.specs.Paths.{value_of, below, entries_of, bind, is_some, is_context, get_first, search, contains_deep, entry_place, place}
 use Rattle.paths.specs.Places.{Spot, spot, spot_in}
 use Rattle.paths.specs.Calls.{context_of, search_deep_call, get_entry_call, get_first_call, contains_deep_call}
-use Rattle.paths.specs.Laws.{twice, holds_context, StandsAt, Lookups}
+use Rattle.paths.specs.Laws.{twice, StandsAt, Lookups}
 use Rattle.paths.proofs.Whole.{of_context}
 use Rattle.paths.proofs.OneName.{value_first, below_none}
 use Rattle.paths.proofs.PathSearch.{contains_deep_lem, Stands}
 use Rattle.paths.proofs.Steps.{search_cut}
-use Rattle.paths.proofs.CallContracts.{AllStand, entry_call, stand_deep, stand_entry, stand_first}
+use Rattle.paths.proofs.CallContracts.{AllStand, entry_call, stand_deep, stand_entry, stand_first, entry_spot, empty_tree, deep_asked, entry_asked, context_asked, empty_asked}
 use Rattle.form.specs.Options.{map}
 use Rattle.values.proofs.EntriesAt.{size_none}
 
 -- ---- a call after a call
--- a question f, asked of the entries or of what g gives of them
-asked : {X Y : Type 0} (o : Outcome Entries) (g : Entries → X) (f : X → Y) (b : Entries → Y) → ((es : Entries) → b es ≡ f (g es))
-    → (do es ← o; done (b es)) ≡ (do x ← (do es ← o; done (g es)); done (f x))
-unfolding ◌>>=◌
-asked (done es) g f b h = ap done (h es)
-asked (refused n) g f b h = refl
-
 given_done : {Y : Type 0} (o : Outcome Entries) (es : Entries) (f : Entries → Outcome Y) → o ≡ done es → (do x ← o; f x) ≡ f es
 unfolding ◌>>=◌
 given_done o es f e = rw e
 
 -- ---- found
--- the value of a name and its place
-abbrev entry_spot : ℕ → Entries → Option Spot
-entry_spot n es = map (spot (entry_place n es + name_width)) (value_of n es)
-
-found_is : (q : ℕ) (o : Option Val) → is_some o ≡ is_some (map (spot q) o)
-found_is q none = refl
-found_is q (some v) = refl
-
-holds_is : (q : ℕ) (o : Option Val) → is_some (bind o entries_of) ≡ holds_context (map (spot q) o)
-holds_is q none = refl
-holds_is q (some v) = refl
-
 context_found : (n : ℕ) (es : Entries) → is_context n es ≡ true → (fs : Entries) × (value_of n es ≡ some (v_context fs))
 context_found n es e = go (value_of n es) refl e
   where
@@ -71,12 +50,6 @@ found_context n es fs e = ap (λ o. is_some (bind o entries_of)) e
 entry_tree : (n : ℕ) (es : Entries) → value_of n es ≡ search (n ∷ []) es
 unfolding search
 entry_tree n es = refl
-
--- ---- how many
-empty_tree : (es : Entries) → is_empty es ≡ eqb (count_entries es) 0
-unfolding count_entries
-empty_tree no_entries = refl
-empty_tree (entry n v es) = sym (ne_eqb (suc (count_entries es)) 0 (λ e. omega arith))
 
 -- ---- the first entry
 first_tree : (n : ℕ) (v : Val) (es : Entries) → get_first (entry n v es) ≡ value_of n (entry n v es)
@@ -110,7 +83,7 @@ stands c o q v h e =
     record { inside = omega (arith, S.within, length_enc_v v); bytes = ap (λ (k : ℕ). take k (drop q c)) (length_enc_v v) ∙ S.text }
 
 second : search_deep_call twice (2 ∷ []) ≡ done (some (spot 9 (v_leaf (l_boolean true))))
-unfolding num kind_of front and_then or_else operand named read_named read_flag counted step_value step_v read_v number_of all read_whole context_of value_of search below place size_val size_entries ◌>>=◌ ◌>>◌
+unfolding num kind_of front and_then or_else operand named read_named read_flag counted step_value step_v read_v all read_whole context_of value_of search below place size_val size_entries ◌>>=◌ ◌>>◌
 second = refl
 
 pub lookups : Lookups
@@ -118,14 +91,14 @@ lookups = record {
   entry_tree = entry_tree;
   entry_call = λ c n. sym (entry_call c n);
   deep_tree = contains_deep_lem;
-  deep_call = λ c p. asked (context_of c (length p)) (spot_in p) is_some (contains_deep p) (λ es. contains_deep_lem p es ∙ found_is (place p es) (search p es));
+  deep_call = deep_asked;
   has_tree = λ n es. refl;
-  has_call = λ c n. asked (context_of c 0) (entry_spot n) is_some (λ es. is_some (value_of n es)) (λ es. found_is (entry_place n es + name_width) (value_of n es));
+  has_call = entry_asked;
   context_found = context_found;
   found_context = found_context;
-  context_call = λ c n. asked (context_of c 0) (entry_spot n) holds_context (is_context n) (λ es. holds_is (entry_place n es + name_width) (value_of n es));
+  context_call = context_asked;
   empty_tree = empty_tree;
-  empty_call = λ c. asked (context_of c 0) count_entries (λ n. eqb n 0) is_empty empty_tree;
+  empty_call = empty_asked;
   first_tree = first_tree;
   first_call = first_call;
   first_none = λ c e. given_done (context_of c 0) no_entries (λ fs. done (map (spot (3 + name_width)) (get_first fs))) e;

@@ -4,12 +4,10 @@ use Rattle.std.specs.Prelude.{ℕ, ◌+◌, Bool, List, length, leb}
 use Rattle.std.proofs.Math.Option.{Option}
 use Rattle.form.specs.Limits.{name_width, most_names}
 use Rattle.form.specs.Trees.{Entries}
-use Rattle.form.specs.Outcome.{Outcome, done, refused, ◌>>=◌, ◌>>◌, check, or_refuse}
+use Rattle.form.specs.Outcome.{Outcome, done, ◌>>=◌, ◌>>◌, check, or_refuse}
 use Rattle.form.specs.Read.{read_value}
 use Rattle.paths.specs.Paths.{value_of, entries_of, contains_entry, is_context, len, is_empty, get_first, contains_deep, entry_place}
 use Rattle.paths.specs.Places.{Spot, spot, spot_in}
-use Rattle.paths.specs.declared.Count.{Count}
-use Rattle.paths.specs.declared.Count.TheVariants as count_is
 use Rattle.form.specs.Options.{map}
 
 -- the context c and a path of so many names: 1 to 5, 11, 12
@@ -63,8 +61,3 @@ abbrev pub len_call : List ℕ → Outcome ℕ
 len_call c = do
   es ← context_of c 0
   done (len es)
-
--- the answer of a call that counts
-abbrev pub count : Count → Outcome ℕ
-count (count_is.Entries n) = done n
-count (count_is.Refused n) = refused n

@@ -1,16 +1,19 @@
 -- Along a path, on trees: the level of what an update leaves of a value, which of its bytes an update changes, and the value that these tell at the path.
 -- Assumes nothing.
-use Rattle.std.specs.Prelude.{ℕ, suc, ◌+◌, ◌-◌, max, ◌≡◌, cond, List, [], ◌∷◌, eqb, ltb}
+use Rattle.std.specs.Prelude.{ℕ, suc, ◌+◌, ◌-◌, max, ◌≡◌, cond, List, [], ◌∷◌, eqb, ltb, Ok, Err, Result}
 use Rattle.std.proofs.Math.Option.{Option, none, some}
 use Rattle.form.specs.Limits.{name_width}
 use Rattle.form.specs.Trees.{Val, Entries, no_entries, entry}
 use Rattle.form.specs.Form.{level_v}
-use Rattle.form.specs.Outcome.{Outcome, done, refused, pick}
+use Rattle.form.specs.Outcome.{Outcome, done, refused}
+use Rattle.form.specs.declared.refusals.Refusal.{Refusal}
+use Rattle.form.specs.Answers.{number}
 use Rattle.form.specs.Options.{WhereRead}
 use Rattle.order.specs.Size.{size_val}
 use Rattle.paths.specs.Paths.{value_of, entries_of, entry_place}
 use Rattle.paths.specs.Places.{Piece, piece}
 use Rattle.paths.specs.declared.way.Cut.{Cut}
+use Rattle.paths.specs.declared.way.Way.{Way}
 
 -- ---- the level of what an update at the path leaves: one more than the largest of the context's entries, where what it leaves counts for the entry of the
 -- first name. The value at the path goes, and a value on the way that is no context.
@@ -64,6 +67,7 @@ part_of names k = cond (eqb k.gone 0) none (cond (ltb k.names names) none (some 
 unfoldable pub Surveyed : List ℕ → Option Val → ℕ → Cut → Type 0
 Surveyed p o rest k = WhereRead (Unit {0}) (λ v. (rest ≡ stays p v) × (k ≡ cut_of p v)) o
 
--- accepted with its level, or refused, by the number that is left, 0 for none
-abbrev pub judged : ℕ → ℕ → Outcome ℕ
-judged code level = pick (eqb code 0) (done level) (refused code)
+-- the level of what was accepted, or the refusal
+abbrev pub judged : Result Way Refusal → Outcome ℕ
+judged (Ok way) = done way.level
+judged (Err refusal) = refused (number refusal)

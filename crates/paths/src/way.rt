@@ -1,6 +1,6 @@
 // The walk along a path: it reads a value as `form` does, says its level and the level of what an update leaves, and finds the bytes that an update changes.
-ghost use Rattle.std.specs.Prelude.{◌≡◌, ◌+◌, ◌<◌, ◌≤◌, ◌^◌, length, get_or};
-ghost use Rattle.form.specs.Limits.{name_width, most_bytes, value_levels};
+ghost use Rattle.std.specs.Prelude.{◌≡◌, ◌+◌, ◌<◌, ◌≤◌, ◌^◌, length, get_or, IfOk};
+ghost use Rattle.form.specs.Limits.{name_width, value_levels};
 ghost use Rattle.form.specs.Form.{level_v};
 ghost use Rattle.form.specs.Read.{read_v, check_value};
 ghost use Rattle.form.specs.Walks.{walk_of, Told};
@@ -9,7 +9,8 @@ ghost use Rattle.paths.specs.Places.{whole_at};
 ghost use Rattle.paths.specs.Way.{no_cut, within, Surveyed, judged};
 
 use form::limits::{MOST_BYTES, NAME_WIDTH, VALUE_LEVELS};
-use form::{Checked, commands, refusals};
+use form::walk::Fault;
+use form::{Refusal, commands};
 
 // What an update at a path changes: in the context at `base`, `gone` bytes from `at` on, which are the name's entry, none where the name is new.
 // So many contexts were gone into, one for each name; none where there is no name or no context. The value that goes has the level `old`.
@@ -31,6 +32,15 @@ pub struct Way {
     pub cut: Cut,
 }
 
+// No context was gone into.
+const NO_CUT: Cut = Cut {
+    base: 0,
+    at: 0,
+    gone: 0,
+    names: 0,
+    old: 0,
+};
+
 // A value that is not gone into.
 fn pass(s: &[u8], left: usize) -> Way
     ensures told { Told (walk_of level_v (read_v left s.now)) (length s.now) result.size result.level }
@@ -39,16 +49,10 @@ fn pass(s: &[u8], left: usize) -> Way
     let mut told: usize = 0;
     let size = values::walk::pass(s, left, &mut told);
     Way {
-        size: size,
+        size,
         level: told,
         rest: 0,
-        cut: Cut {
-            base: 0,
-            at: 0,
-            gone: 0,
-            names: 0,
-            old: 0,
-        },
+        cut: NO_CUT,
     }
 }
 
@@ -60,13 +64,7 @@ fn stop(fault: usize) -> Way
         size: 0,
         level: fault,
         rest: 0,
-        cut: Cut {
-            base: 0,
-            at: 0,
-            gone: 0,
-            names: 0,
-            old: 0,
-        },
+        cut: NO_CUT,
     }
 }
 
@@ -78,11 +76,11 @@ fn around(at: usize, size: usize, level: usize, cut: Cut) -> Cut
 {
     if cut.names == 0 {
         return Cut {
-            base: 0,
-            at: at,
+            at,
             gone: NAME_WIDTH + size,
             names: 1,
             old: level,
+            ..NO_CUT
         };
     }
     let p = at + NAME_WIDTH;
@@ -101,16 +99,7 @@ pub fn survey(s: &[u8], path: &[u16], left: usize) -> Way
     ensures told { Told (walk_of level_v (read_v left s.now)) (length s.now) result.size result.level }
     ensures surveyed { Surveyed path.now (value_at left s.now) result.rest result.cut }
 {
-    if path.len() == 0 {
-        return pass(s, left);
-    }
-    if s.len() < 3 {
-        return pass(s, left);
-    }
-    if left == 0 {
-        return pass(s, left);
-    }
-    if s[0] != commands::CONTEXT {
+    if path.is_empty() || s.len() < 3 || left == 0 || s[0] != commands::CONTEXT {
         return pass(s, left);
     }
     survey_entries(s, path, left)
@@ -124,38 +113,34 @@ fn survey_entries(s: &[u8], path: &[u16], left: usize) -> Way
     ensures surveyed { Surveyed path.now (value_at left s.now) result.rest result.cut }
 {
     let n = form::bytes::word_at(s, 1);
-    let name = crate::walk::name_number(path[0]);
+    let name = usize::from(path[0]);
     let mut told: usize = 0;
     let mut at: usize = 3;
     let mut deep: usize = 0;
     let mut rest: usize = 0;
     let mut least: usize = 0;
-    let mut i: usize = 0;
     let mut cut = Cut {
-        base: 0,
-        at: 3,
-        gone: 0,
+        at,
         names: 1,
-        old: 0,
+        ..NO_CUT
     };
-    while i < n {
+    for i in 0..n {
         if s.len() - at < NAME_WIDTH {
-            return stop(form::walk::SHAPE);
+            return stop(Fault::Shape as usize);
         }
         let x = form::bytes::name_at(s, at);
         if x < least {
-            return stop(form::walk::NAMES);
+            return stop(Fault::Names as usize);
         }
         let p = at + NAME_WIDTH;
         least = x + 1;
-        i += 1;
         if x == name {
             let w = survey(&s[p..], &path[1..], left - 1);
             if w.size == 0 {
                 return stop(w.level);
             }
-            deep = form::bytes::max(deep, w.level);
-            rest = form::bytes::max(rest, w.rest);
+            deep = deep.max(w.level);
+            rest = rest.max(w.rest);
             cut = around(at, w.size, w.level, w.cut);
             at = p + w.size;
             continue;
@@ -164,16 +149,14 @@ fn survey_entries(s: &[u8], path: &[u16], left: usize) -> Way
         if size == 0 {
             return stop(told);
         }
-        deep = form::bytes::max(deep, told);
-        rest = form::bytes::max(rest, told);
+        deep = deep.max(told);
+        rest = rest.max(told);
         at = p + size;
         if x < name {
             cut = Cut {
-                base: 0,
-                at: at,
-                gone: 0,
+                at,
                 names: 1,
-                old: 0,
+                ..NO_CUT
             };
         }
     }
@@ -181,27 +164,22 @@ fn survey_entries(s: &[u8], path: &[u16], left: usize) -> Way
         size: at,
         level: deep + 1,
         rest: rest + 1,
-        cut: cut,
+        cut,
     }
 }
 
-// A whole value along the path; the number of its refusal, or 0, is left in `status`. Refusals 1 to 5.
-pub fn read(c: &[u8], path: &[u16], status: &mut u8) -> Way
-    ensures level_after { judged status.new result.level ≡ check_value c.now }
-    ensures surveyed { length c.now ≤ most_bytes → Surveyed path.now (whole_at value_levels c.now) result.rest result.cut }
+// A whole value along the path. Refusals 1 to 5.
+pub fn read(c: &[u8], path: &[u16]) -> Result<Way, Refusal>
+    ensures level { judged result ≡ check_value c.now }
+    ensures surveyed { IfOk result (λ way. Surveyed path.now (whole_at value_levels c.now) way.rest way.cut) }
 {
-    if c.len() == 0 {
-        *status = refusals::VALUE;
-        return stop(0);
+    if c.is_empty() || MOST_BYTES < c.len() {
+        return Err(Refusal::ValueLength);
     }
-    if MOST_BYTES < c.len() {
-        *status = refusals::VALUE;
-        return stop(0);
+    let way = survey(c, path, VALUE_LEVELS);
+    match way.size {
+        0 => Err(form::walk::value_fault(way.level)),
+        size if size == c.len() => Ok(way),
+        _ => Err(Refusal::ValueLeftOver),
     }
-    let w = survey(c, path, VALUE_LEVELS);
-    match form::walk::settle(w.size, w.level, c.len(), refusals::VALUE) {
-        Checked::Refused(n) => *status = n,
-        Checked::Accepted { level: _ } => *status = 0,
-    }
-    w
 }

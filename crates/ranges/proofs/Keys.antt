@@ -1,33 +1,28 @@
--- Keys: four words are the number of eight bytes (`key_is`), and keys compare as signed numbers (`signed`).
+-- A key that is read, by the number of its eight bytes: `key_fits`, and `key_means`, the whole number that it means.
 -- Assumes nothing.
-use Prim.Native.Nat.{ℕ, suc, ◌+◌, ◌*◌, ◌≤◌}
-use mathlib.Core.Path.{◌≡◌, refl, ap, ◌∙◌}
-use mathlib.Core.Bool.{Bool, true, false, cond}
+use Prim.Native.Nat.{ℕ, ◌<◌, ◌≤◌, ◌^◌}
+use mathlib.Core.Path.{◌≡◌, ap, ◌∙◌}
 use mathlib.Core.List.{List, [], ◌∷◌}
 use native.Mathlib.Omega.{arith}
-use lib.ListN.{length, take, drop, length-drop}
-use lib.Seq.{drop-drop}
-use lib.Dec.{leb}
+use lib.ListN.{length, get_or}
+use mir.Syntax.{w8}
+use mir.Val.{Fits}
+use Rattle.std.specs.Int.{w64, from_le_bytes, cast_signed}
 use Rattle.form.specs.Form.{num, num_at}
-use Rattle.ranges.specs.Ranges.{negative, signed_le}
+use Rattle.ranges.specs.Ranges.{meaning}
+use Rattle.ranges.proofs.Signed.{cast_is}
 
--- a word and what stands behind it
-word_first : (m : ℕ) (s : List ℕ) → 2 ≤ length s → num (take (suc (suc m)) s) ≡ num (take 2 s) + num (take m (drop 2 s)) * 65536
+abbrev eight : List ℕ → List ℕ
+eight s = get_or s 1 0 ∷ get_or s 2 0 ∷ get_or s 3 0 ∷ get_or s 4 0 ∷ get_or s 5 0 ∷ get_or s 6 0 ∷ get_or s 7 0 ∷ get_or s 8 0 ∷ []
+
+key_is : (s : List ℕ) → 9 ≤ length s → from_le_bytes w64 (eight s) ≡ num_at 8 1 s
 unfolding num
-word_first m [] h = absurd (omega arith)
-word_first m (a ∷ []) h = absurd (omega arith)
-word_first m (a ∷ b ∷ s) h =
-    let z : num (take m (drop 2 (a ∷ b ∷ s))) ≡ num (take m s) = refl in
-    omega arith
+key_is (c ∷ b0 ∷ b1 ∷ b2 ∷ b3 ∷ b4 ∷ b5 ∷ b6 ∷ b7 ∷ s) h = omega arith
+key_is s h = absurd (omega arith)
 
-word_behind : (m at to : ℕ) (s : List ℕ) → at + 2 ≡ to → to ≤ length s → num_at (suc (suc m)) at s ≡ num_at 2 at s + num_at m to s * 65536
-word_behind m at to s e h = word_first m (drop at s) (simp length-drop (omega arith)) ∙ ap (λ (r : List ℕ). num_at 2 at s + num (take m r) * 65536) (drop-drop 2 at s ∙ ap (λ k. drop k s) e)
+module _ (s : List ℕ) (h : 9 ≤ length s) (b : (i : ℕ) → Fits w8 (get_or s i 0)) where
+  pub key_fits : num_at 8 1 s < 2 ^ 64
+  key_fits = omega (arith, key_is s h, (b 1).fits, (b 2).fits, (b 3).fits, (b 4).fits, (b 5).fits, (b 6).fits, (b 7).fits, (b 8).fits)
 
-pub key_is : (s : List ℕ) (at a b c d : ℕ) → at + 8 ≤ length s → a ≡ num_at 2 at s → b ≡ num_at 2 (at + 2) s → c ≡ num_at 2 (at + 4) s → d ≡ num_at 2 (at + 6) s
-    → a + (b + (c + d * 65536) * 65536) * 65536 ≡ num_at 8 at s
-key_is s at a b c d h p q r t =
-    omega (arith, word_behind 6 at (at + 2) s refl (omega arith), word_behind 4 (at + 2) (at + 4) s (omega arith) (omega arith), word_behind 2 (at + 4) (at + 6) s (omega arith) (omega arith))
-
--- by the signs
-pub signed : (a b : ℕ) {p q : Bool} → negative a ≡ p → negative b ≡ q → cond p (cond q (leb a b) true) (cond q false (leb a b)) ≡ signed_le a b
-signed a b e f = rw (e, f)
+  pub key_means : cast_signed w64 (from_le_bytes w64 (eight s)) ≡ meaning (num_at 8 1 s)
+  key_means = ap (cast_signed w64) (key_is s h) ∙ cast_is (num_at 8 1 s) key_fits

@@ -1,9 +1,8 @@
 pub mod Fronts
 pub mod Questions
 pub mod Keys
-pub mod Numbers
-pub mod Ends
-pub mod Builtins
 pub mod Signed
-pub mod Ratios
+pub mod Ends
+pub mod BothEnds
+pub mod Builtins
 pub mod DecimalOrder

@@ -1,120 +1,117 @@
--- The small questions: refusals first, then the answer from the command and the byte behind it.
--- Index: `asked_refused`, `Fine`, `fine`, `some_byte`, `asked_done` (the reader's answer); `kind_done`, `number_done` (by the command); `Leads`, `null_leads`, `boolean_leads`,
--- `lead_byte`, `lead_done`, `lead_no` (by a leaf's byte); `range_no`, `ranged`, `range_done` (ranges); `interval_refused`, `interval_done`, `interval_same`, `odd_is` (interval types).
+-- The small questions: the reader's refusals first, then the answer from the command and the byte behind it.
+-- Index: `questions`, what the calls on a value need: `asked_refused`, `some_byte` (the reader's answer), `kind_done`, `number_done` (by the command), `true_done`, `false_done`,
+-- `coercion_done` (by a leaf's byte), `range_no`, `ranged`, `range_done` (ranges); `intervals`, what the calls on an interval type need;
+-- `interval_refused`, `interval_done`, `interval_same`, `odd_is` (the same without a `Result`, for a crate above).
 -- Assumes nothing.
 use Prim.Native.Nat.{ℕ, zero, suc, ◌<◌, ◌≤◌, ◌%◌}
 use mathlib.Core.Path.{◌≡◌, refl, sym, ap, ◌∙◌}
-use mathlib.Core.Bool.{Bool, true, false, ◌||◌}
+use mathlib.Core.Bool.{Bool, true, false, ◌||◌, ◌&&◌}
 use mathlib.Core.Option.{some}
 use mathlib.Core.List.{List}
 use native.Mathlib.Omega.{arith}
 use lib.ListN.{length, get_or}
-use lib.Dec.{eqb, leb}
-use borrow.Author.Tests.{le-leb, lt-leb, leb-true, ne_eqb}
-use Rattle.form.specs.Trees.{Leaf, l_boolean, Val, v_leaf, v_range, v_list, v_context, v_function, v_built_in, v_type, v_irrelevant}
+use lib.Dec.{eqb, leb, ltb}
+use borrow.Author.Tests.{le-leb, lt-leb, leb-true}
+use Rattle.std.specs.declared.result.Result.{Result}
+use Rattle.std.specs.declared.result.Result.TheVariants.{Ok, Err}
+use Rattle.std.specs.Result.{IsErrAnd}
+use Rattle.std.proofs.lemmas.Bool.Decides.{nat_tests}
+use Rattle.form.specs.Trees.{Val, v_leaf, v_range, v_list, v_context, v_function, v_built_in, v_type, v_irrelevant}
 use Rattle.form.specs.Limits.{value_levels, value_refusals}
 use Rattle.form.specs.Layout.{leaf_type_command}
-use Rattle.form.specs.Outcome.{Outcome, done, refused, ◌>>=◌, ◌>>◌, check}
+use Rattle.form.specs.Outcome.{Outcome, done, refused, ◌>>=◌, ◌>>◌, check, pick}
 use Rattle.form.specs.Form.{bit, level_v}
 use Rattle.form.specs.Read.{got, read_v, read_value, check_value}
 use Rattle.form.specs.Widths.{command}
-use Rattle.form.specs.Answers.{checked}
-use Rattle.form.specs.declared.Checked.{Checked}
-use Rattle.form.specs.declared.Checked.TheVariants as checked_is
-use Rattle.form.proofs.Accepted.{whole_got, level_told}
-use Rattle.form.proofs.CommandKinds.{low_type, no_type, no_leaf_high}
+use Rattle.form.specs.Answers.{number, outcome}
+use Rattle.form.specs.declared.refusals.Refusal.{Refusal}
+use Rattle.form.proofs.Accepted.{whole_got, level_told, level_refused}
+use Rattle.form.proofs.CommandKinds.{no_type, no_leaf_high}
 use Rattle.form.proofs.ExactValues.{code_small_temporal}
 use Rattle.form.proofs.Nodes.{value_read}
 use Rattle.types.proofs.Reading.{got_seen}
 use Rattle.values.specs.At.{value_at}
-use Rattle.values.proofs.CallContracts.{value_refused}
-use Rattle.ranges.specs.Ranges.{is_valid_range, null_with, the_boolean, a_number, of_leaf}
-use Rattle.ranges.specs.Calls.{asked, of_kind, interval, is_number_call, is_valid_range_call, Ranged, RangeOf, RangeIs}
+use Rattle.ranges.specs.Ranges.{opened, closed, undefined, is_valid_range, null_with, the_boolean, a_number, of_leaf}
+use Rattle.ranges.specs.Calls.{asked, of_kind, is_number_call, is_true_call, is_false_call, is_invalid_coercion_call, is_valid_range_call, Ranged, RangeOf, RangeIs}
+use Rattle.ranges.specs.Calls.{interval_type, interval, opened_call, closed_call, undefined_call}
 use Rattle.ranges.proofs.Fronts.{Front, f_null, f_boolean, f_number, f_decimal, f_string, f_temporal, f_other, front_read, command_is}
 
 -- ---- what the reader's answer says
-pub asked_refused : (test : Val → Bool) (s : List ℕ) {c : Checked} {n : ℕ} → c ≡ checked_is.Refused n → checked c ≡ check_value s → refused n ≡ asked test s
-unfolding ◌>>=◌
-asked_refused test s {c} {n} p q = rw (value_refused s c n p q)
+pub handed : (r : Result Bool Refusal) (e : Refusal) → IsErrAnd r (λ x. x ≡ e) → outcome r ≡ refused (number e)
+handed (Ok x) e h = absurd h
+handed (Err x) e h = ap (λ f. refused (number f)) h
 
-pub record Fine (s : List ℕ) : Type 0 where
-  pub v : Val
-  pub reads : read_value s ≡ done v
-  pub there : read_v value_levels s ≡ got v (length s)
+pub asked_refused : (test : Val → Bool) (s : List ℕ) (r : Result Bool Refusal) (e : Refusal) → IsErrAnd r (λ x. x ≡ e) → refused (number e) ≡ check_value s → outcome r ≡ asked test s
+unfolding check_value ◌>>=◌
+asked_refused test s r e h q = handed r e h ∙ rw (level_refused level_v (read_value s) (number e) (sym q))
 
-pub fine : {s : List ℕ} {c : Checked} {n : ℕ} → c ≡ checked_is.Accepted n → checked c ≡ check_value s → Fine s
+-- an accepted value
+record Fine (s : List ℕ) : Type 0 where
+  v : Val
+  reads : read_value s ≡ done v
+  there : read_v value_levels s ≡ got v (length s)
+
+fine : {s : List ℕ} {n : ℕ} → done n ≡ check_value s → Fine s
 unfolding check_value
-fine {s} {c} {n} p q = level_told level_v (read_value s) n (sym q ∙ ap checked p) (λ v r d. record { v = v; reads = r; there = whole_got value_refusals (read_v value_levels) s v r })
+fine {s} {n} q = level_told level_v (read_value s) n (sym q) (λ v r d. record { v = v; reads = r; there = whole_got value_refusals (read_v value_levels) s v r })
 
-module _ {s : List ℕ} (F : Fine s) where
-  pub some_byte : 0 < length s
-  some_byte = (value_read value_levels s F.v (length s) F.there).some_byte
+pub some_byte : (s : List ℕ) {n : ℕ} → done n ≡ check_value s → 0 < length s
+some_byte s q = let F = fine q in (value_read value_levels s F.v (length s) F.there).some_byte
 
-  abbrev front : Front s F.v (length s)
-  front = front_read value_levels s F.v (length s) F.there
+-- the answer of a question that its bytes tell
+asked_done : (test : Val → Bool) {s : List ℕ} {n : ℕ} (r : Bool) → done n ≡ check_value s → ((v : Val) → Front s v (length s) → test v ≡ r) → done r ≡ asked test s
+unfolding ◌>>=◌
+asked_done test {s} r h f = let F = fine h in rw F.reads (ap done (sym (f F.v (front_read value_levels s F.v (length s) F.there))))
 
-  pub asked_done : (test : Val → Bool) {o : Outcome Bool} {r : Bool} → o ≡ done r → r ≡ test F.v → o ≡ asked test s
-  unfolding ◌>>=◌
-  asked_done test {o} {r} e h = e ∙ ap done h ∙ rw F.reads
+-- ---- by the command
+pub kind_done : (s : List ℕ) (c n : ℕ) → done n ≡ check_value s → done (eqb (get_or s 0 0) c) ≡ of_kind c s
+kind_done s c n h = asked_done (λ w. eqb (command w) c) (eqb (get_or s 0 0) c) h (λ v f. ap (λ b. eqb b c) (command_is s v (length s) f))
 
-  -- ---- the command
-  told : command F.v ≡ get_or s 0 0
-  told = command_is s F.v (length s) front
-
-  pub kind_done : (c : ℕ) {o : Outcome Bool} → o ≡ done (eqb (get_or s 0 0) c) → o ≡ of_kind c s
-  kind_done c e = asked_done (λ w. eqb (command w) c) e (ap (λ b. eqb b c) (sym told))
-
--- ---- a number, by the type of its command
-number_told : (s : List ℕ) (v : Val) (n : ℕ) → Front s v n → eqb (leaf_type_command (get_or s 0 0)) 0x22 ≡ of_leaf a_number v
+number_told : (s : List ℕ) (v : Val) (n : ℕ) → Front s v n → of_leaf a_number v ≡ eqb (leaf_type_command (get_or s 0 0)) 0x22
 unfolding leaf_type_command
-number_told s v n (f_null c k) = ap (λ b. eqb (leaf_type_command b) 0x22) c
-number_told s v n (f_boolean c k x) = ap (λ b. eqb (leaf_type_command b) 0x22) c
-number_told s v n (f_number c k) = ap (λ b. eqb (leaf_type_command b) 0x22) c
-number_told s v n (f_decimal c k x) = ap (λ b. eqb (leaf_type_command b) 0x22) c
-number_told s v n (f_string c k) = ap (λ b. eqb (leaf_type_command b) 0x22) c
-number_told s v n (f_temporal t c k) = let g = code_small_temporal t in ne_eqb (leaf_type_command (get_or s 0 0)) 0x22 (λ e. omega (arith, low_type (get_or s 0 0) (omega arith) (omega arith)))
-number_told s v n (f_other w k o) = ap (λ t. eqb t 0x22) (sym (no_type (get_or s 0 0) o.no_leaf)) ∙ sym (o.no a_number)
+number_told s v n (f_null c k) = grind (arith, nat_tests)
+number_told s v n (f_boolean c k x) = grind (arith, nat_tests)
+number_told s v n (f_number c k) = grind (arith, nat_tests)
+number_told s v n (f_decimal c k x) = grind (arith, nat_tests)
+number_told s v n (f_string c k) = grind (arith, nat_tests)
+number_told s v n (f_temporal t c k) = let g = code_small_temporal t in grind (arith, nat_tests)
+number_told s v n (f_other w k o) = let h = no_type (get_or s 0 0) o.no_leaf in let e = o.no a_number in grind (arith, nat_tests)
 
-pub number_done : {s : List ℕ} → Fine s → {t : ℕ} {o : Outcome Bool} → t ≡ leaf_type_command (get_or s 0 0) → o ≡ done (eqb t 0x22) → o ≡ is_number_call s
-number_done {s} F e p = asked_done F (of_leaf a_number) p (ap (λ t. eqb t 0x22) e ∙ number_told s F.v (length s) (front F))
+pub number_done : (s : List ℕ) (n t : ℕ) → done n ≡ check_value s → t ≡ leaf_type_command (get_or s 0 0) → done (eqb t 0x22) ≡ is_number_call s
+number_done s n t h e = asked_done (of_leaf a_number) (eqb t 0x22) h (λ v f. number_told s v (length s) f ∙ ap (λ u. eqb u 0x22) (sym e))
 
--- ---- a leaf with the command c and the byte x
-abbrev pub Leads : (Leaf → Bool) → ℕ → ℕ → Type 0
-Leads f c x = (s : List ℕ) (v : Val) (n : ℕ) → Front s v n → (get_or s 0 0 ≡ c → (of_leaf f v ≡ eqb (get_or s 1 0) x) × (1 < length s)) × ((get_or s 0 0 ≡ c → ⊥) → of_leaf f v ≡ false)
+-- ---- a leaf by its command and the byte behind it
+abbrev leads : ℕ → ℕ → List ℕ → Bool
+leads c x s = ltb 1 (length s) && eqb (get_or s 0 0) c && eqb (get_or s 1 0) x
 
-pub null_leads : (x : ℕ) → Leads (null_with x) 0 x
-null_leads x s v n (f_null c k) = (λ h. (refl, omega arith), λ h. absurd (h c))
-null_leads x s v n (f_boolean c k y) = (λ h. absurd (omega arith), λ h. refl)
-null_leads x s v n (f_number c k) = (λ h. absurd (omega arith), λ h. refl)
-null_leads x s v n (f_decimal c k y) = (λ h. absurd (omega arith), λ h. refl)
-null_leads x s v n (f_string c k) = (λ h. absurd (omega arith), λ h. refl)
-null_leads x s v n (f_temporal t c k) = (λ h. absurd (omega arith), λ h. refl)
-null_leads x s v n (f_other w k o) = (λ h. absurd (omega (arith, no_leaf_high (get_or s 0 0) o.no_leaf)), λ h. o.no (null_with x))
+null_told : (x : ℕ) (s : List ℕ) (v : Val) (n : ℕ) → Front s v n → of_leaf (null_with x) v ≡ leads 0 x s
+null_told x s v n (f_null c k) = grind (arith, nat_tests)
+null_told x s v n (f_boolean c k y) = grind (arith, nat_tests)
+null_told x s v n (f_number c k) = grind (arith, nat_tests)
+null_told x s v n (f_decimal c k y) = grind (arith, nat_tests)
+null_told x s v n (f_string c k) = grind (arith, nat_tests)
+null_told x s v n (f_temporal t c k) = grind (arith, nat_tests)
+null_told x s v n (f_other w k o) = let h = no_leaf_high (get_or s 0 0) o.no_leaf in let e = o.no (null_with x) in grind (arith, nat_tests)
 
-one_or_none : (b : Bool) (y : ℕ) → y ≤ 1 → the_boolean b (l_boolean (eqb y 1)) ≡ eqb y (bit b)
-one_or_none true y h = refl
-one_or_none false zero h = refl
-one_or_none false (suc zero) h = refl
-one_or_none false (suc (suc y)) h = absurd (omega arith)
+boolean_told : (b : Bool) (s : List ℕ) (v : Val) (n : ℕ) → Front s v n → of_leaf (the_boolean b) v ≡ leads 1 (bit b) s
+boolean_told b s v n (f_null c k) = grind (arith, nat_tests)
+boolean_told true s v n (f_boolean c k y) = grind (arith, nat_tests)
+boolean_told false s v n (f_boolean c k y) = grind (arith, nat_tests)
+boolean_told b s v n (f_number c k) = grind (arith, nat_tests)
+boolean_told b s v n (f_decimal c k y) = grind (arith, nat_tests)
+boolean_told b s v n (f_string c k) = grind (arith, nat_tests)
+boolean_told b s v n (f_temporal t c k) = grind (arith, nat_tests)
+boolean_told b s v n (f_other w k o) = let h = no_leaf_high (get_or s 0 0) o.no_leaf in let e = o.no (the_boolean b) in grind (arith, nat_tests)
 
-pub boolean_leads : (b : Bool) → Leads (the_boolean b) 1 (bit b)
-boolean_leads b s v n (f_null c k) = (λ h. absurd (omega arith), λ h. refl)
-boolean_leads b s v n (f_boolean c k y) = (λ h. (one_or_none b (get_or s 1 0) y, omega arith), λ h. absurd (h c))
-boolean_leads b s v n (f_number c k) = (λ h. absurd (omega arith), λ h. refl)
-boolean_leads b s v n (f_decimal c k y) = (λ h. absurd (omega arith), λ h. refl)
-boolean_leads b s v n (f_string c k) = (λ h. absurd (omega arith), λ h. refl)
-boolean_leads b s v n (f_temporal t c k) = (λ h. absurd (omega arith), λ h. refl)
-boolean_leads b s v n (f_other w k o) = (λ h. absurd (omega (arith, no_leaf_high (get_or s 0 0) o.no_leaf)), λ h. o.no (the_boolean b))
+module _ (s : List ℕ) (n : ℕ) (r : Bool) (h : done n ≡ check_value s) where
+  pub true_done : leads 1 1 s ≡ r → done r ≡ is_true_call s
+  true_done e = asked_done (of_leaf (the_boolean true)) r h (λ v f. boolean_told true s v (length s) f ∙ e)
 
-module _ {f : Leaf → Bool} {c : ℕ} (x : ℕ) (L : Leads f c x) {s : List ℕ} (F : Fine s) where
-  pub lead_byte : get_or s 0 0 ≡ c → 1 < length s
-  lead_byte h = ((L s F.v (length s) (front F)).0 h).1
+  pub false_done : leads 1 0 s ≡ r → done r ≡ is_false_call s
+  false_done e = asked_done (of_leaf (the_boolean false)) r h (λ v f. boolean_told false s v (length s) f ∙ e)
 
-  pub lead_done : {o : Outcome Bool} → get_or s 0 0 ≡ c → o ≡ done (eqb (get_or s 1 0) x) → o ≡ asked (of_leaf f) s
-  lead_done h e = asked_done F (of_leaf f) e (sym ((L s F.v (length s) (front F)).0 h).0)
-
-  pub lead_no : (get_or s 0 0 ≡ c → ⊥) → done false ≡ asked (of_leaf f) s
-  lead_no h = asked_done F (of_leaf f) refl (sym ((L s F.v (length s) (front F)).1 h))
+  pub coercion_done : leads 0 1 s ≡ r → done r ≡ is_invalid_coercion_call s
+  coercion_done e = asked_done (of_leaf (null_with 1)) r h (λ v f. null_told 1 s v (length s) f ∙ e)
 
 -- ---- ranges
 no_range : (v : Val) → (command v ≡ 9 → ⊥) → is_valid_range v ≡ false
@@ -127,22 +124,53 @@ no_range (v_built_in b) h = refl
 no_range (v_type t) h = refl
 no_range v_irrelevant h = refl
 
-module _ {s : List ℕ} (F : Fine s) where
-  pub range_no : (get_or s 0 0 ≡ 9 → ⊥) → done false ≡ is_valid_range_call s
-  range_no h = asked_done F is_valid_range refl (sym (no_range F.v (λ e. h (sym (told F) ∙ e))))
+stands : {s : List ℕ} (F : Fine s) → value_at value_levels s ≡ some F.v
+unfolding value_at
+stands {s} F = got_seen (read_v value_levels s) F.v (length s) F.there
 
-  stands : value_at value_levels s ≡ some F.v
-  unfolding value_at
-  stands = got_seen (read_v value_levels s) F.v (length s) F.there
+module _ (s : List ℕ) (n : ℕ) (h : done n ≡ check_value s) where
+  pub range_no : (get_or s 0 0 ≡ 9 → ⊥) → done false ≡ is_valid_range_call s
+  range_no x = asked_done is_valid_range false h (λ v f. no_range v (λ e. x (sym (command_is s v (length s) f) ∙ e)))
 
   pub ranged : get_or s 0 0 ≡ 9 → Ranged s
-  ranged h = record { value = F.v; read = stands; is = h }
+  ranged e = let F = fine h in record { value = F.v; read = stands F; is = e }
 
-  pub range_done : {o : Outcome Bool} {r : Bool} → o ≡ done r → RangeIs s r → o ≡ is_valid_range_call s
-  unfolding RangeOf
-  range_done e h = asked_done F is_valid_range e (rw stands at h)
+  pub range_done : (r : Bool) → RangeIs s r → done r ≡ is_valid_range_call s
+  unfolding RangeOf ◌>>=◌
+  range_done r w = let F = fine h in rw F.reads (ap done (rw (stands F) at w))
+
+-- what the calls on a value need
+pub ruleset questions = (asked_refused, some_byte, kind_done, number_done, true_done, false_done, coercion_done, range_no, ranged, range_done, nat_tests)
 
 -- ---- interval types
+interval_is : (test : ℕ → Bool) (i : ℕ) → interval test i ≡ pick (leb i 3) (done (test i)) (refused 2)
+unfolding ◌>>◌
+interval_is test i = go (leb i 3)
+  where
+    go : (b : Bool) → (do check 2 b; done (test i)) ≡ pick b (done (test i)) (refused 2)
+    go true = refl
+    go false = refl
+
+pub type_is : (i : ℕ) → interval_type i ≡ pick (leb i 3) (done i) (refused 2)
+unfolding ◌>>◌
+type_is i = go (leb i 3)
+  where
+    go : (b : Bool) → (do check 2 b; done i) ≡ pick b (done i) (refused 2)
+    go true = refl
+    go false = refl
+
+pub opened_is : (i : ℕ) → opened_call i ≡ pick (leb i 3) (done (opened i)) (refused 2)
+opened_is i = interval_is opened i
+
+pub closed_is : (i : ℕ) → closed_call i ≡ pick (leb i 3) (done (closed i)) (refused 2)
+closed_is i = interval_is closed i
+
+pub undefined_is : (i : ℕ) → undefined_call i ≡ pick (leb i 3) (done (undefined i)) (refused 2)
+undefined_is i = interval_is undefined i
+
+pub ruleset intervals = (handed, type_is, opened_is, closed_is, undefined_is, nat_tests)
+
+-- ---- interval types, without a `Result`
 pub interval_refused : (test : ℕ → Bool) {i : ℕ} → 3 < i → refused 2 ≡ interval test i
 unfolding ◌>>◌
 interval_refused test {i} h = rw (lt-leb i 3 h)

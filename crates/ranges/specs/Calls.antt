@@ -1,17 +1,16 @@
 -- The definitions of the calls: refusals in document 01's order, then the answer.
 -- Assumes nothing.
-use Rattle.std.specs.Prelude.{◌≡◌, Bool, true, false, List, ℕ, ◌+◌, ◌≤◌, length, get_or, leb, eqb}
+use Rattle.std.specs.Prelude.{◌≡◌, Bool, true, false, List, ℕ, ◌&&◌, ◌+◌, ◌<◌, ◌≤◌, length, get_or, leb, ltb, eqb}
 use Rattle.std.proofs.Math.Option.{Option, some}
-use Rattle.form.specs.Limits.{value_levels, most_exponent}
-use Rattle.form.specs.Layout.{width_of, leaf_type_command}
+use Rattle.form.specs.Limits.{name_width, value_levels, most_exponent}
 use Rattle.values.specs.At.{value_at}
 use Rattle.form.specs.Outcome.{Outcome, done, ◌>>=◌, ◌>>◌, check, fits, pick}
 use Rattle.form.specs.Trees.{Val}
-use Rattle.form.specs.Form.{enc}
+use Rattle.form.specs.Form.{num_at, enc}
 use Rattle.form.specs.Read.{read_value}
 use Rattle.form.specs.Options.{WhereRead}
 use Rattle.form.specs.Widths.{command}
-use Rattle.ranges.specs.Ranges.{opened, closed, undefined, is_valid_range, null_with, the_boolean, a_number, of_leaf, bif_type}
+use Rattle.ranges.specs.Ranges.{Point, nowhere, text, decimal, key, elsewhere, opened, closed, undefined, is_valid_range, null_with, the_boolean, a_number, of_leaf, bif_type}
 
 -- a question that every value answers; 1 to 5
 abbrev pub asked : (Val → Bool) → List ℕ → Outcome Bool
@@ -54,7 +53,13 @@ is_invalid_coercion_call v = asked (of_leaf (null_with 1)) v
 abbrev pub is_valid_range_call : List ℕ → Outcome Bool
 is_valid_range_call v = asked is_valid_range v
 
--- IntervalType::opened, closed, undefined; 2: a byte over 3 is no interval type
+-- 2: a byte over 3 is no interval type
+abbrev pub interval_type : ℕ → Outcome ℕ
+interval_type i = do
+  check 2 (leb i 3)
+  done i
+
+-- IntervalType::opened, closed, undefined
 abbrev pub interval : (ℕ → Bool) → ℕ → Outcome Bool
 interval test i = do
   check 2 (leb i 3)
@@ -88,12 +93,18 @@ RangeOf v r = WhereRead (Unit {0}) (λ w. r ≡ is_valid_range w) v
 abbrev pub RangeIs : List ℕ → Bool → Type 0
 RangeIs v r = RangeOf (value_at value_levels v) r
 
--- the exponent of the number that stands at `at`: a whole one has 0
-unfoldable pub exponent_at : List ℕ → ℕ → ℕ
-exponent_at v at = pick (eqb (get_or v at 0) 0x10) (get_or v (at + 9) 0) 0
+-- what an end of a range is, by its command and what stands behind it
+unfoldable pub point_at : List ℕ → Point
+point_at s =
+    let c = get_or s 0 0 in
+    let k = num_at 8 1 s in
+    pick (eqb c 0x00) nowhere (pick (eqb c 0x02) (decimal k 0) (pick (eqb c 0x03) (text (num_at name_width 1 s)) (pick (leb 0x04 c && ltb c 0x09) (key c k)
+    (pick (eqb c 0x10) (decimal k (get_or s 9 0)) elsewhere))))
 
--- a number stands at `at`, whole or decimal: it ends within the bytes, its exponent in its bounds
-pub record NumberAt (v : List ℕ) (at : ℕ) : Type 0 where
-  pub number : leaf_type_command (get_or v at 0) ≡ 0x22
-  pub inside : at + 1 + width_of (get_or v at 0) ≤ length v
-  pub exponent : exponent_at v at ≤ most_exponent
+-- an end was read: so many bytes are there, by its command, and an exponent is in its bounds
+pub record EndAt (s : List ℕ) : Type 0 where
+  pub some : 0 < length s
+  pub number : get_or s 0 0 ≡ 0x02 → 9 ≤ length s
+  pub text : get_or s 0 0 ≡ 0x03 → 1 + name_width ≤ length s
+  pub temporal : 0x04 ≤ get_or s 0 0 → get_or s 0 0 < 0x09 → 9 ≤ length s
+  pub decimal : get_or s 0 0 ≡ 0x10 → (10 ≤ length s) × (get_or s 9 0 ≤ most_exponent)

@@ -30,7 +30,8 @@ use Rattle.values.proofs.Reading as values
 use Rattle.values.proofs.Reading.{v_inside, IsVal, is_null_lem, is_boolean_lem, is_number, is_string_lem, is_temporal_lem, is_range_lem, is_list_lem, is_context_lem, is_definition_lem}
 use Rattle.values.proofs.Reading.{is_built_in_lem, is_type_lem}
 use Rattle.values.proofs.Reading.{is_irrelevant_lem, is_decimal_lem, is_val, as_null}
-use Rattle.retrieval.specs.declared.builder.Retrieved.TheVariants.{Yes, No}
+use Rattle.std.specs.declared.option.Option.TheVariants.{None}
+use Rattle.retrieval.specs.Filling.{yes}
 use Rattle.retrieval.specs.Retrieve.{copied, retrieve_leaf, by_range, by_function, by_any, by_list, by_context, retrieve}
 use Rattle.retrieval.specs.Filling.{outer_kind, Retrieves}
 use Rattle.retrieval.proofs.BuilderContract.{retrieves, gave_some, gave_none}
@@ -248,21 +249,21 @@ module _ (l : ℕ) (t v : List ℕ) (p : Ok (type_at l t)) (q : Ok (value_at l v
   pub first_t : 0 < length t
   first_t = types.some_byte l t X.0 X.1
 
-  refused : (old : List ℕ) → retrieve Y.0 X.0 ≡ none → Retrieves (type_at l t) (value_at l v) old old No
-  refused old e = retrieves (type_at l t) (value_at l v) X.0 Y.0 old old No X.1 Y.1 (gave_none X.0 Y.0 old old (ap (map enc_v) e) refl)
+  refused : (old : List ℕ) → retrieve Y.0 X.0 ≡ none → Retrieves (type_at l t) (value_at l v) old old None
+  refused old e = retrieves (type_at l t) (value_at l v) X.0 Y.0 old old None X.1 Y.1 (gave_none X.0 Y.0 old old (ap (map enc_v) e) refl)
 
-  pub null_done : get_or v 0 0 ≡ 0 → (k : ℕ) → k ≡ size_at (type_at l t) → (old new : List ℕ) → new ≡ fill (0 ∷ 0 ∷ []) old → Retrieves (type_at l t) (value_at l v) old new (Yes k 2 2)
+  pub null_done : get_or v 0 0 ≡ 0 → (k : ℕ) → k ≡ size_at (type_at l t) → (old new : List ℕ) → new ≡ fill (0 ∷ 0 ∷ []) old → Retrieves (type_at l t) (value_at l v) old new (yes k 2 2)
   null_done c k ek old new e =
       let N = null_text X.0 (as_null l v Y.0 Y.1 c) in
-      retrieves (type_at l t) (value_at l v) X.0 Y.0 old new (Yes k 2 2) X.1 Y.1
+      retrieves (type_at l t) (value_at l v) X.0 Y.0 old new (yes k 2 2) X.1 Y.1
       (gave_some X.0 Y.0 old new (0 ∷ 0 ∷ []) k 2 2 N.0 (ek ∙ size_got (type_at l t) X.0 X.1) N.1 refl e)
 
-  pub list_refused : get_or t 0 0 ≡ 0x2A → (get_or v 0 0 ≡ 0 → ⊥) → (get_or v 0 0 ≡ 0x0A → ⊥) → (old : List ℕ) → Retrieves (type_at l t) (value_at l v) old old No
+  pub list_refused : get_or t 0 0 ≡ 0x2A → (get_or v 0 0 ≡ 0 → ⊥) → (get_or v 0 0 ≡ 0x0A → ⊥) → (old : List ℕ) → Retrieves (type_at l t) (value_at l v) old old None
   list_refused c z n old =
       let I = types.is_list_lem l t X.0 X.1 c in
       refused old (ap (retrieve Y.0) I.2 ∙ not_list l v Y.0 I.0 kind.1 z n)
 
-  pub context_refused : get_or t 0 0 ≡ 0x2C → (get_or v 0 0 ≡ 0 → ⊥) → (get_or v 0 0 ≡ 0x0B → ⊥) → (old : List ℕ) → Retrieves (type_at l t) (value_at l v) old old No
+  pub context_refused : get_or t 0 0 ≡ 0x2C → (get_or v 0 0 ≡ 0 → ⊥) → (get_or v 0 0 ≡ 0x0B → ⊥) → (old : List ℕ) → Retrieves (type_at l t) (value_at l v) old old None
   context_refused c z n old =
       let I = types.is_ctx l t X.0 X.1 c in
       refused old (ap (retrieve Y.0) I.is ∙ not_context l v Y.0 I.fs kind.1 z n)
@@ -275,7 +276,7 @@ module _ (l : ℕ) (t v : List ℕ) (p : Ok (type_at l t)) (q : Ok (value_at l v
         ∙ ap (λ (d : ℕ). copied (outer_kind (get_or v 0 0) d) Y.0) c
         ∙ ap (λ d. copied d Y.0) (sym eb)
 
-    pub kind_refused : b ≡ false → (old : List ℕ) → Retrieves (type_at l t) (value_at l v) old old No
+    pub kind_refused : b ≡ false → (old : List ℕ) → Retrieves (type_at l t) (value_at l v) old old None
     kind_refused e old = refused old (copies ∙ ap (λ d. copied d Y.0) e)
 
     module _ (bs : Bytes v) (n : ℕ) (en : n ≡ size_at_v (value_at l v)) where
@@ -285,10 +286,10 @@ module _ (l : ℕ) (t v : List ℕ) (p : Ok (type_at l t)) (q : Ok (value_at l v
       pub copy_fits : n ≤ length v
       copy_fits = omega (arith, is_size, v_inside l v Y.0 Y.1)
 
-      pub kind_copied : b ≡ true → (k : ℕ) → k ≡ size_at (type_at l t) → (old new : List ℕ) → new ≡ fill (take n v) old → Retrieves (type_at l t) (value_at l v) old new (Yes k n n)
+      pub kind_copied : b ≡ true → (k : ℕ) → k ≡ size_at (type_at l t) → (old new : List ℕ) → new ≡ fill (take n v) old → Retrieves (type_at l t) (value_at l v) old new (yes k n n)
       kind_copied e k ek old new f =
           let text : take n v ≡ enc_v Y.0 = ap (λ (d : ℕ). take d v) is_size ∙ front_text l v Y.0 bs Y.1 in
-          retrieves (type_at l t) (value_at l v) X.0 Y.0 old new (Yes k n n) X.1 Y.1
+          retrieves (type_at l t) (value_at l v) X.0 Y.0 old new (yes k n n) X.1 Y.1
           (gave_some X.0 Y.0 old new (enc_v Y.0) k n n (ap (map enc_v) (copies ∙ ap (λ d. copied d Y.0) e)) (ek ∙ size_got (type_at l t) X.0 X.1) is_size
           (is_size ∙ sym (length_enc_v Y.0))
           (f ∙ ap (λ (d : List ℕ). fill d old) text))

@@ -17,8 +17,6 @@ use Rattle.form.specs.Form.{Bytes, enc_v, enc_leaf, level_v, WfV}
 use Rattle.form.specs.Outcome.{done, refused, ◌>>=◌, ◌>>◌, fits}
 use Rattle.form.specs.Read.{read_v, read_type, read_value, check_type, check_value}
 use Rattle.form.specs.Answers.{Built}
-use Rattle.form.specs.declared.Written.{Written}
-use Rattle.form.specs.declared.Written.TheVariants as written_is
 use Rattle.form.proofs.Accepted.{whole_got}
 use Rattle.form.proofs.Types.{type_accepted, type_told}
 use Rattle.form.proofs.Values.{value_accepted, value_told, read_up_v}
@@ -38,7 +36,14 @@ use Rattle.retrieval.specs.Retrieve.{retrieve, is_null_type, or_nothing, get_con
 use Rattle.retrieval.specs.Filling.{answered, Gave, Retrieves}
 use Rattle.retrieval.specs.Calls.{get_value_checked_call, get_conformant_value_call}
 use Rattle.retrieval.specs.declared.builder.Retrieved.{Retrieved}
-use Rattle.retrieval.specs.declared.builder.Retrieved.TheVariants.{Yes, No}
+use Rattle.std.specs.declared.result.Result.{Result}
+use Rattle.std.specs.declared.result.Result.TheVariants.{Err}
+use Rattle.form.specs.declared.refusals.Refusal.{Refusal}
+use Rattle.form.specs.declared.refusals.Refusal.TheVariants.{NotRetrieved}
+use Rattle.std.specs.declared.option.Option.{Option as Maybe}
+use Rattle.std.specs.declared.option.Option.TheVariants.{None}
+use Rattle.retrieval.proofs.BuilderContract.{worth, yes_none}
+use Rattle.retrieval.specs.Filling.{yes}
 use Rattle.output.proofs.FillLaws.{handed}
 use Rattle.retrieval.proofs.Theorems.{less_val, there, conformant_value}
 use Rattle.form.specs.Options.{map}
@@ -95,18 +100,18 @@ module _ (t v : List ℕ) (A : Accepted t v) where
   checked_err room e = rw (A.read_t_lem, A.read_v_lem, e)
 
   -- ---- what the builder says
-  module _ (old new : List ℕ) (r : Retrieved) (g : Retrieves (type_at type_levels t) (value_at type_levels v) old new r) where
+  module _ (old new : List ℕ) (r : Maybe Retrieved) (g : Retrieves (type_at type_levels t) (value_at type_levels v) old new r) where
     gave : Gave A.type A.value old new r
     unfolding Retrieves
     gave = rw (type_there, value_there) at g
 
-    pub err_is : r ≡ No → retrieve A.value A.type ≡ none
+    pub err_is : r ≡ None → retrieve A.value A.type ≡ none
     unfolding answered
     err_is p = go (retrieve A.value A.type) (sym gave.says ∙ p)
       where
-        go : (o : Option Val) → answered (size A.type) (size_val A.value) (map enc_v o) ≡ No → o ≡ none
+        go : (o : Option Val) → answered (size A.type) (size_val A.value) (map enc_v o) ≡ None → o ≡ none
         go none e = refl
-        go (some w) e = absurd (let z : ◌≡◌ {A = ℕ} 0 1 = cc in omega arith)
+        go (some w) e = absurd (yes_none e)
 
     pub record Found (n : ℕ) : Type 0 where
       pub w : Val
@@ -114,13 +119,13 @@ module _ (t v : List ℕ) (A : Accepted t v) where
       pub long : n ≡ length (enc_v w)
       pub out : new ≡ fill (enc_v w) old
 
-    pub found : (a b n : ℕ) → r ≡ Yes a b n → Found n
-    unfolding answered Filled
+    pub found : (a b n : ℕ) → r ≡ yes a b n → Found n
+    unfolding answered Filled worth
     found a b n p = go (retrieve A.value A.type) refl (sym gave.says ∙ p) gave.out
       where
-        go : (o : Option Val) → retrieve A.value A.type ≡ o → answered (size A.type) (size_val A.value) (map enc_v o) ≡ Yes a b n → Filled (map enc_v o) old new → Found n
-        go none q e f = absurd (let z : ◌≡◌ {A = ℕ} 0 1 = cc in omega arith)
-        go (some w) q e f = record { w = w; is = q; long = cc; out = f }
+        go : (o : Option Val) → retrieve A.value A.type ≡ o → answered (size A.type) (size_val A.value) (map enc_v o) ≡ yes a b n → Filled (map enc_v o) old new → Found n
+        go none q e f = absurd (yes_none (sym e))
+        go (some w) q e f = record { w = w; is = q; long = sym (ap (worth 0 (λ r. r.wrote)) e); out = f }
 
     -- the output keeps its length
     pub gave_kept : length new ≡ length old
@@ -132,11 +137,11 @@ module _ (t v : List ℕ) (A : Accepted t v) where
         go (some w) f = ap length f ∙ length_onto (take (length old) (enc_v w)) old (omega (arith, length-take (length old) (enc_v w)))
 
   -- ---- in a spare place as long as the value
-  module _ (old was spare : List ℕ) (r : Retrieved) (g : Retrieves (type_at type_levels t) (value_at type_levels v) was spare r) where
-    pub call_err : r ≡ No → Built (get_value_checked_call t v (length old)) old old (written_is.Refused 15)
-    call_err p = built_refused (get_value_checked_call t v (length old)) 15 old (checked_err (length old) (err_is was spare r g p))
+  module _ (old was spare : List ℕ) (r : Maybe Retrieved) (g : Retrieves (type_at type_levels t) (value_at type_levels v) was spare r) where
+    pub call_err : r ≡ None → Built (get_value_checked_call t v (length old)) old old (Err NotRetrieved)
+    call_err p = built_refused (get_value_checked_call t v (length old)) NotRetrieved old (checked_err (length old) (err_is was spare r g p))
 
-    module _ (a b n : ℕ) (p : r ≡ Yes a b n) (h : length v ≤ length was) where
+    module _ (a b n : ℕ) (p : r ≡ yes a b n) (h : length v ≤ length was) where
       F : Found was spare r g n
       F = found was spare r g a b n p
 
@@ -146,7 +151,7 @@ module _ (t v : List ℕ) (A : Accepted t v) where
       pub call_room : n ≤ length spare
       call_room = omega (arith, within, gave_kept was spare r g)
 
-      pub call_done : (new : List ℕ) (q : Written) → Built (fits (length old) (take n spare)) old new q → Built (get_value_checked_call t v (length old)) old new q
+      pub call_done : (new : List ℕ) (q : Result ℕ Refusal) → Built (fits (length old) (take n spare)) old new q → Built (get_value_checked_call t v (length old)) old new q
       call_done new q d = handed (get_value_checked_call t v (length old)) (enc_v F.w) spare was old new n q (checked_is (length old) F.w F.is) F.out F.long within d
 
   -- ---- `get_conformant_value`

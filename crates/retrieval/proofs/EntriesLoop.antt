@@ -31,7 +31,9 @@ use Rattle.values.proofs.Reading.{as_context}
 use Rattle.values.proofs.Reading.{some_level}
 use Rattle.output.proofs.OntoLaws.{name_bytes, back_length}
 use Rattle.retrieval.specs.declared.builder.Retrieved.{Retrieved}
-use Rattle.retrieval.specs.declared.builder.Retrieved.TheVariants.{Yes, No}
+use Rattle.std.specs.declared.option.Option.{Option as Maybe}
+use Rattle.std.specs.declared.option.Option.TheVariants.{None}
+use Rattle.retrieval.specs.Filling.{yes}
 use Rattle.retrieval.specs.Retrieve.{retrieve, retrieve_entries}
 use Rattle.retrieval.specs.Filling.{Gave, Retrieves}
 use Rattle.output.proofs.FillLaws.{length_fill, fill_over, late_head, fill_then}
@@ -312,7 +314,7 @@ module _ {l : ℕ} {t : List ℕ} {m : ℕ} {v : List ℕ} {n : ℕ} {mid out : 
         pub mine_kept : length mine ≡ length out
         mine_kept = back_length w out ns (ap length en ∙ length_fill (take (at + name_width - at) (drop at v)) (behind w out))
 
-        module _ (u : ℕ) (ys : List ℕ) (r : Retrieved) (T : Retrieves (type_at (l - 1) (behind (bt + name_width) t)) (value_at (l - 1) (behind (at + name_width) v)) (behind u mine) ys r) where
+        module _ (u : ℕ) (ys : List ℕ) (r : Maybe Retrieved) (T : Retrieves (type_at (l - 1) (behind (bt + name_width) t)) (value_at (l - 1) (behind (at + name_width) v)) (behind u mine) ys r) where
           gave : Gave B2.x A2.x (behind u mine) ys r
           gave = retrieves_is (type_at (l - 1) (behind (bt + name_width) t)) (value_at (l - 1) (behind (at + name_width) v)) B2.x A2.x (behind u mine) ys r
               (entry_behind B2) (entry_behind A2) T
@@ -320,7 +322,7 @@ module _ {l : ℕ} {t : List ℕ} {m : ℕ} {v : List ℕ} {n : ℕ} {mid out : 
           pub back_kept : length (put_mid u (length mine - u) mine ys) ≡ length mid
           back_kept = back_length u mine ys (gave_length B2.x A2.x (behind u mine) ys r gave) ∙ mine_kept ∙ context_kept
 
-          pub common-no : r ≡ No → (old : List ℕ) → mid ≡ fill (take 3 v) old → Retrieves (type_at l t) (value_at l v) old (put_mid u (length mine - u) mine ys) No
+          pub common-no : r ≡ None → (old : List ℕ) → mid ≡ fill (take 3 v) old → Retrieves (type_at l t) (value_at l v) old (put_mid u (length mine - u) mine ys) None
           common-no e old em =
               let G = gave_no B2.x A2.x (behind u mine) ys r gave e in
               let f : Q.fs ≡ field A2.name B2.x B2.more = B2.is ∙ ap (λ (q : ℕ). field q B2.x B2.more) (sym same_name) in
@@ -328,10 +330,10 @@ module _ {l : ℕ} {t : List ℕ} {m : ℕ} {v : List ℕ} {n : ℕ} {mid out : 
               let Y = v_context Q.both.es in
               let z : map enc_v (retrieve Y X) ≡ none =
               sym Q.goes ∙ ap (map (context_text k Q.done)) (ap₂ retrieve_entries A2.is f ∙ entry_none A2.name A2.x A2.more B2.x B2.more A2.asc G.0) in
-              retrieves (type_at l t) (value_at l v) X Y old (put_mid u (length mine - u) mine ys) No Q.both.read_t_lem Q.both.read_v_lem
+              retrieves (type_at l t) (value_at l v) X Y old (put_mid u (length mine - u) mine ys) None Q.both.read_t_lem Q.both.read_v_lem
               (gave_none X Y old (put_mid u (length mine - u) mine ys) z (back_kept ∙ ap length em ∙ length_fill (take 3 v) old))
 
-          module _ (b a c : ℕ) (e : r ≡ Yes b a c) where
+          module _ (b a c : ℕ) (e : r ≡ yes b a c) where
             G : Got B2.x A2.x (behind u mine) ys b a c
             G = gave_yes B2.x A2.x (behind u mine) ys r b a c gave e
 
@@ -386,7 +388,7 @@ module _ {l : ℕ} {t : List ℕ} {m : ℕ} {v : List ℕ} {n : ℕ} {mid out : 
     -- ---- both at their end
     module _ (nx : i < n → x < name_end) (ny : j < m → y < name_end) (lo : y ≤ x) (hi : x ≤ y) (d : x ≡ name_end) where
       pub context_done : (p q : ℕ) → p ≡ k % 256 → q ≡ k / 256 → (old new : List ℕ) → mid ≡ fill (take 3 v) old → new ≡ fill (11 ∷ p ∷ q ∷ []) out
-          → Retrieves (type_at l t) (value_at l v) old new (Yes bt at to)
+          → Retrieves (type_at l t) (value_at l v) old new (yes bt at to)
       context_done p q ep eq old new em en =
           let zv : Q.es ≡ no_entries = none_left (l - 1) i n at Q.least_v v Q.es (at_end_lem i n x nx d) Q.read_v_lem in
           let zt : Q.fs ≡ no_fields = gone (l - 1) j m bt Q.least_t t Q.fs (at_end_lem j m y ny (omega arith)) Q.read_t_lem in
@@ -396,7 +398,7 @@ module _ {l : ℕ} {t : List ℕ} {m : ℕ} {v : List ℕ} {n : ℕ} {mid out : 
           let g : map enc_v (retrieve Y X) ≡ some ((11 ∷ p ∷ q ∷ []) ++ Q.done) =
           sym Q.goes ∙ ap (map (context_text k Q.done)) (ap₂ retrieve_entries zv zt ∙ entries_none no_fields)
           ∙ ap some (ended k p q Q.done count_fits ep eq) in
-          retrieves (type_at l t) (value_at l v) X Y old new (Yes bt at to) Q.both.read_t_lem Q.both.read_v_lem
+          retrieves (type_at l t) (value_at l v) X Y old new (yes bt at to) Q.both.read_t_lem Q.both.read_v_lem
           (gave_some X Y old new ((11 ∷ p ∷ q ∷ []) ++ Q.done) bt at to g (omega (arith, Q.size_t, ap size_fields zt, fields_none)) (omega (arith, Q.size_v, ap size_entries zv, size_none))
           (omega (arith, Q.long))
           (late_head (take 3 v) (11 ∷ p ∷ q ∷ []) Q.done old mid out new head_long em Q.state en))

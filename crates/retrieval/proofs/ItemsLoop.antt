@@ -23,7 +23,9 @@ use Rattle.values.specs.At.{value_at, items_at}
 use Rattle.values.proofs.Reading.{IsVal, is_list_lem, as_list, some_level, encoded}
 use Rattle.values.proofs.Reading.{items_sizes, Nth, nth, no_nth}
 use Rattle.retrieval.specs.declared.builder.Retrieved.{Retrieved}
-use Rattle.retrieval.specs.declared.builder.Retrieved.TheVariants.{Yes, No}
+use Rattle.std.specs.declared.option.Option.{Option as Maybe}
+use Rattle.std.specs.declared.option.Option.TheVariants.{None}
+use Rattle.retrieval.specs.Filling.{yes}
 use Rattle.retrieval.specs.Retrieve.{retrieve, retrieve_items}
 use Rattle.retrieval.specs.Filling.{Gave, Retrieves}
 use Rattle.output.proofs.FillLaws.{length_fill, fill_over, fill_then}
@@ -145,22 +147,22 @@ module _ {l : ℕ} {t v : List ℕ} {n : ℕ} {mid out : List ℕ} {at to bt i :
     pub item_ok : Ok (value_at (l - 1) (behind at v))
     item_ok = is_ok (value_at (l - 1) (behind at v)) N.x (item_behind N)
 
-    module _ (p : ℕ) (ys : List ℕ) (r : Retrieved) (T : Retrieves (type_at (l - 1) (behind 1 t)) (value_at (l - 1) (behind at v)) (behind p out) ys r) where
+    module _ (p : ℕ) (ys : List ℕ) (r : Maybe Retrieved) (T : Retrieves (type_at (l - 1) (behind 1 t)) (value_at (l - 1) (behind at v)) (behind p out) ys r) where
       gave : Gave Q.both.u N.x (behind p out) ys r
       gave = retrieves_is (type_at (l - 1) (behind 1 t)) (value_at (l - 1) (behind at v)) Q.both.u N.x (behind p out) ys r (ap (type_at (l - 1)) (rest t 1) ∙ Q.both.read_u) (item_behind N) T
 
       pub back_kept : length (put_mid p (length out - p) out ys) ≡ length out
       back_kept = back_length p out ys (gave_length Q.both.u N.x (behind p out) ys r gave)
 
-      pub item_no : r ≡ No → (old : List ℕ) → mid ≡ fill (take 3 v) old → Retrieves (type_at l t) (value_at l v) old (put_mid p (length out - p) out ys) No
+      pub item_no : r ≡ None → (old : List ℕ) → mid ≡ fill (take 3 v) old → Retrieves (type_at l t) (value_at l v) old (put_mid p (length out - p) out ys) None
       item_no e old m =
           let G = gave_no Q.both.u N.x (behind p out) ys r gave e in
           let z : map enc_v (retrieve (v_list Q.both.vs) (built (list Q.both.u))) ≡ none =
           sym Q.goes ∙ ap (map (λ ws. Q.done ++ enc_vals ws)) (ap (λ k. retrieve_items k Q.both.u) N.is ∙ item_none N.x N.more Q.both.u G.0) in
-          retrieves (type_at l t) (value_at l v) (built (list Q.both.u)) (v_list Q.both.vs) old (put_mid p (length out - p) out ys) No Q.both.read_t_lem Q.both.read_v_lem
+          retrieves (type_at l t) (value_at l v) (built (list Q.both.u)) (v_list Q.both.vs) old (put_mid p (length out - p) out ys) None Q.both.read_t_lem Q.both.read_v_lem
           (gave_none (built (list Q.both.u)) (v_list Q.both.vs) old (put_mid p (length out - p) out ys) z (back_kept ∙ list_kept ∙ ap length m ∙ length_fill (take 3 v) old))
 
-      module _ (a b c : ℕ) (e : r ≡ Yes a b c) where
+      module _ (a b c : ℕ) (e : r ≡ yes a b c) where
         G : Got Q.both.u N.x (behind p out) ys a b c
         G = gave_yes Q.both.u N.x (behind p out) ys r a b c gave e
 
@@ -188,7 +190,7 @@ module _ {l : ℕ} {t v : List ℕ} {n : ℕ} {mid out : List ℕ} {at to bt i :
               state = fill_then Q.done (enc_v G.w) mid out ys to p Q.state Q.long ep G.out;
             }
 
-  ended : n ≤ i → (k : ℕ) → k ≡ size (built (list Q.both.u)) → (old : List ℕ) → mid ≡ fill (take 3 v) old → Retrieves (type_at l t) (value_at l v) old out (Yes k at to)
+  ended : n ≤ i → (k : ℕ) → k ≡ size (built (list Q.both.u)) → (old : List ℕ) → mid ≡ fill (take 3 v) old → Retrieves (type_at l t) (value_at l v) old out (yes k at to)
   ended h k ek old m =
       let e : Q.left ≡ no_items = no_nth (l - 1) i n at v Q.left h Q.read in
       let T = built (list Q.both.u) in
@@ -197,15 +199,15 @@ module _ {l : ℕ} {t v : List ℕ} {n : ℕ} {mid out : List ℕ} {at to bt i :
       let g : map enc_v (retrieve W T) ≡ some Q.done =
       sym Q.goes ∙ ap (map (λ ws. Q.done ++ enc_vals ws)) (ap (λ j. retrieve_items j Q.both.u) e ∙ items_none Q.both.u)
       ∙ ap some (ap (λ (j : List ℕ). Q.done ++ j) text_none ∙ append-nil Q.done) in
-      retrieves (type_at l t) (value_at l v) T W old out (Yes k at to) Q.both.read_t_lem Q.both.read_v_lem
+      retrieves (type_at l t) (value_at l v) T W old out (yes k at to) Q.both.read_t_lem Q.both.read_v_lem
       (gave_some T W old out Q.done k at to g ek (omega (arith, Q.sized, ap size_vals e, items_sizes.size_nil)) (sym Q.long)
       (Q.state ∙ ap (fill Q.done) m ∙ fill_over (take 3 v) Q.done old (omega (arith, Q.long, Q.head))))
 
   -- there was none
-  pub list_none : n ≤ i → (k : ℕ) → k ≡ size_at (type_at l t) → (old : List ℕ) → mid ≡ fill (take 3 v) old → Retrieves (type_at l t) (value_at l v) old out (Yes k at to)
+  pub list_none : n ≤ i → (k : ℕ) → k ≡ size_at (type_at l t) → (old : List ℕ) → mid ≡ fill (take 3 v) old → Retrieves (type_at l t) (value_at l v) old out (yes k at to)
   list_none h k ek = ended h k (ek ∙ size_got (type_at l t) (built (list Q.both.u)) Q.both.read_t_lem)
 
-  pub list_done : n ≤ i → 0 < i → (old : List ℕ) → mid ≡ fill (take 3 v) old → Retrieves (type_at l t) (value_at l v) old out (Yes (bt + 1) at to)
+  pub list_done : n ≤ i → 0 < i → (old : List ℕ) → mid ≡ fill (take 3 v) old → Retrieves (type_at l t) (value_at l v) old out (yes (bt + 1) at to)
   list_done h k = ended h (bt + 1) (omega (arith, Q.known k, (types.size_list Q.both.u).0))
 
   pub list_type_lem : 0 < i → bt + 1 ≤ length t

@@ -10,13 +10,14 @@ ghost use Rattle.output.specs.Output.{fill};
 ghost use Rattle.retrieval.specs.Calls.{get_value_checked_call, get_conformant_value_call};
 
 use form::limits::{MOST_BYTES, NAME_END, NAME_WIDTH, TYPE_LEVELS};
-use form::{Checked, Written, commands, refusals};
+use form::{Refusal, commands};
 
-// What was retrieved: how many bytes of the type and of the value were read, and how many the answer has; or Err.
-#[derive(Drop)]
-enum Retrieved {
-    Yes { t: usize, v: usize, wrote: usize },
-    No,
+// What was retrieved: how many bytes of the type and of the value were read, and how many the answer has.
+#[derive(Clone, Copy, Debug, PartialEq, Eq)]
+struct Retrieved {
+    t: usize,
+    v: usize,
+    wrote: usize,
 }
 
 // Whether a type with command d copies a value with command c: Any, and the outer kind of leaves, ranges and functions.
@@ -36,7 +37,7 @@ fn outer_kind(c: u8, d: u8) -> bool
 
 // The value at the front of `v`, retrieved by the type at the front of `t`.
 #[cycle(retrieve_retrieve_context_retrieve_list)]
-fn retrieve(t: &[u8], v: &[u8], out: &mut [u8], left: usize) -> Retrieved
+fn retrieve(t: &[u8], v: &[u8], out: &mut [u8], left: usize) -> Option<Retrieved>
     requires ok { Ok (type_at left t.now) }
     requires ok_2 { Ok (value_at left v.now) }
     ensures { Retrieves (type_at left t.now) (value_at left v.now) out.old out.new result }
@@ -46,39 +47,39 @@ fn retrieve(t: &[u8], v: &[u8], out: &mut [u8], left: usize) -> Retrieved
     if c == commands::NULL {
         let null = [0u8; 2];
         output::fill(&null, out);
-        return Retrieved::Yes {
+        return Some(Retrieved {
             t: types::walk::skip(t, left),
             v: 2,
             wrote: 2,
-        };
+        });
     }
     if d == commands::LIST_TYPE {
         if c == commands::LIST {
             return retrieve_list(t, v, out, left);
         }
-        return Retrieved::No;
+        return None;
     }
     if d == commands::CONTEXT_TYPE {
         if c == commands::CONTEXT {
             return retrieve_context(t, v, out, left);
         }
-        return Retrieved::No;
+        return None;
     }
     if outer_kind(c, d) {
         let n = values::walk::skip(v, left);
         output::fill(&v[..n], out);
-        return Retrieved::Yes {
+        return Some(Retrieved {
             t: types::walk::skip(t, left),
             v: n,
             wrote: n,
-        };
+        });
     }
-    Retrieved::No
+    None
 }
 
 // A list by a list type: each item by the inner type, of which each of them tells the size.
 #[cycle(retrieve_retrieve_context_retrieve_list)]
-fn retrieve_list(t: &[u8], v: &[u8], out: &mut [u8], left: usize) -> Retrieved
+fn retrieve_list(t: &[u8], v: &[u8], out: &mut [u8], left: usize) -> Option<Retrieved>
     requires ok { Ok (type_at left t.now) }
     requires ok_2 { Ok (value_at left v.now) }
     requires t_value { (get_or t.now 0 0 ≡ 0x2A) × (get_or v.now 0 0 ≡ 0x0A) }
@@ -89,40 +90,30 @@ fn retrieve_list(t: &[u8], v: &[u8], out: &mut [u8], left: usize) -> Retrieved
     let mut at: usize = 3;
     let mut to: usize = 3;
     let mut bt: usize = 0;
-    let mut i: usize = 0;
-    while i < n {
-        let p = output::min(to, out.len());
-        match retrieve(&t[1..], &v[at..], &mut out[p..], left - 1) {
-            Retrieved::Yes {
-                t: y,
-                v: x,
-                wrote: w,
-            } => {
-                at = at + x;
-                to = to + w;
-                bt = y;
-            }
-            Retrieved::No => return Retrieved::No,
-        }
-        i += 1;
+    for _ in 0..n {
+        let p = to.min(out.len());
+        let e = retrieve(&t[1..], &v[at..], &mut out[p..], left - 1)?;
+        at = at + e.v;
+        to = to + e.wrote;
+        bt = e.t;
     }
-    if i == 0 {
-        return Retrieved::Yes {
+    if n == 0 {
+        return Some(Retrieved {
             t: types::walk::skip(t, left),
             v: at,
             wrote: to,
-        };
+        });
     }
-    Retrieved::Yes {
+    Some(Retrieved {
         t: bt + 1,
         v: at,
         wrote: to,
-    }
+    })
 }
 
 // A context by a context type: the names that both have, each by its type. The two ascending lists of names are taken in step.
 #[cycle(retrieve_retrieve_context_retrieve_list)]
-fn retrieve_context(t: &[u8], v: &[u8], out: &mut [u8], left: usize) -> Retrieved
+fn retrieve_context(t: &[u8], v: &[u8], out: &mut [u8], left: usize) -> Option<Retrieved>
     requires ok { Ok (type_at left t.now) }
     requires ok_2 { Ok (value_at left v.now) }
     requires t_value { (get_or t.now 0 0 ≡ 0x2C) × (get_or v.now 0 0 ≡ 0x0B) }
@@ -157,52 +148,40 @@ fn retrieve_context(t: &[u8], v: &[u8], out: &mut [u8], left: usize) -> Retrieve
         }
         let p = at + NAME_WIDTH;
         let q = bt + NAME_WIDTH;
-        let w = output::min(to, out.len());
+        let w = to.min(out.len());
         output::fill(&v[at..p], &mut out[w..]);
-        let u = output::min(to + NAME_WIDTH, out.len());
-        match retrieve(&t[q..], &v[p..], &mut out[u..], left - 1) {
-            Retrieved::Yes {
-                t: b,
-                v: a,
-                wrote: c,
-            } => {
-                at = p + a;
-                bt = q + b;
-                to = to + NAME_WIDTH + c;
-            }
-            Retrieved::No => return Retrieved::No,
-        }
+        let u = (to + NAME_WIDTH).min(out.len());
+        let e = retrieve(&t[q..], &v[p..], &mut out[u..], left - 1)?;
+        at = p + e.v;
+        bt = q + e.t;
+        to = to + NAME_WIDTH + e.wrote;
         i += 1;
         j += 1;
         k += 1;
     }
     let head = [commands::CONTEXT, output::low(k), output::high(k)];
     output::fill(&head, out);
-    Retrieved::Yes {
+    Some(Retrieved {
         t: bt,
         v: at,
         wrote: to,
-    }
+    })
 }
 
 // The retrieved value of an accepted value by an accepted type, built in a spare place as long as the value and handed on. Refusals 15 and 18.
-fn retrieve_by(t: &[u8], v: &[u8], spare: &mut [u8], out: &mut [u8]) -> Written
+fn retrieve_by(t: &[u8], v: &[u8], spare: &mut [u8], out: &mut [u8]) -> Result<usize, Refusal>
     requires accepted { Accepted t.now v.now }
     requires v_in_bounds { length v.now ≤ length spare.old }
     ensures { Built (get_value_checked_call t.now v.now (length out.old)) out.old out.new result }
 {
     match retrieve(t, v, spare, TYPE_LEVELS) {
-        Retrieved::No => Written::Refused(refusals::NOT_RETRIEVED),
-        Retrieved::Yes {
-            t: _,
-            v: _,
-            wrote: n,
-        } => output::give(&spare[..n], out),
+        Some(e) => output::give(&spare[..e.wrote], out),
+        None => Err(Refusal::NotRetrieved),
     }
 }
 
 // The retrieved value of an accepted value by an accepted type, with a spare place: a small one for a short value. Refusals 15 and 18.
-pub(crate) fn write_retrieved(t: &[u8], v: &[u8], out: &mut [u8]) -> Written
+pub(crate) fn write_retrieved(t: &[u8], v: &[u8], out: &mut [u8]) -> Result<usize, Refusal>
     requires { Accepted t.now v.now }
     ensures { Built (get_value_checked_call t.now v.now (length out.old)) out.old out.new result }
 {
@@ -215,16 +194,12 @@ pub(crate) fn write_retrieved(t: &[u8], v: &[u8], out: &mut [u8]) -> Written
 }
 
 // `get_conformant_value` where one of the two is refused or the value does not conform.
-pub(crate) fn give_nothing(t: &[u8], v: &[u8], out: &mut [u8]) -> Written
+pub(crate) fn give_nothing(t: &[u8], v: &[u8], out: &mut [u8]) -> Result<usize, Refusal>
     requires { false ≡ is_yes (is_conformant v.now t.now) }
     ensures { Built (get_conformant_value_call t.now v.now (length out.old)) out.old out.new result }
 {
-    if let Checked::Refused(n) = form::check_type(t) {
-        return Written::Refused(n);
-    }
-    if let Checked::Refused(n) = form::check_value(v) {
-        return Written::Refused(n);
-    }
+    form::check_type(t)?;
+    form::check_value(v)?;
     if t[0] == commands::NULL_TYPE {
         let nothing = [0u8; 2];
         return output::give(&nothing, out);

@@ -1,68 +1,43 @@
 -- The tests of a table's rows are what document 02 asks of the table: `ordered_rows_lem` (27), `joined_rows_lem` (28).
 -- Idea: bit j of row i is the byte in row i and column j. A row is contained in another where what the two have in common is the one; two rows have a least common supertype
 -- where a row is what they have in common: what conforms to it conforms to both, and it is in its own row. Both sides are read at each type.
--- Index: `and_bit`, `same_bits` (numbers by their bits); `row_bit`, `row_lt`, `rows_at` (rows); `ordered_rows_lem`, `joined_rows_lem`.
+-- Index: `row_bit`, `row_lt`, `rows_at` (rows); `ordered_rows_lem`, `joined_rows_lem`.
 -- Assumes nothing.
-use Prim.Native.Nat.{ℕ, zero, suc, ◌+◌, ◌*◌, ◌/◌, ◌%◌, ◌^◌, ◌<◌, min}
+use Prim.Native.Nat.{ℕ, ◌+◌, ◌*◌, ◌/◌, ◌%◌, ◌^◌, ◌<◌, min}
 use mathlib.Core.Path.{◌≡◌, refl, sym, ap, ap₂, ◌∙◌, subst}
-use mathlib.Core.Bool.{Bool, true, false, not, cond, ◌&&◌, ◌||◌, false≢true}
+use mathlib.Core.Bool.{Bool, true, false, not, ◌&&◌, ◌||◌}
 use mathlib.Core.List.{List}
 use native.Mathlib.Omega.{arith}
-use native.Mathlib.Nat.{div-div-eq-div-mul, pow-succ'}
+use Rattle.std.specs.Int.{bit_at}
+use Rattle.std.proofs.lemmas.Nat.Bits.{bit_at_and, same_from_bits_below}
+use Rattle.std.proofs.lemmas.Bool.Decides.{nat_tests}
 use lib.ListN.{get_or}
 use lib.Dec.{eqb, ltb}
-use lib.Bits.{bit_and, and_step, and_shr, and_le_l}
-use borrow.Author.Tests.{eqb-true, eqb-false, eq-eqb, ltb-true, ltb-false}
+use lib.Bits.{bit_and, and_le_l}
+use borrow.Author.Tests.{eqb-true, eq-eqb, ltb-true, ltb-false}
 use Rattle.form.specs.Trees.{Simple, any, boolean, number, string, date, time, date_time, days_and_time, years_and_months, null, code, decode}
 use Rattle.form.proofs.ExactTypes.{code_decode, code_small}
 use Rattle.order.specs.Order.{same, bit}
 use Rattle.order.specs.Table.{imp, every, exists, reflexive, null_least, any_greatest, antisymmetric, is_ordered, is_join, has_joins, are_flags, in_table}
 use Rattle.order.proofs.Simple.{same_eq, and_left, and_right, and_both, imp_use, every_from, exists_from}
-use Rattle.order.proofs.Bools.{and_false, and_same, and_comm}
+use Rattle.order.proofs.Bools.{and_same, and_comm}
 use Rattle.order.proofs.Table.{refl_of, null_least_of, any_greatest_of, antisym_of, trans_of, join, join_least_of, passes, bool_iff, imp_from}
 use Rattle.order.proofs.Packed.{pack_bit, pack_lt, flag}
 use Rattle.tables.specs.Rows.{row_of, rows_of, row, all_from, carries_at, ordered_at, ordered_rows, is_row, joined_at, joined_rows}
 use Rattle.tables.proofs.Loops.{all_at, all_from_lem, any_at, any_from_lem}
 
 -- ---- numbers by their bits
-small_bit : (x : ℕ) → (q : Bool) → eqb (x % 2) 1 ≡ q → x % 2 ≡ cond q 1 0
-small_bit x true e = eqb-true (x % 2) 1 e
-small_bit x false e = let n = eqb-false (x % 2) 1 e in omega (arith, n)
-
 min_is : (a b : ℕ) → a < 2 → b < 2 → eqb (min a b) 1 ≡ eqb a 1 && eqb b 1
-min_is zero zero h k = refl
-min_is zero (suc zero) h k = refl
-min_is (suc zero) zero h k = refl
-min_is (suc zero) (suc zero) h k = refl
-min_is zero (suc (suc b)) h k = absurd (omega arith)
-min_is (suc zero) (suc (suc b)) h k = absurd (omega arith)
-min_is (suc (suc a)) b h k = absurd (omega arith)
+min_is a b h k = grind (arith, nat_tests)
 
-pub and_bit : (a b j : ℕ) → bit (bit_and a b) j ≡ bit a j && bit b j
-and_bit a b j =
-    let x = a / 2 ^ j in
-    let y = b / 2 ^ j in
-    let e : (bit_and (x / 2) (y / 2) * 2 + min (x % 2) (y % 2)) % 2 ≡ min (x % 2) (y % 2) = omega arith in
-    ap (λ (z : ℕ). eqb (z % 2) 1) (and_shr a b j ∙ and_step x y) ∙ ap (λ (z : ℕ). eqb z 1) e ∙ min_is (x % 2) (y % 2) (omega arith) (omega arith)
+and_bit : (a b j : ℕ) → bit (bit_and a b) j ≡ bit a j && bit b j
+and_bit a b j = rw (bit_at_and a b j) (min_is (a / 2 ^ j % 2) (b / 2 ^ j % 2) (omega arith) (omega arith))
 
--- bits beyond the first are the bits of the half
-half_bit : (a j : ℕ) → a / 2 ^ suc j % 2 ≡ a / 2 / 2 ^ j % 2
-half_bit a j = ap (λ (z : ℕ). a / z % 2) (pow-succ' 2 j) ∙ ap (λ (z : ℕ). z % 2) (sym (div-div-eq-div-mul a 2 (2 ^ j)))
+same_bit : (a b : ℕ) → a < 2 → b < 2 → eqb a 1 ≡ eqb b 1 → a ≡ b
+same_bit a b p q e = grind (arith, nat_tests)
 
-whole_bit : (a : ℕ) → bit a 0 ≡ eqb (a % 2) 1
-whole_bit a = let e : a / 1 ≡ a = omega arith in ap (λ (z : ℕ). eqb (z % 2) 1) e
-
-pub same_bits : (k a b : ℕ) → a < 2 ^ k → b < 2 ^ k → ((j : ℕ) → j < k → bit a j ≡ bit b j) → a ≡ b
-same_bits zero a b p q h = omega arith
-same_bits (suc k) a b p q h =
-    let e = pow-succ' 2 k in
-    let s = same_bits k (a / 2) (b / 2) (omega (arith, e)) (omega (arith, e))
-    (λ j l. ap (λ (z : ℕ). eqb z 1) (sym (half_bit a j)) ∙ h (suc j) (omega arith) ∙ ap (λ (z : ℕ). eqb z 1) (half_bit b j)) in
-    let t = sym (whole_bit a) ∙ h 0 (omega arith) ∙ whole_bit b in
-    let u = small_bit a (eqb (a % 2) 1) refl in
-    let v = small_bit b (eqb (b % 2) 1) refl in
-    let w : a % 2 ≡ b % 2 = u ∙ ap (λ z. cond z 1 0) t ∙ sym v in
-    omega (arith, s, w)
+same_bits : (k a b : ℕ) → a < 2 ^ k → b < 2 ^ k → ((j : ℕ) → j < k → bit a j ≡ bit b j) → a ≡ b
+same_bits k a b p q h = same_from_bits_below k a b p q (λ i l. same_bit (bit_at a i) (bit_at b i) (omega arith) (omega arith) (h i l))
 
 -- ---- the rows of a table
 module _ (table : List ℕ) (f : are_flags table ≡ true) where
@@ -122,37 +97,26 @@ module _ (table : List ℕ) (f : are_flags table ≡ true) where
     here s = let l = code_small s in all_at (ordered_at (rows_of table)) 0 10 (code s) h (omega arith) (omega arith)
 
     own : (s : Simple) → r s s ≡ true
-    own s = sym (at s s) ∙ and_left (bit (R (code s)) (code s)) _ (here s)
-
-    rest : (s : Simple) → bit (R 9) (code s) && (bit (R (code s)) 0 && all_from (carries_at (rows_of table) (code s)) 0 10) ≡ true
-    rest s = and_right (bit (R (code s)) (code s)) _ (here s)
+    own s = let h = here s in let b = at s s in grind arith
 
     least : (s : Simple) → r null s ≡ true
-    least s = sym (at null s) ∙ and_left (bit (R 9) (code s)) _ (rest s)
-
-    last : (s : Simple) → bit (R (code s)) 0 && all_from (carries_at (rows_of table) (code s)) 0 10 ≡ true
-    last s = and_right (bit (R 9) (code s)) _ (rest s)
+    least s = let h = here s in let b = at null s in grind arith
 
     greatest : (s : Simple) → r s any ≡ true
-    greatest s = sym (at s any) ∙ and_left (bit (R (code s)) 0) _ (last s)
+    greatest s = let h = here s in let b = at s any in grind arith
 
-    carries : (s t : Simple) → r s t ≡ true → (same s t || not (bit (R (code t)) (code s))) && eqb (bit_and (R (code s)) (R (code t))) (R (code t)) ≡ true
-    carries s t e =
+    carried : (s t : Simple) → carries_at (rows_of table) (code s) (code t) ≡ true
+    carried s t =
+        let h : all_from (carries_at (rows_of table) (code s)) 0 10 ≡ true = (let a = here s in grind arith) in
         let l = code_small t in
-        imp_use (bit (R (code s)) (code t)) _
-        (all_at (carries_at (rows_of table) (code s)) 0 10 (code t) (and_right (bit (R (code s)) 0) (all_from (carries_at (rows_of table) (code s)) 0 10) (last s)) (omega arith) (omega arith))
-        (at s t ∙ e)
+        all_at (carries_at (rows_of table) (code s)) 0 10 (code t) h (omega arith) (omega arith)
 
     alone : (s t : Simple) → r s t ≡ true → r t s ≡ true → same s t ≡ true
-    alone s t p q = go (same s t) (and_left (same s t || not (bit (R (code t)) (code s))) _ (carries s t p))
-      where
-        go : (x : Bool) → x || not (bit (R (code t)) (code s)) ≡ true → x ≡ true
-        go true e = refl
-        go false e = absurd (false≢true (sym (ap not (at t s ∙ q)) ∙ e))
+    alone s t p q = let c = carried s t in let a = at s t in let b = at t s in grind arith
 
     through : (s t u : Simple) → r s t ≡ true → r t u ≡ true → r s u ≡ true
     through s t u p q =
-        let e = eqb-true _ _ (and_right (same s t || not (bit (R (code t)) (code s))) _ (carries s t p)) in
+        let e = eqb-true _ _ (and_right (same s t || not (bit (R (code t)) (code s))) _ (imp_use (bit (R (code s)) (code t)) _ (carried s t) (at s t ∙ p))) in
         and_left (r s u) (r t u) (sym (common s t u) ∙ ap (λ (x : ℕ). bit x (code u)) e ∙ at t u ∙ q)
 
     is_order : is_ordered r ≡ true
@@ -171,30 +135,25 @@ module _ (table : List ℕ) (f : are_flags table ≡ true) where
 
   module _ (o : is_ordered r ≡ true) where
     within : (s t : Simple) → r s t ≡ true → bit_and (R (code s)) (R (code t)) ≡ R (code t)
-    within s t p = by_types _ _ (and_lt s t) (R-lt t) (λ c. common s t c ∙ go c (r t c) refl ∙ sym (at t c))
-      where
-        go : (c : Simple) (q : Bool) → r t c ≡ q → r s c && r t c ≡ r t c
-        go c true e = ap (λ x. x && r t c) (trans_of r o s t c p e)
-        go c false e = ap (λ x. r s c && x) e ∙ and_false (r s c) ∙ sym e
+    within s t p = by_types _ _ (and_lt s t) (R-lt t) (λ c. common s t c ∙ (let k = trans_of r o s t c p in grind arith) ∙ sym (at t c))
 
     carry : (s t : Simple) → carries_at (rows_of table) (code s) (code t) ≡ true
-    carry s t = imp_from (bit (R (code s)) (code t)) _ (λ e. let p = sym (at s t) ∙ e in and_both (same s t || not (bit (R (code t)) (code s))) _ (apart p (same s t) refl) (eq-eqb _ _ (within s t p)))
-      where
-        back : r s t ≡ true → (q : Bool) → same s t ≡ false → r t s ≡ q → not q ≡ true
-        back p true n e = absurd (false≢true (sym n ∙ eq-eqb (code s) (code t) (ap code (antisym_of r o s t p e))))
-        back p false n e = refl
-
-        apart : r s t ≡ true → (q : Bool) → same s t ≡ q → q || not (bit (R (code t)) (code s)) ≡ true
-        apart p true e = refl
-        apart p false e = ap not (at t s) ∙ back p (r t s) e refl
+    carry s t =
+        imp_from (bit (R (code s)) (code t)) _ (λ e.
+        let p = sym (at s t) ∙ e in
+        let w = eq-eqb _ _ (within s t p) in
+        let n : (r t s ≡ true → same s t ≡ true) = λ q. eq-eqb (code s) (code t) (ap code (antisym_of r o s t p q)) in
+        let b = at t s in
+        grind arith)
 
     are_ordered : ordered_rows (rows_of table) ≡ true
     are_ordered =
         all_from_lem (ordered_at (rows_of table)) 0 10 (λ i lo hi. by_code (λ k. ordered_at (rows_of table) k ≡ true) (λ s.
-        and_both (bit (R (code s)) (code s)) _ (at s s ∙ refl_of r o s)
-        (and_both (bit (R 9) (code s)) _ (at null s ∙ null_least_of r o s)
-        (and_both (bit (R (code s)) 0) _ (at s any ∙ any_greatest_of r o s)
-        (all_from_lem (carries_at (rows_of table) (code s)) 0 10 (λ j l h. by_code (λ k. carries_at (rows_of table) (code s) k ≡ true) (carry s) j (omega (arith, h))))))) i (omega (arith, hi)))
+        let a = at s s ∙ refl_of r o s in
+        let b = at null s ∙ null_least_of r o s in
+        let c = at s any ∙ any_greatest_of r o s in
+        let d = all_from_lem (carries_at (rows_of table) (code s)) 0 10 (λ j l h. by_code (λ k. carries_at (rows_of table) (code s) k ≡ true) (carry s) j (omega (arith, h))) in
+        grind arith) i (omega (arith, hi)))
 
   pub ordered_rows_lem : ordered_rows (rows_of table) ≡ is_ordered r
   ordered_rows_lem = bool_iff (ordered_rows (rows_of table)) (is_ordered r) is_order are_ordered

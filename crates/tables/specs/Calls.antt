@@ -1,11 +1,9 @@
 -- K9: a table is loaded. Exactly a hundred bytes; the refusals in document 02's sequence.
 -- Assumes nothing.
 use Rattle.std.specs.Prelude.{ℕ, Bool, true, List}
-use Rattle.form.specs.Outcome.{Outcome, done, refused, ◌>>◌, check}
+use Rattle.form.specs.Outcome.{Outcome, done, ◌>>◌, check}
 use Rattle.order.specs.Order.{Order}
 use Rattle.order.specs.Table.{is_table, is_ordered, in_table, has_joins, table_order, packed}
-use Rattle.tables.specs.declared.load.Loaded.{Loaded}
-use Rattle.tables.specs.declared.load.Loaded.TheVariants as loaded-is
 
 -- 26: length or byte wrong; 27: one of the order conditions fails; 28: two types lack a least common supertype; otherwise x
 unfoldable pub where_loads : {X : Type 0} → List ℕ → X → Outcome X
@@ -24,9 +22,5 @@ abbrev pub check_table : List ℕ → Outcome Bool
 check_table table = where_loads table true
 
 -- the reading of a table, by which walks and builders have its order
-abbrev pub loaded : Loaded → Outcome ℕ
-loaded (loaded-is.Reading n) = done n
-loaded (loaded-is.Refused n) = refused n
-
 abbrev pub reading_of : List ℕ → Outcome ℕ
 reading_of table = where_loads table (packed table)

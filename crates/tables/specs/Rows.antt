@@ -1,6 +1,7 @@
 -- A table by its rows, each a ten-bit number: what the code tests. The laws in proofs/Rows.antt say that it is what document 02 asks.
 -- Assumes nothing.
-use Rattle.std.specs.Prelude.{ℕ, zero, suc, ◌+◌, ◌*◌, Bool, true, false, not, ◌&&◌, ◌||◌, List, [], ◌∷◌, get_or, eqb}
+use Rattle.std.specs.Prelude.{ℕ, ◌+◌, ◌*◌, Bool, not, ◌&&◌, ◌||◌, List, map, get_or, eqb}
+use Rattle.std.specs.List.{list_all, list_any, range_with_len}
 use Rattle.std.specs.Int.Bits.{bit_and}
 use Rattle.order.specs.Order.{bit}
 use Rattle.order.specs.Table.{imp, pack}
@@ -10,17 +11,14 @@ abbrev pub row_of : List ℕ → ℕ → ℕ
 row_of table i = pack (λ j. get_or table (10 * i + j) 0) 0 10
 
 abbrev pub rows_of : List ℕ → List ℕ
-rows_of table =
-    row_of table 0 ∷ row_of table 1 ∷ row_of table 2 ∷ row_of table 3 ∷ row_of table 4 ∷ row_of table 5 ∷ row_of table 6 ∷ row_of table 7 ∷ row_of table 8 ∷ row_of table 9 ∷ []
+rows_of table = map (row_of table) (range_with_len 0 10)
 
 -- of the k numbers from i on, all pass; one passes
 unfoldable pub all_from : (ℕ → Bool) → ℕ → ℕ → Bool
-all_from f i zero = true
-all_from f i (suc k) = f i && all_from f (suc i) k
+all_from f i k = list_all f (range_with_len i k)
 
 unfoldable pub any_from : (ℕ → Bool) → ℕ → ℕ → Bool
-any_from f i zero = false
-any_from f i (suc k) = f i || any_from f (suc i) k
+any_from f i k = list_any f (range_with_len i k)
 
 module _ (rows : List ℕ) where
   abbrev pub row : ℕ → ℕ

@@ -2,21 +2,19 @@
 #![tactic(auto)]
 
 ghost use Rattle.std.specs.Prelude.{◌≡◌};
-ghost use Rattle.form.specs.Answers.{verdict};
+ghost use Rattle.form.specs.Answers.{outcome};
 ghost use Rattle.tables.specs.Calls.{check_table};
 
 pub mod load;
 pub mod readings;
 
-use crate::load::Loaded;
-use form::Verdict;
+use form::Refusal;
 
 // Whether a table loads: yes, or 26, 27 or 28.
-pub fn check_table(table: &[u8]) -> Verdict
-    ensures { verdict result ≡ check_table table.now }
+#[tactic(auto, using(crate::proofs::CallContracts::as_tests))]
+pub fn check_table(table: &[u8]) -> Result<bool, Refusal>
+    ensures { outcome result ≡ check_table table.now }
 {
-    match load::load(table) {
-        Loaded::Refused(n) => Verdict::Refused(n),
-        Loaded::Reading(_) => Verdict::Yes,
-    }
+    load::load(table)?;
+    Ok(true)
 }

@@ -15,6 +15,7 @@ use Rattle.form.specs.Trees.{Ty, Fields, no_fields, field, simple}
 use Rattle.form.specs.Limits.{name_width, name_end}
 use Rattle.form.specs.Form.{num_at, bytes, enc, enc_fields, count_fields}
 use Rattle.form.specs.Read.{read_t, read_named}
+use Rattle.std.specs.declared.option.Option.TheVariants.{Some}
 use Rattle.form.specs.Walks.{walk_of, size_in, Short}
 use Rattle.form.specs.Form.{level}
 use Rattle.form.proofs.WalkAnswers.{short_end}
@@ -31,8 +32,8 @@ pub skip_is : (l : ℕ) (s : List ℕ) → size_in (walk_of level (read_t l s)) 
 unfolding type_at size_at
 skip_is l s = walk_size level size_at (λ t. refl) refl (read_t l) (type_told l) s (read_t l s) refl
 
-pub skip_short : (l : ℕ) (s : List ℕ) (n room : ℕ) → Short simple (read_t l s) n room → (n ≡ 0 → ⊥) → n ≡ size_at (type_at l s)
-skip_short l s n room h z = ap size_in (sym (short_end level simple simple_level (read_t l s) n room h z)) ∙ skip_is l s
+pub skip_short : (l : ℕ) (s : List ℕ) (n room : ℕ) → Short simple (read_t l s) (Some n) room → n ≡ size_at (type_at l s)
+skip_short l s n room h = ap size_in (sym (short_end level simple simple_level (read_t l s) n room h)) ∙ skip_is l s
 
 pub size_got : (r : Option Ty) (t : Ty) → r ≡ some t → size_at r ≡ size t
 unfolding size_at

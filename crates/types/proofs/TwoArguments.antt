@@ -1,7 +1,7 @@
 -- A call that reads two arguments and holds the first against the second: from one pass over both to the call's outcome.
 -- Idea: a yes of the pass with both lengths is the call's yes; every other end of the pass says that the call does not answer yes.
 -- Index: `asked`, `first_refused`, `second_refused`, `asked_yes`, `not_yes`, `both_read` (the outcome); `Whole`, `whole_by` (a reader of a whole); `told_whole`, `apart`, `over_first`,
--- `long_first`, `long_second`, `answers_no` (the pass); `Agree`, `agree` (what a yes is of).
+-- `long_first`, `long_second`, `answers_no`, `not_all` (the pass); `Agree`, `agree` (what a yes is of).
 -- Assumes nothing.
 use Prim.Native.Nat.{ℕ, ◌<◌, ◌≤◌}
 use mathlib.Core.Path.{◌≡◌, refl, sym, ap, ◌∙◌}
@@ -11,7 +11,7 @@ use mathlib.Core.List.{List}
 use native.Mathlib.Omega.{arith}
 use lib.ListN.{length}
 use lib.Dec.{eqb}
-use borrow.Author.Tests.{lt-ltb, le-leb, eqb-true, eqb-false}
+use borrow.Author.Tests.{lt-ltb, le-leb, eqb-true, eqb-false, ne_eqb}
 use Rattle.form.specs.Limits.{most_bytes}
 use Rattle.form.specs.Outcome.{Outcome, done, refused, ◌>>=◌, ◌>>◌}
 use Rattle.form.specs.Read.{Got, got, read_whole}
@@ -142,3 +142,11 @@ module _ {X Y : Type 0} {sx : X → ℕ} {sy : Y → ℕ} {one : List ℕ → Op
               ∙ sym (ap is_yes (both_read test (second b) (P.accepts a B.x B.read_a (sym B.size_a ∙ p) ha) (Q.accepts b B.y B.read_b (sym B.size_b ∙ eqb-true t (length b) e) hb))
               ∙ B.holds)
           go false e = e ∙ answers_no (λ x y f g. absurd (eqb-false t (length b) e (sized_b y g)))
+
+    -- not all bytes were taken
+    pub not_all : (r ≡ length a → ⊥) → eqb r (length a) ≡ is_yes (asked test (first a) (second b))
+    not_all h = ne_eqb r (length a) h ∙ go (eqb r 0) refl
+      where
+        go : (q : Bool) → eqb r 0 ≡ q → false ≡ is_yes (asked test (first a) (second b))
+        go true e = apart (eqb-true r 0 e)
+        go false e = over_first (eqb-false r 0 e) h

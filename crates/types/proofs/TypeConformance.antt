@@ -16,6 +16,7 @@ use borrow.Author.Tests.{eq-eqb, ne_eqb}
 use Rattle.form.specs.Trees.{Ty, leaf, built, list, range, context, function, Fields, no_params, decode, simple}
 use Rattle.form.specs.Form.{num_at}
 use Rattle.form.specs.Read.{read_t}
+use Rattle.std.specs.declared.option.Option.TheVariants.{None, Some}
 use Rattle.form.specs.Walks.{Short}
 use Rattle.form.proofs.Runs.{rest, first_at}
 use Rattle.form.proofs.ExactTypes.{code_small}
@@ -32,7 +33,7 @@ use Rattle.order.proofs.Size.{size_positive}
 use Rattle.order.proofs.Ends.{Ends}
 use Rattle.tables.proofs.Related.{related_inner}
 use Rattle.types.specs.At.{type_at, fields_at, sig, cons, fun_of, size_sig, sig_at, size_at}
-use Rattle.types.specs.Conform.{Conform, judge, conform_by, types_by, conform_of, entries, ignores_at, le_sig, any_two, same_simple, add_sizes, Met}
+use Rattle.types.specs.Conform.{Conform, judge, conform_by, types_by, conform_of, entries, ignores_at, le_sig, any_two, same_simple, add_sizes, Met, No}
 use Rattle.types.proofs.Reading.{type_told, cmd, cmd_is, some_byte, some_level, is_ctx, is_fun, fields_good, size_cons, size_fun}
 use Rattle.types.proofs.Entries.{size_got}
 use Rattle.types.proofs.ByCommand.{same_simple_lem, simple_leaf, simple_small, eq_false, le_null, le_any, le_leaves, le_other, sig_count, le_funs, le_counts, le_cons}
@@ -104,20 +105,23 @@ module _ (test : Ty → Ty → Bool) (l : ℕ) (a b : List ℕ) (t : ℕ) where
   no_function c d h = never (λ x y e f. h (is_fun l a x e c).two (is_fun l b y f d).two)
 
 -- ---- the returns of `same_simple`
-module _ (l : ℕ) (a : List ℕ) (at : ℕ) (b : List ℕ) (bt n room : ℕ) (h : Short simple (read_t l (drop at a)) n room) where
-  no_simple : n ≡ 0 → (x : Ty) → type_at l (drop at a) ≡ some x → simple x ≡ false
+module _ (l : ℕ) (a : List ℕ) (at : ℕ) (b : List ℕ) (bt room : ℕ) where
+  no_simple : Short simple (read_t l (drop at a)) None room → (x : Ty) → type_at l (drop at a) ≡ some x → simple x ≡ false
   unfolding type_at
-  no_simple z x e = not_passed size simple (read_t l (drop at a)) (λ y m r. (type_told l (drop at a) y m r).sized) n room h size_positive z x e
+  no_simple h x e = not_passed size simple (read_t l (drop at a)) (λ y m r. (type_told l (drop at a) y m r).sized) room h x e
 
-  a_simple : (n ≡ 0 → ⊥) → Passed size simple (type_at l (drop at a)) n
+  a_simple : (n : ℕ) → Short simple (read_t l (drop at a)) (Some n) room → Passed size simple (type_at l (drop at a)) n
   unfolding type_at
-  a_simple z = passed size simple (read_t l (drop at a)) (λ y m r. (type_told l (drop at a) y m r).sized) n room h z
+  a_simple n h = passed size simple (read_t l (drop at a)) (λ y m r. (type_told l (drop at a) y m r).sized) room n h
 
-  pub simple_none : n ≡ 0 → (u : ℕ) → Met (types_by same_simple (type_at l (drop at a)) (type_at l (drop bt b))) 0 u
-  simple_none z u = fails same_simple l (drop at a) (drop bt b) u (λ x y e f. ap (λ q. q && eq_ty x y) (no_simple z x e))
+  no_pair : ((x y : Ty) → type_at l (drop at a) ≡ some x → type_at l (drop bt b) ≡ some y → same_simple x y ≡ false) → types_by same_simple (type_at l (drop at a)) (type_at l (drop bt b)) ≡ No
+  no_pair f = no_when size size same_simple (type_at l (drop at a)) (type_at l (drop bt b)) f
 
-  pub simple_end : length b ≡ bt → (u : ℕ) → Met (types_by same_simple (type_at l (drop at a)) (type_at l (drop bt b))) 0 u
-  simple_end e u = no_b same_simple l (drop at a) (drop bt b) u (simp length-drop (omega arith))
+  pub simple_none : Short simple (read_t l (drop at a)) None room → types_by same_simple (type_at l (drop at a)) (type_at l (drop bt b)) ≡ No
+  simple_none h = no_pair (λ x y e f. ap (λ q. q && eq_ty x y) (no_simple h x e))
+
+  pub simple_end : length b ≡ bt → types_by same_simple (type_at l (drop at a)) (type_at l (drop bt b)) ≡ No
+  simple_end e = no_pair (λ x y p f. absurd (omega (arith, some_byte l (drop bt b) y f, length-drop bt b)))
 
   cmd_a : (x : Ty) → type_at l (drop at a) ≡ some x → cmd x ≡ get_or a at 0
   cmd_a x e = cmd_is l (drop at a) x e ∙ first_at a at
@@ -125,13 +129,14 @@ module _ (l : ℕ) (a : List ℕ) (at : ℕ) (b : List ℕ) (bt n room : ℕ) (h
   cmd_b : (y : Ty) → type_at l (drop bt b) ≡ some y → cmd y ≡ get_or b bt 0
   cmd_b y e = cmd_is l (drop bt b) y e ∙ first_at b bt
 
-  pub simple_apart : (get_or a at 0 ≡ get_or b bt 0 → ⊥) → (u : ℕ) → Met (types_by same_simple (type_at l (drop at a)) (type_at l (drop bt b))) 0 u
-  simple_apart d u = fails same_simple l (drop at a) (drop bt b) u (λ x y e f. ap (λ q. simple x && q) (eq_false x y (λ z. d (sym (cmd_a x e) ∙ ap cmd z ∙ cmd_b y f))) ∙ and_false (simple x))
+  pub simple_apart : (get_or a at 0 ≡ get_or b bt 0 → ⊥) → types_by same_simple (type_at l (drop at a)) (type_at l (drop bt b)) ≡ No
+  simple_apart d = no_pair (λ x y e f. ap (λ q. simple x && q) (eq_false x y (λ z. d (sym (cmd_a x e) ∙ ap cmd z ∙ cmd_b y f))) ∙ and_false (simple x))
 
-  pub simple_both : (n ≡ 0 → ⊥) → bt < length b → get_or a at 0 ≡ get_or b bt 0 → Met (types_by same_simple (type_at l (drop at a)) (type_at l (drop bt b))) n n
+  pub simple_both : (n : ℕ) → Short simple (read_t l (drop at a)) (Some n) room → bt < length b → get_or a at 0 ≡ get_or b bt 0
+      → Met (types_by same_simple (type_at l (drop at a)) (type_at l (drop bt b))) n n × (0 < n)
   unfolding size
-  simple_both z k c =
-      let P = a_simple z in
+  simple_both n h k c =
+      let P = a_simple n h in
       let s = simple_leaf P.x P.leafy in
       let p = some_level l (drop at a) P.x P.read in
       let e = cmd_a P.x P.read in
@@ -139,9 +144,11 @@ module _ (l : ℕ) (a : List ℕ) (at : ℕ) (b : List ℕ) (bt n room : ℕ) (h
       let f = first_at b bt in
       let r = read_simple l (drop bt b) p (simp length-drop (omega arith)) (omega arith) (omega arith) in
       let d = decode (get_or (drop bt b) 0 0 - 32) in
-      let same : P.x ≡ leaf d = s.1 ∙ ap leaf (same_simple_lem s.0 d (sym (ap cmd s.1) ∙ e ∙ c ∙ sym (cmd_b (leaf d) r))) in
-      met_yes (both size size same_simple (type_at l (drop at a)) (type_at l (drop bt b)) P.x (leaf d) P.read r
-      ∙ ap (λ q. judge q (size P.x) (size (leaf d))) (ap₂ ◌&&◌ P.leafy (ap (eq_ty P.x) (sym same) ∙ eq_ty_self P.x))) P.is (P.is ∙ ap size same)
+      let same : P.x ≡ leaf d = s.1 ∙ ap leaf (same_simple_lem s.0 d (sym (ap cmd s.1) ∙ e ∙ c ∙ sym (cmd_b (leaf d) r))) in (
+        met_yes (both size size same_simple (type_at l (drop at a)) (type_at l (drop bt b)) P.x (leaf d) P.read r
+            ∙ ap (λ q. judge q (size P.x) (size (leaf d))) (ap₂ ◌&&◌ P.leafy (ap (eq_ty P.x) (sym same) ∙ eq_ty_self P.x))) P.is (P.is ∙ ap size same),
+        omega (arith, h.room),
+      )
 
 -- they conform to each other
 pub simple_pair : {O : Order} → Ends O → (l : ℕ) (a : List ℕ) (at : ℕ) (b : List ℕ) (bt n : ℕ) → Met (types_by same_simple (type_at l (drop at a)) (type_at l (drop bt b))) n n → (n ≡ 0 → ⊥)

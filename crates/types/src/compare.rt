@@ -1,16 +1,16 @@
 // Conformance of two types as one walk over both. For the calls here and for `values`, `infer` and `coercion`.
-ghost use Rattle.std.specs.Prelude.{◌≡◌, ◌+◌, ◌<◌, ◌≤◌, ◌^◌, length, drop};
+ghost use Rattle.std.specs.Prelude.{◌≡◌, ◌+◌, ◌<◌, ◌≤◌, ◌^◌, length, drop, MatchOption};
 ghost use Rattle.order.specs.Order.{order_of};
 ghost use Rattle.order.specs.Types.{le};
 ghost use Rattle.order.specs.Size.{size_fields};
 ghost use Rattle.types.specs.At.{type_at, fields_at, sig_at, size_sig};
-ghost use Rattle.types.specs.Conform.{conform_of, conform_by, types_by, entries, ignores_at, le_sig, any_two, same_simple, add_sizes, Met};
+ghost use Rattle.types.specs.Conform.{conform_of, conform_by, types_by, entries, ignores_at, le_sig, any_two, same_simple, add_sizes, Met, No};
 ghost use Rattle.types.specs.Calls.{is_yes, is_conformant_by};
 
 use crate::walk;
 use form::commands;
 use form::limits::{MOST_BYTES, NAME_WIDTH, TYPE_LEVELS};
-use tables::readings;
+use tables::readings::Reading;
 
 // ---- conformance: both are read and compared at once. The answer is the size of the first, with that of the second left in `other`,
 // where both are read and the first conforms to the second, and 0 where not.
@@ -31,27 +31,22 @@ pub(crate) fn skip_both(a: &[u8], b: &[u8], left: usize, other: &mut usize) -> u
     x
 }
 
-// The size of the type at `at`, and of the one at `bt`, where they are the same simple type, 0 where not: a short way past most pairs.
-fn same_simple(a: &[u8], at: usize, b: &[u8], bt: usize, left: usize) -> usize
+// The size of the type at `at`, and of the one at `bt`, where they are the same simple type: a short way past most pairs.
+fn same_simple(a: &[u8], at: usize, b: &[u8], bt: usize, left: usize) -> Option<usize>
     requires { (at ≤ length a.now) × (bt ≤ length b.now) }
-    ensures { Met (types_by same_simple (type_at left (drop at a.now)) (type_at left (drop bt b.now))) result result }
+    ensures { MatchOption result (types_by same_simple (type_at left (drop at a.now)) (type_at left (drop bt b.now)) ≡ No)
+        (λ n. Met (types_by same_simple (type_at left (drop at a.now)) (type_at left (drop bt b.now))) n n × (0 < n)) }
 {
-    let n = form::walk::simple_at(a, at, left);
-    if n == 0 {
-        return 0;
+    let n = form::walk::simple_at(a, at, left)?;
+    if b.len() == bt || a[at] != b[bt] {
+        return None;
     }
-    if b.len() == bt {
-        return 0;
-    }
-    if a[at] != b[bt] {
-        return 0;
-    }
-    n
+    Some(n)
 }
 
 // Whether the type at the front of `a` conforms to the one at the front of `b`.
 #[cycle(conform_fields_conform_inner_conform_sig_conforms)]
-pub fn conforms(a: &[u8], b: &[u8], left: usize, other: &mut usize, reading: u64) -> usize
+pub fn conforms(a: &[u8], b: &[u8], left: usize, other: &mut usize, reading: Reading) -> usize
     ensures { Met (conform_of (order_of reading) (type_at left a.now) (type_at left b.now)) result other.new }
 {
     if left == 0 {
@@ -72,7 +67,7 @@ pub fn conforms(a: &[u8], b: &[u8], left: usize, other: &mut usize, reading: u64
         if f == commands::ANY_TYPE {
             return skip_both(&a[0..], &b[0..], left, other);
         }
-        if readings::is_related(e, f, reading) {
+        if reading.is_related(e, f) {
             *other = 1;
             return 1;
         }
@@ -113,14 +108,7 @@ pub fn conforms(a: &[u8], b: &[u8], left: usize, other: &mut usize, reading: u64
             if k != b[1] {
                 return 0;
             }
-            conform_sig(
-                &a[2..],
-                &b[2..],
-                form::bytes::wide(k),
-                left - 1,
-                other,
-                reading,
-            )
+            conform_sig(&a[2..], &b[2..], usize::from(k), left - 1, other, reading)
         }
         _ => 0,
     }
@@ -128,12 +116,11 @@ pub fn conforms(a: &[u8], b: &[u8], left: usize, other: &mut usize, reading: u64
 
 // Two inner types, behind one byte each.
 #[cycle(conform_fields_conform_inner_conform_sig_conforms)]
-fn conform_inner(a: &[u8], b: &[u8], left: usize, other: &mut usize, reading: u64) -> usize
+fn conform_inner(a: &[u8], b: &[u8], left: usize, other: &mut usize, reading: Reading) -> usize
     requires { (length a.now + 1 < 2 ^ 64) × (length b.now + 1 < 2 ^ 64) }
     ensures { Met (add_sizes 1 1 (conform_of (order_of reading) (type_at left a.now) (type_at left b.now))) result other.new }
 {
-    let k = same_simple(a, 0, b, 0, left);
-    if k != 0 {
+    if let Some(k) = same_simple(a, 0, b, 0, left) {
         *other = k + 1;
         return k + 1;
     }
@@ -153,14 +140,14 @@ fn conform_sig(
     count: usize,
     left: usize,
     other: &mut usize,
-    reading: u64,
+    reading: Reading,
 ) -> usize
     requires { (length a.now + 2 < 2 ^ 64) × (length b.now + 2 < 2 ^ 64) }
     ensures { Met (add_sizes 2 2 (conform_by size_sig size_sig (le_sig (order_of reading) (ignores_at (order_of reading) count)) (sig_at left count a.now)
         (sig_at left count b.now))) result other.new }
 {
     if 0 == count {
-        if !readings::is_strict(reading) {
+        if !reading.is_strict() {
             let x = skip_both(&a[0..], &b[0..], left, other);
             if x == 0 {
                 return 0;
@@ -171,11 +158,8 @@ fn conform_sig(
     }
     let mut at: usize = 0;
     let mut bt: usize = 0;
-    let mut i: usize = 0;
-    while i < count {
-        i += 1;
-        let k = same_simple(b, bt, a, at, left);
-        if k != 0 {
+    for _ in 0..count {
+        if let Some(k) = same_simple(b, bt, a, at, left) {
             bt = bt + k;
             at = at + k;
             continue;
@@ -204,17 +188,16 @@ fn conform_fields(
     m: usize,
     left: usize,
     other: &mut usize,
-    reading: u64,
+    reading: Reading,
 ) -> usize
     requires { (length a.now + 3 < 2 ^ 64) × (length b.now + 3 < 2 ^ 64) }
     ensures { Met (add_sizes 3 3 (conform_by size_fields size_fields (entries (le (order_of reading))) (fields_at left n 0 a.now) (fields_at left m 0 b.now))) result other.new }
 {
     let mut at: usize = 0;
     let mut least: usize = 0;
-    let mut i: usize = 0;
     let mut bt: usize = 0;
     let mut j: usize = 0;
-    while i < n {
+    for _ in 0..n {
         if a.len() - at < NAME_WIDTH {
             return 0;
         }
@@ -239,15 +222,12 @@ fn conform_fields(
             }
             at = p + k;
             least = name + 1;
-            i += 1;
             continue;
         }
         let q = bt + NAME_WIDTH;
         least = name + 1;
-        i += 1;
         j += 1;
-        let k = same_simple(a, p, b, q, left);
-        if k != 0 {
+        if let Some(k) = same_simple(a, p, b, q, left) {
             at = p + k;
             bt = q + k;
             continue;
@@ -267,7 +247,7 @@ fn conform_fields(
 }
 
 // Whether both are whole types and the first conforms to the second.
-pub(crate) fn passes(a: &[u8], b: &[u8], reading: u64) -> bool
+pub(crate) fn passes(a: &[u8], b: &[u8], reading: Reading) -> bool
     ensures { result ≡ is_yes (is_conformant_by (order_of reading) a.now b.now) }
 {
     if MOST_BYTES < a.len() {

@@ -24,8 +24,7 @@ fn null_or_same(a: &[u8], b: &[u8], left: usize, other: &mut usize) -> usize
     if a[0] == commands::NULL_TYPE {
         return x;
     }
-    let y = *other;
-    if check::same(&a[..x], &b[..y]) {
+    if a[..x] == b[..*other] {
         return x;
     }
     0
@@ -38,10 +37,9 @@ fn instance_fields(a: &[u8], n: usize, b: &[u8], m: usize, left: usize, other: &
 {
     let mut at: usize = 0;
     let mut least: usize = 0;
-    let mut i: usize = 0;
     let mut bt: usize = 0;
     let mut j: usize = 0;
-    while i < n {
+    for _ in 0..n {
         if a.len() - at < NAME_WIDTH {
             return 0;
         }
@@ -49,10 +47,8 @@ fn instance_fields(a: &[u8], n: usize, b: &[u8], m: usize, left: usize, other: &
         if name < least {
             return 0;
         }
-        if j < m {
-            if b.len() - bt < NAME_WIDTH {
-                return 0;
-            }
+        if j < m && b.len() - bt < NAME_WIDTH {
+            return 0;
         }
         let next = walk::next_name(b, bt, j, m);
         if next < name {
@@ -66,7 +62,6 @@ fn instance_fields(a: &[u8], n: usize, b: &[u8], m: usize, left: usize, other: &
             }
             at = p + k;
             least = name + 1;
-            i += 1;
             continue;
         }
         let q = bt + NAME_WIDTH;
@@ -77,7 +72,6 @@ fn instance_fields(a: &[u8], n: usize, b: &[u8], m: usize, left: usize, other: &
         at = p + x;
         bt = q + *other;
         least = name + 1;
-        i += 1;
         j += 1;
     }
     if j < m {
@@ -92,22 +86,12 @@ fn instance_list(a: &[u8], b: &[u8]) -> bool
     requires { (0 < length a.now) × (length a.now ≤ most_bytes) × (length b.now ≤ most_bytes) × (get_or a.now 0 0 ≡ 42) }
     ensures { result ≡ is_yes (instance_of a.now b.now) }
 {
-    if b.len() < 2 {
+    if b.len() < 2 || b[0] != a[0] {
         return false;
     }
-    if b[0] != commands::LIST_TYPE {
-        return false;
-    }
-    if b[1] == commands::ANY_TYPE {
-        if b.len() != 2 {
-            return false;
-        }
-        return walk::skip(a, TYPE_LEVELS) == a.len();
-    }
-    if check::same(a, b) {
-        return walk::skip(a, TYPE_LEVELS) == a.len();
-    }
-    false
+    let of_any = b[1] == commands::ANY_TYPE;
+    let is_instance = if of_any { b.len() == 2 } else { a == b };
+    is_instance && walk::skip(a, TYPE_LEVELS) == a.len()
 }
 
 // Whether both are whole types, of which the first is a context type, and the first is an instance of the second: each name of the second is in the first with Null or the equal type.
@@ -115,13 +99,7 @@ fn instance_context(a: &[u8], b: &[u8]) -> bool
     requires { (0 < length a.now) × (length a.now ≤ most_bytes) × (length b.now ≤ most_bytes) × (get_or a.now 0 0 ≡ 44) }
     ensures { result ≡ is_yes (instance_of a.now b.now) }
 {
-    if a.len() < 3 {
-        return false;
-    }
-    if b.len() < 3 {
-        return false;
-    }
-    if b[0] != commands::CONTEXT_TYPE {
+    if a.len() < 3 || b.len() < 3 || b[0] != commands::CONTEXT_TYPE {
         return false;
     }
     let mut other: usize = 0;
@@ -133,26 +111,14 @@ fn instance_context(a: &[u8], b: &[u8]) -> bool
         TYPE_LEVELS - 1,
         &mut other,
     );
-    if size == 0 {
-        return false;
-    }
-    if size != a.len() {
-        return false;
-    }
-    other == b.len()
+    size == a.len() && other == b.len()
 }
 
 // Whether both are whole types and the first is an instance of the second.
 pub(crate) fn is_instance(a: &[u8], b: &[u8]) -> bool
     ensures { result ≡ is_yes (instance_of a.now b.now) }
 {
-    if a.len() == 0 {
-        return false;
-    }
-    if MOST_BYTES < a.len() {
-        return false;
-    }
-    if MOST_BYTES < b.len() {
+    if a.is_empty() || MOST_BYTES < a.len() || MOST_BYTES < b.len() {
         return false;
     }
     match a[0] {

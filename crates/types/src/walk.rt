@@ -10,11 +10,10 @@ use form::limits::NAME_END;
 pub fn skip(s: &[u8], left: usize) -> usize
     ensures { result ≡ size_at (type_at left s.now) }
 {
-    let n = form::walk::simple_at(s, 0, left);
-    if n != 0 {
+    if let Some(n) = form::walk::simple_at(s, 0, left) {
         return n;
     }
-    let mut told: usize = 0;
+    let mut told = 0;
     form::walk::walk_type(s, left, &mut told)
 }
 

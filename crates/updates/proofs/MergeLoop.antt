@@ -1,6 +1,6 @@
 -- The loop that merges two contexts, their names taken in step: what is left of both, and what was written of the answer.
 -- Idea: what was written and the merge of what is left make the bytes of the whole merge, and their levels its level (`Joining`).
--- Index: `Left`, `Seen`, `name_in`, `end_in`, `entry_bytes`, `entry_long` (what is left); `Joining`, `joining_starts`, `joining_kept`, `joining_few`, `joining_shallow`, `joining_done` (the loop);
+-- Index: `Left`, `Seen`, `name_in`, `end_in`, `entry_bytes`, `entry_long` (what is left); `Joining`, `joining_starts`, `joining_few`, `joining_done` (the loop);
 -- `Passes`, `passed` (what the pass tells); `own_next`, `new_next`, `new_passed`, `both_next`, `entry_room` (a turn).
 -- Assumes nothing.
 use Prim.Native.Nat.{ℕ, suc, ◌+◌, ◌-◌, ◌*◌, ◌/◌, ◌%◌, ◌<◌, ◌≤◌, ◌^◌, max}
@@ -27,7 +27,7 @@ use Rattle.types.specs.At.{Ok, seen}
 use Rattle.values.specs.At.{value_at, entries_at, size_at_v}
 use Rattle.values.proofs.Reading.{From, skip_is, size_got, front_text}
 use Rattle.output.proofs.OntoLaws.{name_bytes}
-use Rattle.output.proofs.FillLaws.{length_fill, fill_over, late_head}
+use Rattle.output.proofs.FillLaws.{fill_over, late_head}
 use Rattle.paths.specs.Places.{context_at}
 use Rattle.paths.proofs.Whole.{Ctx, ctx_ok}
 use Rattle.updates.specs.Writing.{merged, Joined, Merges}
@@ -221,17 +221,11 @@ joining_starts all l c o n m old mid hc ho short en em e = go (ctx_ok l c hc) (c
         }
 
 module _ {all : Bool} {l : ℕ} {c o : List ℕ} {n m : ℕ} {mid out : List ℕ} {at i bt j to k deep : ℕ} (Q : Joining all l c o n m mid out at i bt j to k deep) where
-  pub joining_kept : length out ≡ length mid
-  joining_kept = ap length Q.wrote.state ∙ length_fill (take 3 c ++ Q.done) mid
-
   short : to ≤ 2 * most_bytes
   short = omega (arith, Q.low, Q.left_c.inside, Q.left_o.inside, Q.both.small_c, Q.both.small_o)
 
   pub joining_few : k < 65536
   joining_few = omega (arith, Q.wrote.few, short)
-
-  pub joining_shallow : deep < 65536
-  joining_shallow = omega (arith, Q.shallow, short)
 
   -- ---- an entry of one of them, put behind what was written
   module _ {s : List ℕ} {n' p i' : ℕ} {fs : Entries} (L : Left l s n' p i' fs) (h : i' < n') (z : ℕ) (v : ℕ) (T : Passes l s p z v) where

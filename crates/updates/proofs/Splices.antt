@@ -2,7 +2,7 @@
 -- Idea: induction on the path. Where the name is new or its value goes, the entry is written between those below and those above it; where the cut lies in the value,
 -- the bytes around the value stay as they are.
 -- Index: `length_nested` (names that are all new); `spliced_is`, `cuts_is`, `length_spliced` (the bytes behind an update); `blocked_is` (Err of apply_entries);
--- `nested_ends`, `rest_shorter`, `nested_bound`, `nested_next` (`write_nested`); `count_more`, `count_kept`, `base_inside`, `front_asks`, `end_fits`, `spliced_out` (`splice`).
+-- `nested_ends`, `nested_bound`, `nested_next` (`write_nested`); `count_more`, `count_kept`, `base_inside`, `front_asks`, `end_fits`, `spliced_out` (`splice`).
 -- Assumes nothing.
 use Prim.Native.Nat.{ℕ, zero, suc, ◌+◌, ◌-◌, ◌*◌, ◌<◌, ◌≤◌, ◌^◌, min}
 use native.Mathlib.Omega.{arith}
@@ -390,11 +390,6 @@ pub nested_ends : (p v old new : List ℕ) → length p ≡ 0 → new ≡ fill v
 unfolding nested
 nested_ends [] v old new e o = (refl, o)
 nested_ends (n ∷ p) v old new e o = absurd (omega arith)
-
--- the rest of the path is shorter
-pub rest_shorter : (p : List ℕ) → (length p ≡ 0 → ⊥) → length (take (length p - 1) (drop 1 p)) < length p
-rest_shorter [] d = absurd (d refl)
-rest_shorter (n ∷ p) d = omega (arith, ap length (rest (n ∷ p) 1))
 
 -- the length fits
 pub nested_bound : (p v : List ℕ) (k : ℕ) → length p ≤ most_names → length v ≤ most_bytes → length (nested (take (length p - k) (drop k p)) v) < 65536

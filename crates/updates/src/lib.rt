@@ -12,8 +12,8 @@ use form::commands;
 use form::limits::{NAME_END, NAME_WIDTH, VALUE_LEVELS};
 use paths::way::{Cut, Way};
 
-// What an updated context will have.
-#[derive(Drop)]
+// The bytes and the level of a context that is built.
+#[derive(Clone, Copy, Debug, PartialEq, Eq, Hash)]
 pub struct Totals {
     pub size: usize,
     pub level: usize,
@@ -49,14 +49,14 @@ fn write_nested(path: &[u16], v: &[u8], out: &mut [u8]) -> usize
     ensures value { result ≡ length (nested path.now v.now) }
     ensures out_after { out.new ≡ fill (nested path.now v.now) out.old }
 {
-    if path.len() == 0 {
+    let [name, rest @ ..] = path else {
         output::fill(v, out);
         return v.len();
-    }
+    };
     let empty = [commands::CONTEXT, 0, 0];
-    let p = write_to_name(&empty, 3, 1, paths::walk::name_number(path[0]), out);
-    let q = output::min(p, out.len());
-    p + write_nested(&path[1..], v, &mut out[q..])
+    let p = write_to_name(&empty, 3, 1, usize::from(*name), out);
+    let q = p.min(out.len());
+    p + write_nested(rest, v, &mut out[q..])
 }
 
 // What the context `c` has after the value `v`, of that level, was put at the path, along which the walk told `way`.
@@ -70,7 +70,7 @@ pub fn measure(c: &[u8], path: &[u16], v: &[u8], level: usize, way: Way) -> Tota
     let new = (path.len() - way.cut.names) * (3 + NAME_WIDTH);
     Totals {
         size: c.len() - way.cut.gone + NAME_WIDTH + new + v.len(),
-        level: form::bytes::max(way.rest, path.len() + level),
+        level: way.rest.max(path.len() + level),
     }
 }
 
@@ -89,10 +89,10 @@ pub fn splice(c: &[u8], cut: Cut, path: &[u16], v: &[u8], out: &mut [u8]) -> usi
         count += 1;
     }
     output::fill(&c[..b], out);
-    let q = output::min(b, out.len());
-    let name = paths::walk::name_number(path[k - 1]);
+    let q = b.min(out.len());
+    let name = usize::from(path[k - 1]);
     let p = b + write_to_name(&c[b..], cut.at - b, count, name, &mut out[q..]);
-    let r = output::min(p, out.len());
+    let r = p.min(out.len());
     let n = write_nested(&path[k..], v, &mut out[r..]);
     let to = cut.at + cut.gone;
     output::put(&c[to..], out, p + n)
@@ -101,12 +101,12 @@ pub fn splice(c: &[u8], cut: Cut, path: &[u16], v: &[u8], out: &mut [u8]) -> usi
 // ---- zip and overwrite
 
 // The entries of `c` and of `o`, taken in step by their ascending names: the other's value in place of one's own. A name that only the other has is
-// inserted by `all`, otherwise passed over. Answers the length of the whole, and leaves its level in `told`.
-pub fn merge(all: bool, c: &[u8], o: &[u8], out: &mut [u8], told: &mut usize) -> usize
+// inserted by `all`, otherwise passed over. Answers the length and the level of the whole.
+pub fn merge(all: bool, c: &[u8], o: &[u8], out: &mut [u8]) -> Totals
     requires ok { Ok (context_at value_levels c.now) }
     requires ok_2 { Ok (context_at value_levels o.now) }
     requires c_len_bound { (length c.now ≤ most_bytes) × (length o.now ≤ most_bytes) }
-    ensures { Merges all (context_at value_levels c.now) (context_at value_levels o.now) out.old out.new result told.new }
+    ensures { Merges all (context_at value_levels c.now) (context_at value_levels o.now) out.old out.new result.size result.level }
 {
     let n = form::bytes::word_at(c, 1);
     let m = form::bytes::word_at(o, 1);
@@ -126,7 +126,7 @@ pub fn merge(all: bool, c: &[u8], o: &[u8], out: &mut [u8], told: &mut usize) ->
             let p = at + NAME_WIDTH;
             let e = p + values::walk::pass(&c[p..], VALUE_LEVELS - 1, &mut level);
             to = output::put(&c[at..e], out, to);
-            deep = form::bytes::max(deep, level);
+            deep = deep.max(level);
             at = e;
             i += 1;
             k += 1;
@@ -135,16 +135,17 @@ pub fn merge(all: bool, c: &[u8], o: &[u8], out: &mut [u8], told: &mut usize) ->
         if y < x {
             let q = bt + NAME_WIDTH;
             let e = q + values::walk::pass(&o[q..], VALUE_LEVELS - 1, &mut level);
-            if all {
-                to = output::put(&o[bt..e], out, to);
-                deep = form::bytes::max(deep, level);
+            let is_passed_over = !all;
+            if is_passed_over {
                 bt = e;
                 j += 1;
-                k += 1;
                 continue;
             }
+            to = output::put(&o[bt..e], out, to);
+            deep = deep.max(level);
             bt = e;
             j += 1;
+            k += 1;
             continue;
         }
         if x == NAME_END {
@@ -156,15 +157,17 @@ pub fn merge(all: bool, c: &[u8], o: &[u8], out: &mut [u8], told: &mut usize) ->
         let q = bt + NAME_WIDTH;
         let e = q + values::walk::pass(&o[q..], VALUE_LEVELS - 1, &mut level);
         to = output::put(&o[bt..e], out, to);
-        deep = form::bytes::max(deep, level);
+        deep = deep.max(level);
         bt = e;
         j += 1;
         k += 1;
     }
     let head = [commands::CONTEXT, output::low(k), output::high(k)];
     output::fill(&head, out);
-    *told = deep + 1;
-    to
+    Totals {
+        size: to,
+        level: deep + 1,
+    }
 }
 
 // ---- remove_entry

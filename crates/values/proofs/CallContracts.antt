@@ -2,7 +2,7 @@
 -- Index: `value_refused`, `value_accepted`, `Holds` (the reader's answer); `whole_value` (for the laws of TwoArguments in crate `types`); `passed`, `Passed`, `not_held` (a yes and a no of the call).
 -- Assumes nothing.
 use Prim.Native.Nat.{ℕ}
-use mathlib.Core.Path.{◌≡◌, sym, ap, ◌∙◌}
+use mathlib.Core.Path.{◌≡◌, sym}
 use mathlib.Core.Option.{some}
 use mathlib.Core.List.{List}
 use native.Mathlib.Omega.{arith}
@@ -12,9 +12,6 @@ use Rattle.form.specs.Limits.{type_levels, value_levels, value_refusals}
 use Rattle.form.specs.Outcome.{done, refused}
 use Rattle.form.specs.Form.{Bytes, level_v}
 use Rattle.form.specs.Read.{read_v, read_value, check_value, read_type}
-use Rattle.form.specs.Answers.{checked}
-use Rattle.form.specs.declared.Checked.{Checked}
-use Rattle.form.specs.declared.Checked.TheVariants as checked_is
 use Rattle.form.proofs.Accepted.{whole_got, level_told, level_refused}
 use Rattle.form.proofs.Nodes.{value_read}
 use Rattle.form.proofs.Values.{read_up_v}
@@ -30,9 +27,9 @@ use Rattle.types.specs.Calls.{is_yes}
 use Rattle.values.specs.Calls.{is_conformant_by, is_conformant, Accepted}
 
 -- ---- what a reader's answer says
-pub value_refused : (s : List ℕ) (c : Checked) (n : ℕ) → c ≡ checked_is.Refused n → checked c ≡ check_value s → read_value s ≡ refused n
+pub value_refused : (s : List ℕ) (n : ℕ) → refused n ≡ check_value s → read_value s ≡ refused n
 unfolding check_value
-value_refused s c n p q = level_refused level_v (read_value s) n (sym q ∙ ap checked p)
+value_refused s n e = level_refused level_v (read_value s) n (sym e)
 
 -- the value, which also stands there with the levels of a type
 pub record Holds (s : List ℕ) : Type 0 where
@@ -40,10 +37,10 @@ pub record Holds (s : List ℕ) : Type 0 where
   pub whole : read_value s ≡ done v
   pub stands : value_at type_levels s ≡ some v
 
-pub value_accepted : (s : List ℕ) → Bytes s → (c : Checked) (n : ℕ) → c ≡ checked_is.Accepted n → checked c ≡ check_value s → Holds s
+pub value_accepted : (s : List ℕ) → Bytes s → (n : ℕ) → done n ≡ check_value s → Holds s
 unfolding check_value value_at
-value_accepted s bs c n p q =
-    level_told level_v (read_value s) n (sym q ∙ ap checked p) (λ v r d.
+value_accepted s bs n e =
+    level_told level_v (read_value s) n (sym e) (λ v r d.
     record {
       v = v;
       whole = r;

@@ -14,7 +14,7 @@ use borrow.Author.Tests.{le-leb, leb-true}
 use Rattle.form.specs.Trees.{Val, v_range, v_list, v_context, v_irrelevant, Vals, no_items, item}
 use Rattle.form.specs.Form.{num_at}
 use Rattle.form.specs.Layout.{kind_of}
-use Rattle.form.specs.Faults.{Shape}
+use Rattle.form.specs.declared.walk.Fault.TheVariants.{Shape}
 use Rattle.form.specs.Read.{Got, got, bad, front, and_then, or_else, operand, read_run, counted, read_range, step_value, step_v, read_v, read_vals, read_entries}
 use Rattle.form.proofs.Runs.{step}
 use Rattle.form.proofs.ValueLaws.{v_step}

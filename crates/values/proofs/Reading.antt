@@ -20,6 +20,7 @@ use Rattle.form.specs.Limits.{name_width}
 use Rattle.form.specs.Form.{num_at, level_v, Bytes, enc_v, WfV}
 use Rattle.form.specs.Layout.{ValueKind, k_null, k_boolean, k_number, k_string, k_temporal, k_range, k_list, k_context, k_definition, k_built_in, k_type, k_irrelevant, k_decimal, of_value, kind_of}
 use Rattle.form.specs.Layout.{operands, operands_v, width_of, is_leaf_command, leaf_type_command}
+use Rattle.std.specs.declared.option.Option.TheVariants.{Some}
 use Rattle.form.specs.Walks.{walk_of, size_in, Short}
 use Rattle.form.specs.Walks as walks
 use Rattle.form.specs.Read.{got, and_then, read_run, read_named, read_t, read_v, read_vals, read_entries, read_params, ascending, any_order}
@@ -331,8 +332,8 @@ unfolding value_at size_at_v
 skip_is l s = walk_size level_v size_at_v (λ v. refl) refl (read_v l) (value_told l) s (read_v l s) refl
 
 -- the short way past a leaf of data
-pub pass_short : (l : ℕ) (s : List ℕ) (n : ℕ) → Short is_short_leaf (read_v l s) n (length s - 0) → (n ≡ 0 → ⊥) → walks.Told (walk_of level_v (read_v l s)) (length s) n 1
-pass_short l s n h z = told_ended (short_end level_v is_short_leaf leaf_level (read_v l s) n (length s - 0) h z) (omega arith) (omega (arith, h.room)) (omega arith) refl refl
+pub pass_short : (l : ℕ) (s : List ℕ) (n : ℕ) → Short is_short_leaf (read_v l s) (Some n) (length s - 0) → walks.Told (walk_of level_v (read_v l s)) (length s) n 1
+pass_short l s n h = told_ended (short_end level_v is_short_leaf leaf_level (read_v l s) n (length s - 0) h) h.room.0 (omega (arith, h.room)) h.room.0 refl refl
 
 pub size_got : (r : Option Val) (v : Val) → r ≡ some v → size_at_v r ≡ size_val v
 unfolding size_at_v

@@ -16,6 +16,7 @@ use Rattle.form.specs.Trees.{Ty, leaf, decode, built, list, range, context, simp
 use Rattle.form.specs.Form.{num_at}
 use Rattle.form.specs.Read.{read_v}
 use Rattle.form.specs.Layout.{is_leaf_command, leaf_type_command}
+use Rattle.std.specs.declared.option.Option.TheVariants.{None, Some}
 use Rattle.form.specs.Walks.{Short}
 use Rattle.form.proofs.Options.{none_some}
 use Rattle.form.proofs.CommandKinds.{leaf_low, leaf_type_in, plain_type_in, no_leaf_high}
@@ -28,7 +29,7 @@ use Rattle.order.proofs.Size.{size_val_positive}
 use Rattle.order.proofs.Bools.{and_true, and_false}
 use Rattle.tables.proofs.Related.{related_inner}
 use Rattle.types.specs.At.{type_at, fields_at}
-use Rattle.types.specs.Conform.{judge, add_sizes, Met}
+use Rattle.types.specs.Conform.{judge, add_sizes, Met, No}
 use Rattle.types.proofs.Reading as types
 use Rattle.types.proofs.Reading.{cmd, cmd_is, is_ctx, is_fun}
 use Rattle.types.proofs.TypeConformance.{cmd_in}
@@ -76,43 +77,47 @@ module _ (test : Val → Ty → Bool) (l m : ℕ) (v t : List ℕ) (u : ℕ) whe
   no_type z = never (λ x y e f. omega (arith, types.some_byte m t y f))
 
 -- ---- the returns of `leaf`
-module _ (l : ℕ) (s : List ℕ) (n room : ℕ) (h : Short is_short_leaf (read_v l s) n room) where
-  passed_leaf : (n ≡ 0 → ⊥) → Passed size_val is_short_leaf (value_at l s) n
+module _ (l : ℕ) (s : List ℕ) (room : ℕ) where
+  passed_leaf : (n : ℕ) → Short is_short_leaf (read_v l s) (Some n) room → Passed size_val is_short_leaf (value_at l s) n
   unfolding value_at
-  passed_leaf z = passed size_val is_short_leaf (read_v l s) (λ x m r. (value_told l s x m r).sized) n room h z
+  passed_leaf n h = passed size_val is_short_leaf (read_v l s) (λ x m r. (value_told l s x m r).sized) room n h
 
-  no_leaf : n ≡ 0 → (x : Val) → value_at l s ≡ some x → is_short_leaf x ≡ false
+  no_leaf : Short is_short_leaf (read_v l s) None room → (x : Val) → value_at l s ≡ some x → is_short_leaf x ≡ false
   unfolding value_at
-  no_leaf z x e = not_passed size_val is_short_leaf (read_v l s) (λ y m r. (value_told l s y m r).sized) n room h size_val_positive z x e
+  no_leaf h x e = not_passed size_val is_short_leaf (read_v l s) (λ y m r. (value_told l s y m r).sized) room h x e
 
 -- a test that is three
 three : (a b c : Bool) → a ≡ true → b ≡ true → c ≡ true → a && (b && c) ≡ true
 three a b c p q r = rw (p, q, r)
 
 module _ (l m : ℕ) (v : List ℕ) (at : ℕ) (t : List ℕ) (bt : ℕ) where
-  pub leaf_no_type : length t ≡ bt → (u : ℕ) → Met (held_by leaf_conforms (value_at l (drop at v)) (type_at m (drop bt t))) 0 u
-  leaf_no_type e u = no_type leaf_conforms l m (drop at v) (drop bt t) u (simp length-drop (omega arith))
+  no_pair : ((x : Val) (y : Ty) → value_at l (drop at v) ≡ some x → type_at m (drop bt t) ≡ some y → leaf_conforms x y ≡ false)
+      → held_by leaf_conforms (value_at l (drop at v)) (type_at m (drop bt t)) ≡ No
+  no_pair f = no_when size_val size leaf_conforms (value_at l (drop at v)) (type_at m (drop bt t)) f
+
+  pub leaf_no_type : length t ≡ bt → held_by leaf_conforms (value_at l (drop at v)) (type_at m (drop bt t)) ≡ No
+  leaf_no_type e = no_pair (λ x y p f. absurd (omega (arith, types.some_byte m (drop bt t) y f, length-drop bt t)))
 
   cmd_there : (y : Ty) → type_at m (drop bt t) ≡ some y → cmd y ≡ get_or t bt 0
   cmd_there y f = cmd_is m (drop bt t) y f ∙ first_at t bt
 
-  pub leaf_below : get_or t bt 0 < 32 → (u : ℕ) → Met (held_by leaf_conforms (value_at l (drop at v)) (type_at m (drop bt t))) 0 u
-  leaf_below h u = never leaf_conforms l m (drop at v) (drop bt t) u (λ x y e f. let c = cmd_in y in omega (arith, cmd_there y f))
+  pub leaf_below : get_or t bt 0 < 32 → held_by leaf_conforms (value_at l (drop at v)) (type_at m (drop bt t)) ≡ No
+  leaf_below h = no_pair (λ x y e f. absurd (let c = cmd_in y in omega (arith, cmd_there y f)))
 
-  pub leaf_above : 41 < get_or t bt 0 → (u : ℕ) → Met (held_by leaf_conforms (value_at l (drop at v)) (type_at m (drop bt t))) 0 u
-  leaf_above h u = fails leaf_conforms l m (drop at v) (drop bt t) u (λ x y e f. go (simple y) x y refl (cmd_there y f))
+  pub leaf_above : 41 < get_or t bt 0 → held_by leaf_conforms (value_at l (drop at v)) (type_at m (drop bt t)) ≡ No
+  leaf_above h = no_pair (λ x y e f. go (simple y) x y refl (cmd_there y f))
     where
       go : (q : Bool) (x : Val) (y : Ty) → simple y ≡ q → cmd y ≡ get_or t bt 0 → leaf_conforms x y ≡ false
       go true x y s c = absurd (let k = simple_cmd y s in omega arith)
       go false x y s c = rw s (and_false (is_short_leaf x))
 
-  module _ (n room : ℕ) (h : Short is_short_leaf (read_v l (drop at v)) n room) where
-    pub leaf_none : n ≡ 0 → (u : ℕ) → Met (held_by leaf_conforms (value_at l (drop at v)) (type_at m (drop bt t))) 0 u
-    leaf_none z u = fails leaf_conforms l m (drop at v) (drop bt t) u (λ x y e f. ap (λ q. q && (simple y && conforms fixed x y)) (no_leaf l (drop at v) n room h z x e))
+  module _ (room : ℕ) where
+    pub leaf_none : Short is_short_leaf (read_v l (drop at v)) None room → held_by leaf_conforms (value_at l (drop at v)) (type_at m (drop bt t)) ≡ No
+    leaf_none h = no_pair (λ x y e f. ap (λ q. q && (simple y && conforms fixed x y)) (no_leaf l (drop at v) room h x e))
 
-    module _ (z : n ≡ 0 → ⊥) where
+    module _ (n : ℕ) (h : Short is_short_leaf (read_v l (drop at v)) (Some n) room) where
       P : Passed size_val is_short_leaf (value_at l (drop at v)) n
-      P = passed_leaf l (drop at v) n room h z
+      P = passed_leaf l (drop at v) room n h
 
       leaf_kind : kind P.x ≡ kind_at (get_or v at 0)
       leaf_kind = kind_is l (drop at v) P.x P.read ∙ ap kind_at (first_at v at)
@@ -122,9 +127,9 @@ module _ (l m : ℕ) (v : List ℕ) (at : ℕ) (t : List ℕ) (bt : ℕ) where
       leafy = leaf_low (get_or v at 0) (let f = first_at v at in omega (arith, small_is l (drop at v) P.x P.read P.leafy))
 
       -- neither null nor of this type
-      pub leaf_to_none : (get_or v at 0 ≡ 0 → ⊥) → (get_or t bt 0 ≡ 32 → ⊥) → (get_or t bt 0 ≡ leaf_type_command (get_or v at 0) → ⊥) → (u : ℕ)
-          → Met (held_by leaf_conforms (value_at l (drop at v)) (type_at m (drop bt t))) 0 u
-      leaf_to_none c a d u = fails leaf_conforms l m (drop at v) (drop bt t) u (λ x y e f.
+      pub leaf_to_none : (get_or v at 0 ≡ 0 → ⊥) → (get_or t bt 0 ≡ 32 → ⊥) → (get_or t bt 0 ≡ leaf_type_command (get_or v at 0) → ⊥)
+          → held_by leaf_conforms (value_at l (drop at v)) (type_at m (drop bt t)) ≡ No
+      leaf_to_none c a d = no_pair (λ x y e f.
           let k : kind x ≡ leaf_type_command (get_or v at 0) = kind_is l (drop at v) x e ∙ ap kind_at (first_at v at) ∙ kind_leaf (get_or v at 0) leafy in
           let g = cmd_there y f in
           ap (λ q. is_short_leaf x && (simple y && q)) (kinds_differ 0 x y (λ w. omega (arith, plain_type_in (get_or v at 0) leafy c)) (λ w. a (sym g ∙ w)) (λ w. d (sym g ∙ sym w ∙ k)))
@@ -140,23 +145,26 @@ module _ (l m : ℕ) (v : List ℕ) (at : ℕ) (t : List ℕ) (bt : ℕ) where
               let g = forward.read_simple m (drop bt t) ml (simp length-drop (omega arith)) (omega arith) (omega arith) in
               record { x = _; read = g; is = refl }
 
-          tests : conforms fixed P.x T.x ≡ true → Met (held_by leaf_conforms (value_at l (drop at v)) (type_at m (drop bt t))) n 1
-          tests k = met_yes (both size_val size leaf_conforms (value_at l (drop at v)) (type_at m (drop bt t)) P.x T.x P.read T.read
-              ∙ ap (λ q. judge q (size_val P.x) (size T.x)) (three (is_short_leaf P.x) (simple T.x) (conforms fixed P.x T.x) P.leafy
-              (simple_is T.x (omega (arith, cmd_there T.x T.read))) k)) P.is T.is
+          tests : conforms fixed P.x T.x ≡ true → Met (held_by leaf_conforms (value_at l (drop at v)) (type_at m (drop bt t))) n 1 × (0 < n)
+          tests k = (
+            met_yes (both size_val size leaf_conforms (value_at l (drop at v)) (type_at m (drop bt t)) P.x T.x P.read T.read
+                ∙ ap (λ q. judge q (size_val P.x) (size T.x)) (three (is_short_leaf P.x) (simple T.x) (conforms fixed P.x T.x) P.leafy
+                (simple_is T.x (omega (arith, cmd_there T.x T.read))) k)) P.is T.is,
+            omega (arith, h.room),
+          )
 
-          pub leaf-is-null : get_or v at 0 ≡ 0 → Met (held_by leaf_conforms (value_at l (drop at v)) (type_at m (drop bt t))) n 1
+          pub leaf-is-null : get_or v at 0 ≡ 0 → Met (held_by leaf_conforms (value_at l (drop at v)) (type_at m (drop bt t))) n 1 × (0 < n)
           unfolding kind_at leaf_type_command
           leaf-is-null c = tests (leaf_null (reading_ends 0) P.x T.x (short_data P.x P.leafy) (leaf_kind ∙ ap kind_at c))
 
-        pub leaf_to_any : get_or t bt 0 ≡ 32 → Met (held_by leaf_conforms (value_at l (drop at v)) (type_at m (drop bt t))) n 1
+        pub leaf_to_any : get_or t bt 0 ≡ 32 → Met (held_by leaf_conforms (value_at l (drop at v)) (type_at m (drop bt t))) n 1 × (0 < n)
         leaf_to_any d =
             let lo : 32 ≤ get_or t bt 0 = omega arith in
             let hi : get_or t bt 0 ≤ 41 = omega arith in
             let S = T lo hi in
             tests lo hi (to_any (reading_ends 0) P.x S.x (cmd_there S.x S.read ∙ d))
 
-        pub leaf_to_own : get_or t bt 0 ≡ leaf_type_command (get_or v at 0) → Met (held_by leaf_conforms (value_at l (drop at v)) (type_at m (drop bt t))) n 1
+        pub leaf_to_own : get_or t bt 0 ≡ leaf_type_command (get_or v at 0) → Met (held_by leaf_conforms (value_at l (drop at v)) (type_at m (drop bt t))) n 1 × (0 < n)
         leaf_to_own d =
             let b = leaf_type_in (get_or v at 0) leafy in
             let lo : 32 ≤ get_or t bt 0 = omega arith in
@@ -303,14 +311,14 @@ module _ (test : Val → Ty → Bool) (l m : ℕ) (v t : List ℕ) (u : ℕ) whe
   no_signature_there d w = never test l m v t u (λ x y f g. w (is_fun m t y g d).two)
 
   -- a null
-  pub no_null : (n room : ℕ) → Short is_short_leaf (read_v l v) n room → n ≡ 0 → get_or v 0 0 ≡ 0 → Met (held_by test (value_at l v) (type_at m t)) 0 u
-  no_null n room h z c = never test l m v t u (λ x y f g. true≢false (sym (leaf_is l v x f (omega arith)) ∙ no_leaf l v n room h z x f))
+  pub no_null : (room : ℕ) → Short is_short_leaf (read_v l v) None room → get_or v 0 0 ≡ 0 → Met (held_by test (value_at l v) (type_at m t)) 0 u
+  no_null room h c = never test l m v t u (λ x y f g. true≢false (sym (leaf_is l v x f (omega arith)) ∙ no_leaf l v room h x f))
 
-pub met_null : {O : Order} → Ends O → (l m : ℕ) (v t : List ℕ) (n room : ℕ) → Short is_short_leaf (read_v l v) n room → (n ≡ 0 → ⊥) → get_or v 0 0 ≡ 0 → (k : ℕ) → Sized size (type_at m) t k
+pub met_null : {O : Order} → Ends O → (l m : ℕ) (v t : List ℕ) (n room : ℕ) → Short is_short_leaf (read_v l v) (Some n) room → get_or v 0 0 ≡ 0 → (k : ℕ) → Sized size (type_at m) t k
     → Met (held O (value_at l v) (type_at m t)) n k
 unfolding kind_at leaf_type_command
-met_null {O} L l m v t n room h z c k T =
-    let P = passed_leaf l v n room h z in
+met_null {O} L l m v t n room h c k T =
+    let P = passed_leaf l v room n h in
     met_yes (both size_val size (conforms O) (value_at l v) (type_at m t) P.x T.x P.read T.read
     ∙ ap (λ q. judge q (size_val P.x) (size T.x)) (leaf_null L P.x T.x (short_data P.x P.leafy) (kind_is l v P.x P.read ∙ ap kind_at c))) P.is T.is
 

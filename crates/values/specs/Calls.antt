@@ -1,6 +1,6 @@
 -- The definitions of the calls: refusals in document 01's order, then the answer.
 -- Assumes nothing.
-use Rattle.std.specs.Prelude.{Bool, false, List, ℕ, ◌≡◌}
+use Rattle.std.specs.Prelude.{Bool, List, ℕ, ◌≡◌}
 use Rattle.form.specs.Outcome.{Outcome, done, ◌>>=◌}
 use Rattle.form.specs.Read.{read_type, read_value}
 use Rattle.order.specs.Order.{Order, fixed, strict_order}
@@ -29,13 +29,6 @@ abbrev pub table_is_conformant : List ℕ → List ℕ → List ℕ → Outcome 
 table_is_conformant table v t = do
   order ← load_table table
   is_conformant_by order v t
-
--- both are read, and the answer is no: what is left to say where the value does not conform
-unfoldable pub read_then_no : List ℕ → List ℕ → Outcome Bool
-read_then_no v t = do
-  w ← read_value v
-  u ← read_type t
-  done false
 
 -- both arguments of a call were accepted
 pub record Accepted (t v : List ℕ) : Type 0 where

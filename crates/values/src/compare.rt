@@ -1,9 +1,9 @@
 // Conformance of a value to a type as one walk over both. For the call here and for `retrieval` and `coercion`.
-ghost use Rattle.std.specs.Prelude.{◌≡◌, ◌+◌, ◌-◌, ◌<◌, ◌≤◌, ◌^◌, length, drop, get_or};
+ghost use Rattle.std.specs.Prelude.{◌≡◌, ◌+◌, ◌-◌, ◌<◌, ◌≤◌, ◌^◌, length, drop, get_or, MatchOption};
 ghost use Rattle.order.specs.Order.{order_of};
 ghost use Rattle.order.specs.Types.{cmp};
 ghost use Rattle.types.specs.At.{type_at, fields_at, sig_at, Ok};
-ghost use Rattle.types.specs.Conform.{types_by, add_sizes, Met};
+ghost use Rattle.types.specs.Conform.{types_by, add_sizes, Met, No};
 ghost use Rattle.types.specs.Calls.{is_yes};
 ghost use Rattle.values.specs.At.{value_at, items_at, entries_at, definition_at};
 ghost use Rattle.values.specs.Held.{held_by, held, leaf_conforms, held_items, held_entries, parameter_way, held_definition};
@@ -12,47 +12,36 @@ ghost use Rattle.values.specs.Calls.{is_conformant_by};
 use crate::walk;
 use form::commands;
 use form::limits::{MOST_BYTES, NAME_WIDTH, TYPE_LEVELS};
-use tables::readings;
+use tables::readings::Reading;
 
 // ---- conformance: a value and a type are read and compared at once. The answer is the size of the value, with that of the type left in `other`, where both are
 // read and the value conforms, and 0 where not. `left` counts the levels of the type; a value has one less.
 
-// The size of the value at `at` where it is a leaf of data but a decimal and conforms, by document 01's order, to a simple type at `bt`, 0 where not: a short way past most
+// The size of the value at `at` where it is a leaf of data but a decimal and conforms, by document 01's order, to a simple type at `bt`: a short way past most
 // pairs. What conforms so conforms under every reading.
-fn leaf(v: &[u8], at: usize, t: &[u8], bt: usize, left: usize) -> usize
+fn leaf(v: &[u8], at: usize, t: &[u8], bt: usize, left: usize) -> Option<usize>
     requires { (at ≤ length v.now) × (bt ≤ length t.now) × (0 < left) }
-    ensures { Met (held_by leaf_conforms (value_at (left - 1) (drop at v.now)) (type_at left (drop bt t.now))) result 1 }
+    ensures { MatchOption result (held_by leaf_conforms (value_at (left - 1) (drop at v.now)) (type_at left (drop bt t.now)) ≡ No)
+        (λ n. Met (held_by leaf_conforms (value_at (left - 1) (drop at v.now)) (type_at left (drop bt t.now))) n 1 × (0 < n)) }
 {
     if t.len() == bt {
-        return 0;
+        return None;
     }
-    let n = form::walk::leaf_size_at(v, at, left - 1);
-    if n == 0 {
-        return 0;
-    }
+    let n = form::walk::leaf_size_at(v, at, left - 1)?;
     let c = v[at];
     let d = t[bt];
-    if d == commands::leaf_type(c) {
-        return n;
+    if d == commands::leaf_type(c) || d == commands::ANY_TYPE {
+        return Some(n);
     }
-    if d == commands::ANY_TYPE {
-        return n;
+    if c != commands::NULL || d < commands::ANY_TYPE || commands::NULL_TYPE < d {
+        return None;
     }
-    if c != commands::NULL {
-        return 0;
-    }
-    if d < commands::ANY_TYPE {
-        return 0;
-    }
-    if commands::NULL_TYPE < d {
-        return 0;
-    }
-    n
+    Some(n)
 }
 
 // Whether the value at the front of `v` conforms to the type at the front of `t`. The commands that most records have stand here, so that the call is short.
 #[cycle(conform_entries_conform_items_conforms)]
-pub fn conforms(v: &[u8], t: &[u8], left: usize, other: &mut usize, reading: u64) -> usize
+pub fn conforms(v: &[u8], t: &[u8], left: usize, other: &mut usize, reading: Reading) -> usize
     ensures { Met (held (order_of reading) (value_at (left - 1) v.now) (type_at left t.now)) result other.new }
 {
     if v.len() < 3 {
@@ -117,7 +106,7 @@ pub fn conforms(v: &[u8], t: &[u8], left: usize, other: &mut usize, reading: u64
 }
 
 // Whether the value at the front of `v`, which is no range, list or context or is cut short, conforms to the type at the front of `t`.
-fn conform_other(v: &[u8], t: &[u8], left: usize, other: &mut usize, reading: u64) -> usize
+fn conform_other(v: &[u8], t: &[u8], left: usize, other: &mut usize, reading: Reading) -> usize
     requires { 3 ≤ length v.now → 9 ≤ get_or v.now 0 0 → 11 < get_or v.now 0 0 }
     ensures { Met (held (order_of reading) (value_at (left - 1) v.now) (type_at left t.now)) result other.new }
 {
@@ -138,10 +127,9 @@ fn conform_other(v: &[u8], t: &[u8], left: usize, other: &mut usize, reading: u6
     let c = v[0];
     match c {
         commands::NULL => {
-            let n = form::walk::leaf_size_at(v, 0, left - 1);
-            if n == 0 {
+            let Some(n) = form::walk::leaf_size_at(v, 0, left - 1) else {
                 return 0;
-            }
+            };
             let m = types::walk::skip(&t[0..], left);
             if m == 0 {
                 return 0;
@@ -152,7 +140,7 @@ fn conform_other(v: &[u8], t: &[u8], left: usize, other: &mut usize, reading: u6
         commands::BOOLEAN..=commands::YEARS_AND_MONTHS | commands::DECIMAL => {
             let e = commands::leaf_type(c);
             if d != e {
-                if readings::is_related(e, d, reading) {
+                if reading.is_related(e, d) {
                     *other = 1;
                     return walk::skip(&v[0..], left - 1);
                 }
@@ -176,14 +164,7 @@ fn conform_other(v: &[u8], t: &[u8], left: usize, other: &mut usize, reading: u6
             if k != t[1] {
                 return 0;
             }
-            conform_definition(
-                &v[4..],
-                &t[2..],
-                form::bytes::wide(k),
-                left - 1,
-                other,
-                reading,
-            )
+            conform_definition(&v[4..], &t[2..], usize::from(k), left - 1, other, reading)
         }
         _ => 0,
     }
@@ -197,7 +178,7 @@ fn conform_items(
     t: &[u8],
     left: usize,
     other: &mut usize,
-    reading: u64,
+    reading: Reading,
 ) -> usize
     requires { (length v.now + 3 < 2 ^ 64) × (length t.now + 1 < 2 ^ 64) × (0 < left) }
     ensures { Met (add_sizes 3 1 (held_items (order_of reading) (items_at (left - 1) n v.now) (type_at left t.now))) result other.new }
@@ -212,11 +193,8 @@ fn conform_items(
     }
     let mut at: usize = 0;
     let mut bt: usize = 0;
-    let mut i: usize = 0;
-    while i < n {
-        i += 1;
-        let k = leaf(v, at, t, 0, left);
-        if k != 0 {
+    for _ in 0..n {
+        if let Some(k) = leaf(v, at, t, 0, left) {
             at = at + k;
             bt = 1;
             continue;
@@ -241,7 +219,7 @@ fn conform_entries(
     m: usize,
     left: usize,
     other: &mut usize,
-    reading: u64,
+    reading: Reading,
 ) -> usize
     requires { (length v.now + 3 < 2 ^ 64) × (length t.now + 3 < 2 ^ 64) × (0 < left) }
     ensures { Met (add_sizes 3 3 (held_entries (order_of reading) (entries_at (left - 1) n 0 v.now) (fields_at left m 0 t.now))) result other.new }
@@ -258,10 +236,9 @@ fn conform_entries(
     }
     let mut at: usize = 0;
     let mut least: usize = 0;
-    let mut i: usize = 0;
     let mut bt: usize = 0;
     let mut j: usize = 0;
-    while i < n {
+    for _ in 0..n {
         if v.len() - at < NAME_WIDTH {
             return 0;
         }
@@ -280,7 +257,6 @@ fn conform_entries(
         }
         let p = at + NAME_WIDTH;
         least = name + 1;
-        i += 1;
         if name < next {
             let k = walk::skip(&v[p..], left - 1);
             if k == 0 {
@@ -291,8 +267,7 @@ fn conform_entries(
         }
         let q = bt + NAME_WIDTH;
         j += 1;
-        let k = leaf(v, p, t, q, left);
-        if k != 0 {
+        if let Some(k) = leaf(v, p, t, q, left) {
             at = p + k;
             bt = q + 1;
             continue;
@@ -312,10 +287,10 @@ fn conform_entries(
 }
 
 // The type of an own parameter at the front of `v` against that of the target's at the front of `t`: the own one to the target's; strict, the other way round.
-fn conform_parameter(v: &[u8], t: &[u8], left: usize, other: &mut usize, reading: u64) -> usize
+fn conform_parameter(v: &[u8], t: &[u8], left: usize, other: &mut usize, reading: Reading) -> usize
     ensures { Met (types_by (cmp (order_of reading) (parameter_way (order_of reading))) (type_at left v.now) (type_at left t.now)) result other.new }
 {
-    if readings::is_strict(reading) {
+    if reading.is_strict() {
         let y = types::compare::conforms(t, v, left, other, reading);
         if y == 0 {
             return 0;
@@ -335,15 +310,14 @@ fn conform_definition(
     count: usize,
     left: usize,
     other: &mut usize,
-    reading: u64,
+    reading: Reading,
 ) -> usize
     requires { (length v.now + 4 < 2 ^ 64) × (length t.now + 2 < 2 ^ 64) × Ok (definition_at (left - 1) count v.now) }
     ensures { Met (add_sizes 4 2 (held_definition (order_of reading) (definition_at (left - 1) count v.now) (sig_at left count t.now))) result other.new }
 {
     let mut at = types::walk::skip(v, left);
     let mut bt: usize = 0;
-    let mut i: usize = 0;
-    while i < count {
+    for _ in 0..count {
         let p = at + NAME_WIDTH;
         let x = conform_parameter(&v[p..], &t[bt..], left, other, reading);
         if x == 0 {
@@ -351,7 +325,6 @@ fn conform_definition(
         }
         at = p + x;
         bt = bt + *other;
-        i += 1;
     }
     let x = types::compare::conforms(&v[0..], &t[bt..], left, other, reading);
     if x == 0 {
@@ -362,7 +335,7 @@ fn conform_definition(
 }
 
 // Whether both are whole and the value conforms to the type: a call that asks this first needs the readers only where the answer is no.
-pub fn passes(v: &[u8], t: &[u8], reading: u64) -> bool
+pub fn passes(v: &[u8], t: &[u8], reading: Reading) -> bool
     ensures { result ≡ is_yes (is_conformant_by (order_of reading) v.now t.now) }
 {
     if MOST_BYTES < v.len() {

@@ -9,8 +9,7 @@ ghost use Rattle.values.specs.At.{value_at, size_at_v};
 pub fn pass(s: &[u8], left: usize, told: &mut usize) -> usize
     ensures { Told (walk_of level_v (read_v left s.now)) (length s.now) result told.new }
 {
-    let n = form::walk::leaf_size_at(s, 0, left);
-    if n != 0 {
+    if let Some(n) = form::walk::leaf_size_at(s, 0, left) {
         *told = 1;
         return n;
     }

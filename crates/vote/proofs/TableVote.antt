@@ -21,7 +21,7 @@ use Rattle.order.proofs.Ends.{laws_ends}
 use Rattle.order.proofs.Table.{table_laws, fixed_loads, join, meet, join_found, meet_found}
 use Rattle.order.proofs.Packed.{fixed_order}
 use Rattle.tables.specs.Calls.{load_table, check_table}
-use Rattle.tables.proofs.CallContracts.{outcome, is_outcome, checked_refused, loads_from, loads_is_done}
+use Rattle.tables.proofs.CallContracts.{tested, as_tests, checked_refused, loads_from, loads_is_done}
 use Rattle.types.specs.Calls as types
 use Rattle.bounds.specs.Calls.{combined}
 use Rattle.values.specs.Calls as values
@@ -46,23 +46,23 @@ module _ (table : List ℕ) where
     λ h. loads_is_done table true (record { is_table_lem = h.0; is_ordered_lem = h.1; has_joins_lem = h.2 }),
   )
 
-  -- refused with n where the outcome of the three tests is
-  by_tests : (n : ℕ) → (check_table table ≡ refused n) ↔ (outcome A B C true ≡ refused n)
-  by_tests n = (λ h. sym (is_outcome table true) ∙ h, λ h. is_outcome table true ∙ h)
+  -- refused with n where the three tests say so
+  by_tests : (n : ℕ) → (check_table table ≡ refused n) ↔ (tested A B C true ≡ refused n)
+  by_tests n = (λ h. sym (as_tests table true) ∙ h, λ h. as_tests table true ∙ h)
 
-  first_fails : (a b c : Bool) → (outcome a b c true ≡ refused 26) ↔ (a ≡ false)
+  first_fails : (a b c : Bool) → (tested a b c true ≡ refused 26) ↔ (a ≡ false)
   first_fails false b c = (λ h. refl, λ h. refl)
   first_fails true false c = (λ h. absurd (eqb-false 27 26 refl (refused_same h)), λ h. absurd (true≢false h))
   first_fails true true false = (λ h. absurd (eqb-false 28 26 refl (refused_same h)), λ h. absurd (true≢false h))
   first_fails true true true = (λ h. absurd (refused_done (sym h)), λ h. absurd (true≢false h))
 
-  second_fails : (a b c : Bool) → (outcome a b c true ≡ refused 27) ↔ ((a ≡ true) × (b ≡ false))
+  second_fails : (a b c : Bool) → (tested a b c true ≡ refused 27) ↔ ((a ≡ true) × (b ≡ false))
   second_fails false b c = (λ h. absurd (eqb-false 26 27 refl (refused_same h)), λ h. absurd (false≢true h.0))
   second_fails true false c = (λ h. (refl, refl), λ h. refl)
   second_fails true true false = (λ h. absurd (eqb-false 28 27 refl (refused_same h)), λ h. absurd (true≢false h.1))
   second_fails true true true = (λ h. absurd (refused_done (sym h)), λ h. absurd (true≢false h.1))
 
-  third_fails : (a b c : Bool) → (outcome a b c true ≡ refused 28) ↔ ((a ≡ true) × (b ≡ true) × (c ≡ false))
+  third_fails : (a b c : Bool) → (tested a b c true ≡ refused 28) ↔ ((a ≡ true) × (b ≡ true) × (c ≡ false))
   third_fails false b c = (λ h. absurd (eqb-false 26 28 refl (refused_same h)), λ h. absurd (false≢true h.0))
   third_fails true false c = (λ h. absurd (eqb-false 27 28 refl (refused_same h)), λ h. absurd (false≢true h.1))
   third_fails true true false = (λ h. (refl, refl, refl), λ h. refl)

@@ -1,25 +1,17 @@
--- `display::display` meets its contract: the type is refused first, then the table; of both accepted the text is written.
+-- `display::display` meets its contract: the type is refused first.
 -- Assumes nothing.
-use Rattle.types.proofs.CallContracts.{was_refused, was_accepted}
-use Rattle.display.proofs.DisplayCall.{display_first, display_second, display_accepted}
+use mathlib.Core.Path.{◌≡◌}
+use Rattle.std.proofs.Common.{rules, Err}
+use Rattle.display.proofs.DisplayCall.{display_refused, accepted}
 use Rattle.display.proofs.display.Goals as goal
 
-pub returns-then-not-check_table : goal.returns-then-not-check_table
-returns-then-not-check_table c =
-    let args = c.args in
-    let was-accepted1 = was_accepted args.t.now c.check_type.result _ c.in-Accepted.is c.check_type.ensures.result_value in
-    display_second args.t.now args.table.now args.out.now c.check_type.ensures.bytes was-accepted1.t was-accepted1.whole
-    c.check_table.result c.check_table.ensures c.if-not-check_table.true
+pub returns-in_err-check_type : goal.returns-in_err-check_type
+returns-in_err-check_type c =
+    let e : c.from_residual.result ≡ Err c.in_err-check_type.field-0.0 = search rules in
+    rw e (display_refused c.args.t.now c.args.table.now c.args.out.now _ c.in_err-check_type.ensures.result_value)
 
-pub write_text-requires : goal.write_text-requires
-write_text-requires c =
-    let args = c.args in
-    let was-accepted1 = was_accepted args.t.now c.check_type.result _ c.in-Accepted.is c.check_type.ensures.result_value in
-    display_accepted args.t.now args.table.now args.out.now c.check_type.ensures.bytes was-accepted1.t was-accepted1.whole
-    c.check_table.result c.check_table.ensures c.if-not-check_table.false
+pub display_by-requires-clause-accepted : goal.display_by-requires-clause-accepted
+display_by-requires-clause-accepted c = accepted c.args.t.now _ c.check_type.ensures.bytes c.in_ok-check_type.ensures.result_value
 
-pub returns-in-Refused : goal.returns-in-Refused
-returns-in-Refused c =
-    let args = c.args in
-    display_first args.t.now args.table.now args.out.now _
-    (was_refused args.t.now c.check_type.result _ c.in-Refused.is c.check_type.ensures.result_value)
+pub display_by-requires-2-clause-accepted : goal.display_by-requires-2-clause-accepted
+display_by-requires-2-clause-accepted c = accepted c.args.t.now _ c.check_type.ensures.bytes c.in_ok-check_type.ensures.result_value

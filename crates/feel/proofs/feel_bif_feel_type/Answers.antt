@@ -7,6 +7,6 @@ use Rattle.feel.proofs.feel_bif_feel_type.Goals as goal
 pub returns : goal.returns
 returns c =
     record {
-      answer = c.written_number.ensures ∙ ap numbered c.bif_feel_type.ensures.answer;
+      answer = c.plain_number.ensures ∙ ap numbered c.bif_feel_type.ensures.answer;
       output = c.bif_feel_type.ensures.output;
     }

@@ -5,4 +5,4 @@ use Rattle.feel.specs.Numbers.{numbered}
 use Rattle.feel.proofs.feel_check_value.Goals as goal
 
 pub returns : goal.returns
-returns c = c.check_number.ensures ∙ ap numbered c.check_value.ensures.result_value
+returns c = c.plain_number.ensures ∙ ap numbered c.check_value.ensures.result_value

@@ -7,6 +7,6 @@ use Rattle.feel.proofs.feel_context_apply_entries.Goals as goal
 pub returns : goal.returns
 returns c =
     record {
-      answer = c.written_number.ensures ∙ ap numbered c.apply_entries.ensures.answer;
+      answer = c.plain_number.ensures ∙ ap numbered c.apply_entries.ensures.answer;
       output = c.apply_entries.ensures.output;
     }

@@ -7,10 +7,10 @@ use Rattle.feel.specs.Numbers.{parted}
 use Rattle.feel.proofs.PartPlaces.{halves_first}
 use Rattle.feel.proofs.feel_context_get_first.Goals as goal
 
-pub found_number-requires : goal.found_number-requires
-found_number-requires c =
+pub part_number-requires : goal.part_number-requires
+part_number-requires c =
     halves_first c.args.c.now (found c.first_place.result)
     (bytes_of c.args.c.now c.type_inv.c) c.first_place.ensures
 
 pub returns : goal.returns
-returns c = c.found_number.ensures ∙ ap parted c.first_place.ensures
+returns c = c.part_number.ensures ∙ ap parted c.first_place.ensures

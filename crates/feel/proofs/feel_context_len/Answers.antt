@@ -5,4 +5,4 @@ use Rattle.feel.specs.Numbers.{numbered}
 use Rattle.feel.proofs.feel_context_len.Goals as goal
 
 pub returns : goal.returns
-returns c = c.count_number.ensures ∙ ap numbered c.len.ensures
+returns c = c.plain_number.ensures ∙ ap numbered c.len.ensures

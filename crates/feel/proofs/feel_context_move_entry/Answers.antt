@@ -7,6 +7,6 @@ use Rattle.feel.proofs.feel_context_move_entry.Goals as goal
 pub returns : goal.returns
 returns c =
     record {
-      answer = c.written_number.ensures ∙ ap numbered c.move_entry.ensures.answer;
+      answer = c.plain_number.ensures ∙ ap numbered c.move_entry.ensures.answer;
       output = c.move_entry.ensures.output;
     }

@@ -7,6 +7,6 @@ use Rattle.feel.proofs.feel_context_overwrite.Goals as goal
 pub returns : goal.returns
 returns c =
     record {
-      answer = c.written_number.ensures ∙ ap numbered c.overwrite.ensures.answer;
+      answer = c.plain_number.ensures ∙ ap numbered c.overwrite.ensures.answer;
       output = c.overwrite.ensures.output;
     }

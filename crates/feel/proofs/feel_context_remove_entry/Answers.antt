@@ -7,6 +7,6 @@ use Rattle.feel.proofs.feel_context_remove_entry.Goals as goal
 pub returns : goal.returns
 returns c =
     record {
-      answer = c.written_number.ensures ∙ ap numbered c.remove_entry.ensures.answer;
+      answer = c.plain_number.ensures ∙ ap numbered c.remove_entry.ensures.answer;
       output = c.remove_entry.ensures.output;
     }

@@ -7,11 +7,11 @@ use Rattle.feel.specs.Numbers.{parted}
 use Rattle.feel.proofs.PartPlaces.{halves_deep}
 use Rattle.feel.proofs.feel_context_search_deep.Goals as goal
 
-pub found_number-requires : goal.found_number-requires
-found_number-requires c =
+pub part_number-requires : goal.part_number-requires
+part_number-requires c =
     let args = c.args in
     halves_deep args.c.now args.path.now (found c.search_place.result)
     (bytes_of args.c.now c.type_inv.c) c.search_place.ensures
 
 pub returns : goal.returns
-returns c = c.found_number.ensures ∙ ap parted c.search_place.ensures
+returns c = c.part_number.ensures ∙ ap parted c.search_place.ensures

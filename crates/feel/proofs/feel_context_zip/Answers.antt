@@ -7,6 +7,6 @@ use Rattle.feel.proofs.feel_context_zip.Goals as goal
 pub returns : goal.returns
 returns c =
     record {
-      answer = c.written_number.ensures ∙ ap numbered c.zip.ensures.answer;
+      answer = c.plain_number.ensures ∙ ap numbered c.zip.ensures.answer;
       output = c.zip.ensures.output;
     }

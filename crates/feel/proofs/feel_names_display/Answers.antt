@@ -7,6 +7,6 @@ use Rattle.feel.proofs.feel_names_display.Goals as goal
 pub returns : goal.returns
 returns c =
     record {
-      answer = c.written_number.ensures ∙ ap numbered c.display.ensures.answer;
+      answer = c.plain_number.ensures ∙ ap numbered c.display.ensures.answer;
       output = c.display.ensures.output;
     }

@@ -7,6 +7,6 @@ use Rattle.feel.proofs.feel_names_name_new.Goals as goal
 pub returns : goal.returns
 returns c =
     record {
-      answer = c.written_number.ensures ∙ ap numbered c.name_new.ensures.answer;
+      answer = c.plain_number.ensures ∙ ap numbered c.name_new.ensures.answer;
       output = c.name_new.ensures.output;
     }

@@ -7,6 +7,6 @@ use Rattle.feel.proofs.feel_names_trim.Goals as goal
 pub returns : goal.returns
 returns c =
     record {
-      answer = c.written_number.ensures ∙ ap numbered c.trim_into.ensures.answer;
+      answer = c.plain_number.ensures ∙ ap numbered c.trim_into.ensures.answer;
       output = c.trim_into.ensures.output;
     }

@@ -6,4 +6,4 @@ use Rattle.feel.proofs.feel_strict_type_common_supertype.Goals as goal
 
 pub returns : goal.returns
 returns c =
-    record { answer = c.written_number.ensures ∙ ap numbered c.strict_common_supertype.ensures.answer; output = c.strict_common_supertype.ensures.output }
+    record { answer = c.plain_number.ensures ∙ ap numbered c.strict_common_supertype.ensures.answer; output = c.strict_common_supertype.ensures.output }

@@ -6,4 +6,4 @@ use Rattle.feel.proofs.feel_strict_value_least_type.Goals as goal
 
 pub returns : goal.returns
 returns c =
-    record { answer = c.written_number.ensures ∙ ap numbered c.strict_least_type.ensures.answer; output = c.strict_least_type.ensures.output }
+    record { answer = c.plain_number.ensures ∙ ap numbered c.strict_least_type.ensures.answer; output = c.strict_least_type.ensures.output }

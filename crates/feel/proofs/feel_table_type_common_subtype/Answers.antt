@@ -6,4 +6,4 @@ use Rattle.feel.proofs.feel_table_type_common_subtype.Goals as goal
 
 pub returns : goal.returns
 returns c =
-    record { answer = c.written_number.ensures ∙ ap numbered c.table_common_subtype.ensures.answer; output = c.table_common_subtype.ensures.output }
+    record { answer = c.plain_number.ensures ∙ ap numbered c.table_common_subtype.ensures.answer; output = c.table_common_subtype.ensures.output }

@@ -6,4 +6,4 @@ use Rattle.feel.proofs.feel_type_common_subtype.Goals as goal
 
 pub returns : goal.returns
 returns c =
-    record { answer = c.written_number.ensures ∙ ap numbered c.common_subtype.ensures.answer; output = c.common_subtype.ensures.output }
+    record { answer = c.plain_number.ensures ∙ ap numbered c.common_subtype.ensures.answer; output = c.common_subtype.ensures.output }

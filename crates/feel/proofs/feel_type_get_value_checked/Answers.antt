@@ -7,4 +7,4 @@ use Rattle.feel.proofs.feel_type_get_value_checked.Goals as goal
 pub returns : goal.returns
 returns c =
     let x1 = c.get_value_checked.ensures in
-    record { answer = c.written_number.ensures ∙ ap numbered x1.answer; output = x1.output }
+    record { answer = c.plain_number.ensures ∙ ap numbered x1.answer; output = x1.output }

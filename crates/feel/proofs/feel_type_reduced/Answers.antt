@@ -7,6 +7,6 @@ use Rattle.feel.proofs.feel_type_reduced.Goals as goal
 pub returns : goal.returns
 returns c =
     record {
-      answer = c.written_number.ensures ∙ ap numbered c.reduced.ensures.answer;
+      answer = c.plain_number.ensures ∙ ap numbered c.reduced.ensures.answer;
       output = c.reduced.ensures.output;
     }

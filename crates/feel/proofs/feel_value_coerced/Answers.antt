@@ -7,6 +7,6 @@ use Rattle.feel.proofs.feel_value_coerced.Goals as goal
 pub returns : goal.returns
 returns c =
     record {
-      answer = c.written_number.ensures ∙ ap numbered c.coerced.ensures.answer;
+      answer = c.plain_number.ensures ∙ ap numbered c.coerced.ensures.answer;
       output = c.coerced.ensures.output;
     }

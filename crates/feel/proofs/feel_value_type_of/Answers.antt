@@ -6,4 +6,4 @@ use Rattle.feel.proofs.feel_value_type_of.Goals as goal
 
 pub returns : goal.returns
 returns c =
-    record { answer = c.written_number.ensures ∙ ap numbered c.type_of.ensures.answer; output = c.type_of.ensures.output }
+    record { answer = c.plain_number.ensures ∙ ap numbered c.type_of.ensures.answer; output = c.type_of.ensures.output }

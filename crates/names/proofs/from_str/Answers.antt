@@ -1,16 +1,14 @@
--- `names::from_str` meets its contract: the candidate is the only name that the text can be, so one comparison decides.
+-- `names::from_str` meets its contract: the place of the text among the ten names is the code of its type.
 -- Assumes nothing.
-use Rattle.names.proofs.BuiltInNames.{no_candidate, candidate_hit, candidate_missed}
+use Rattle.std.proofs.Common.{List, ℕ, rules, tests, Bor}
+use Rattle.std.specs.Str.{bytes_eq}
+use Rattle.std.proofs.lemmas.Iterator.{YieldsList-from_slice}
+use Rattle.std.proofs.lemmas.Iterator.Search.{position_from_yields_List}
+use Rattle.names.proofs.BuiltInNames.{named}
 use Rattle.names.proofs.from_str.Goals as goal
-
-pub returns-then-k-eq-SIMPLES : goal.returns-then-k-eq-SIMPLES
-returns-then-k-eq-SIMPLES c = no_candidate _ _ c.candidate-k.ensures c.if-k-eq-SIMPLES.true
-
-pub returns-then-has_name : goal.returns-then-has_name
-returns-then-has_name c =
-    candidate_hit _ _ c.candidate-k.ensures c.if-k-eq-SIMPLES.false _
-    c.has_name.ensures c.if-has_name.true _ c.command.ensures
 
 pub returns : goal.returns
 returns c =
-    candidate_missed _ _ c.candidate-k.ensures c.if-k-eq-SIMPLES.false _ c.has_name.ensures c.if-has_name.false
+    named c.args.s.now _ c.simple_names.ensures _
+    (position_from_yields_List (λ (name : Bor (List ℕ)). bytes_eq c.args.s.now name.now) _ _ c.position-place.result c.position-place.ensures.ran
+    (YieldsList-from_slice _ c.iter.ensures.rest) (λ x b q k. search (rules, tests))) _ (search rules)

@@ -1,21 +1,18 @@
 -- `names::name_by` meets its contract: the name is not longer than its parts, so it stands whole in the spare place and is handed on.
 -- Assumes nothing.
-use mathlib.Core.Path.{sym}
-use lib.Seq.{length-take-le}
-use Rattle.names.proofs.NameNew.{name_fits, name_handed}
+use mathlib.Core.Path.{◌≡◌}
+use Rattle.std.proofs.Common.{rules, Err, None, Some}
+use Rattle.form.specs.declared.refusals.Refusal.TheVariants as refusal_is
+use Rattle.names.proofs.CallContracts.{name_refused, name_handed}
 use Rattle.names.proofs.name_by.Goals as goal
 
-pub slice_bounds-give-end : goal.slice_bounds-give-end
-slice_bounds-give-end c =
-    let pre = c.requires in
-    name_fits _ _ _ _ pre.ok c.write_name-n.ensures.writes c.write_name-n.ensures.upper_bound pre.parts_in_bounds
-
-pub slice_bounds-give-end-2 : goal.slice_bounds-give-end-2
-slice_bounds-give-end-2 c =
-    let pre = c.requires in
-    sym (length-take-le _ _ (name_fits _ _ _ _ pre.ok c.write_name-n.ensures.writes c.write_name-n.ensures.upper_bound pre.parts_in_bounds))
+pub returns-in_err-n : goal.returns-in_err-n
+returns-in_err-n c =
+    let n : c.write_name.result ≡ None = search rules in
+    let e : c.from_residual.result ≡ Err refusal_is.Texts = search rules in
+    rw e (name_refused c.args.parts.now c.args.out.now _ _ _ c.write_name.ensures.writes n)
 
 pub returns : goal.returns
 returns c =
-    let pre = c.requires in
-    name_handed _ _ _ _ pre.ok c.write_name-n.ensures.writes c.write_name-n.ensures.upper_bound pre.parts_in_bounds _ _ _ c.give.ensures
+    let n : c.write_name.result ≡ Some c.in_ok-n.n = search rules in
+    name_handed c.args.parts.now c.args.out.now _ _ _ c.write_name.ensures.writes _ n c.write_name.ensures.bound c.requires.room _ _ c.give.ensures

@@ -4,7 +4,4 @@ use Rattle.names.proofs.NameNew.{Naming}
 use Rattle.names.proofs.write_name.Given as goal
 
 abbrev pub invariant-loop-index : goal.invariant-loop-index
-invariant-loop-index l = Naming l.parts l.initial.out l.count l.out l.prev l.to l.at l.index
-
-abbrev pub decreases-loop-index : goal.decreases-loop-index
-decreases-loop-index l = l.count - l.index
+invariant-loop-index l = Naming l.parts l.initial.out l.out l.prev l.to l.rest (l.index-end - l.index) l.index

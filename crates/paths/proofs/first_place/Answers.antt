@@ -1,43 +1,27 @@
 -- `paths::first_place` meets its contract: the refusals first; the first value stands behind the context's three bytes and its name.
 -- Assumes nothing.
-use mathlib.Core.Path.{sym, ◌∙◌}
-use Rattle.paths.proofs.CallContracts.{is_refused, opened, part_refused, first_none, first_inside, first_done}
 use native.Mathlib.Omega.{arith}
+use mathlib.Core.Path.{ap, ◌∙◌}
+use Rattle.form.proofs.Whole.{bytes_of}
+use Rattle.paths.specs.Places.{found}
+use Rattle.paths.proofs.CallContracts.{handed_on, part_refused, Counted, counted, count_refused, first_none, first_inside, first_done}
+use Rattle.paths.proofs.first_place.Goals.{In_ok-len}
 use Rattle.paths.proofs.first_place.Goals as goal
 
-pub returns-then-n-ne0 : goal.returns-then-n-ne0
-returns-then-n-ne0 c =
-    part_refused _ _ _ (is_refused c.args.c.now 0 c.refusal-n.result c.refusal-n.ensures c.if-n-ne0.true)
+told : (c : In_ok-len) → Counted c.args.c.now c.in_ok-len.field-0
+told c = counted c.args.c.now c.in_ok-len.field-0 (bytes_of c.args.c.now c.type_inv.c) c.in_ok-len.ensures
 
-pub word_at-requires : goal.word_at-requires
-word_at-requires c =
-    omega
-    (arith, (opened c.args.c.now 0 c.refusal-n.result c.refusal-n.ensures c.if-n-ne0.false).ctx.three)
+pub returns-in_err-len : goal.returns-in_err-len
+returns-in_err-len c = ap found (handed_on _ _ c.from_residual.ensures.1) ∙ part_refused _ _ _ (count_refused _ _ c.in_err-len.ensures)
 
-pub returns-then-word_at-eq0 : goal.returns-then-word_at-eq0
-returns-then-word_at-eq0 c =
-    first_none c.args.c.now
-    (opened c.args.c.now 0 c.refusal-n.result c.refusal-n.ensures c.if-n-ne0.false)
-    (sym c.word_at.ensures.0 ∙ c.if-word_at-eq0.true)
+pub returns-then-branch-eq0 : goal.returns-then-branch-eq0
+returns-then-branch-eq0 c = first_none _ (told (goal.at.returns-then-branch-eq0 c).In_ok-len) c.if-branch-eq0.true
 
 pub slice_bounds-skip-count : goal.slice_bounds-skip-count
-slice_bounds-skip-count c =
-    first_inside c.args.c.now
-    (opened c.args.c.now 0 c.refusal-n.result c.refusal-n.ensures c.if-n-ne0.false)
-    (λ e. c.if-word_at-eq0.false (c.word_at.ensures.0 ∙ e))
+slice_bounds-skip-count c = first_inside _ (told (goal.at.slice_bounds-skip-count c).In_ok-len) c.if-branch-eq0.false
 
 pub slice_bounds-skip-start : goal.slice_bounds-skip-start
-slice_bounds-skip-start c =
-    omega (
-      arith,
-      first_inside c.args.c.now
-          (opened c.args.c.now 0 c.refusal-n.result c.refusal-n.ensures c.if-n-ne0.false)
-          (λ e. c.if-word_at-eq0.false (c.word_at.ensures.0 ∙ e)),
-    )
+slice_bounds-skip-start c = omega (arith, first_inside _ (told (goal.at.slice_bounds-skip-start c).In_ok-len) c.if-branch-eq0.false)
 
 pub returns : goal.returns
-returns c =
-    let c-now = c.args.c.now in
-    first_done c-now (opened c-now 0 c.refusal-n.result c.refusal-n.ensures c.if-n-ne0.false)
-    (λ e. c.if-word_at-eq0.false (c.word_at.ensures.0 ∙ e))
-    c.skip.result c.skip.ensures
+returns c = first_done _ (told (goal.at.returns c).In_ok-len) c.if-branch-eq0.false _ c.skip.ensures

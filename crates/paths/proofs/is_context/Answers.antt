@@ -1,36 +1,28 @@
 -- `paths::is_context` meets its contract: the first byte of the value that was found says whether it is a context.
 -- Assumes nothing.
+use mathlib.Core.Path.{sym, ap, ◌∙◌}
+use Rattle.form.specs.Answers.{outcome}
 use Rattle.form.proofs.Whole.{bytes_of}
-use Rattle.paths.proofs.CallContracts.{entered, entered_none, entered_refused, entered_inside, context_yes, context_no}
+use Rattle.paths.specs.Laws.{holds_context}
+use Rattle.paths.specs.Calls.{get_entry_call}
+use Rattle.paths.proofs.CallContracts.{handed_on, extent_refused, asked_refused, context_asked, Entered, entered, entered_inside, context_none, context_is}
+use Rattle.paths.proofs.is_context.Goals.{In-Some}
 use Rattle.paths.proofs.is_context.Goals as goal
 
-pub bounds-c-place : goal.bounds-c-place
-bounds-c-place c =
-    let s = c.args.c.now in
-    entered_inside
-    (entered s c.args.name c.entry_place.result c.entry_place.ensures c.in-Part.place c.in-Part.size c.in-Part.is)
-    (bytes_of s c.type_inv.c)
+there : (c : In-Some) → Entered c.args.c.now c.args.name c.in-Some.part.place
+there c = entered c.args.c.now c.args.name c.in-Some.part.place c.in-Some.part.size (rw c.in-Some.is at c.in_ok-part.ensures)
 
-pub returns-then-c-place-eq-CONTEXT : goal.returns-then-c-place-eq-CONTEXT
-returns-then-c-place-eq-CONTEXT c =
-    let s = c.args.c.now in
-    context_yes
-    (entered s c.args.name c.entry_place.result c.entry_place.ensures c.in-Part.place c.in-Part.size c.in-Part.is)
-    (bytes_of s c.type_inv.c) c.if-c-place-eq-CONTEXT.true
+pub returns-in_err-part : goal.returns-in_err-part
+returns-in_err-part c =
+    let args = c.args in
+    ap outcome (handed_on _ _ c.from_residual.ensures.1)
+    ∙ asked_refused (get_entry_call args.c.now args.name) holds_context _ (context_asked args.c.now args.name) _ (sym (extent_refused _ _ c.in_err-part.ensures))
 
-pub returns-else-c-place-eq-CONTEXT : goal.returns-else-c-place-eq-CONTEXT
-returns-else-c-place-eq-CONTEXT c =
-    let s = c.args.c.now in
-    context_no
-    (entered s c.args.name c.entry_place.result c.entry_place.ensures c.in-Part.place c.in-Part.size c.in-Part.is)
-    (bytes_of s c.type_inv.c) c.if-c-place-eq-CONTEXT.false
+pub bounds-c-part : goal.bounds-c-part
+bounds-c-part c = entered_inside (there (goal.at.bounds-c-part c).In-Some) (bytes_of _ c.type_inv.c)
+
+pub returns-in-Some : goal.returns-in-Some
+returns-in-Some c = context_is (there (goal.at.returns-in-Some c).In-Some) (bytes_of _ c.type_inv.c)
 
 pub returns-in-None : goal.returns-in-None
-returns-in-None c =
-    entered_none c.args.c.now c.args.name c.entry_place.result c.entry_place.ensures
-    c.in-None.is
-
-pub returns-in-Refused : goal.returns-in-Refused
-returns-in-Refused c =
-    entered_refused c.args.c.now c.args.name c.entry_place.result c.entry_place.ensures
-    c.in-Refused.n c.in-Refused.is
+returns-in-None c = context_none c.args.c.now c.args.name (rw c.in-None.is at c.in_ok-part.ensures)

@@ -1,65 +1,47 @@
 -- `paths::search_place` meets its contract: the refusals in their order; then what the walk along the path cuts is what the search finds.
 -- Assumes nothing.
 use borrow.Author.Rules.{rules}
-use native.Mathlib.Omega.{arith}
-use lib.ListN.{length}
-use Rattle.form.proofs.Values.{ValueTold}
+use mathlib.Core.Path.{sym, ap, ◌∙◌}
+use Rattle.form.proofs.Values.{ValueTold, value_told}
 use Rattle.form.proofs.Whole.{bytes_of}
-use Rattle.paths.proofs.CallContracts.{judged_refused, judged_told, refused_value, refused_names, refused_other, held_byte, is_refused, part_refused}
-use Rattle.paths.proofs.CallContracts.{Searched, searched, searched_new, searched_left, searched_part, searched_name, searched_room}
+use Rattle.paths.specs.Places.{found}
+use Rattle.paths.proofs.CallContracts.{handed_on, value_refused, first_refused, names_refused, other_refused, held_byte, part_refused}
+use Rattle.paths.proofs.CallContracts.{Searched, searched, searched_none, searched_part, searched_name, searched_room}
+use Rattle.paths.proofs.search_place.Goals.{In_ok-way, Else-c-ne-CONTEXT}
 use Rattle.paths.proofs.search_place.Goals as goal
-use Rattle.paths.proofs.search_place.Goals.{Else-status-ne0, Else-c-ne-CONTEXT}
 
-told : (c : Else-status-ne0) → ValueTold c.args.c.now c.read-way.result.level
-told c = judged_told c.args.c.now _ _ c.read-way.ensures.level_after (bytes_of c.args.c.now c.type_inv.c) c.if-status-ne0.false
+told : (c : In_ok-way) → ValueTold c.args.c.now c.in_ok-way.way.level
+told c = value_told c.args.c.now (bytes_of c.args.c.now c.type_inv.c) c.in_ok-way.way.level (sym c.in_ok-way.ensures.level)
 
-cut-known : (c : Else-c-ne-CONTEXT) → Searched c.args.c.now c.args.path.now c.read-way.result.cut
-cut-known c =
-    searched c.args.c.now c.args.path.now _ _
-    (judged_told c.args.c.now _ _ c.read-way.ensures.level_after (bytes_of c.args.c.now c.type_inv.c) c.if-status-ne0.false)
-    c.if-path-gt-MOST_NAMES.false c.if-c-ne-CONTEXT.false c.read-way.ensures.surveyed
+cut_known : (c : Else-c-ne-CONTEXT) → Searched c.args.c.now c.args.path.now c.in_ok-way.way.cut
+cut_known c =
+    let T = value_told c.args.c.now (bytes_of c.args.c.now c.type_inv.c) c.in_ok-way.way.level (sym c.in_ok-way.ensures.level) in
+    searched c.args.c.now c.args.path.now _ _ T c.if-is_long.false c.if-c-ne-CONTEXT.false c.in_ok-way.ensures.surveyed
 
-pub returns-then-status-ne0 : goal.returns-then-status-ne0
-returns-then-status-ne0 c =
-    let args = c.args in
-    let s = args.c.now in
-    let n = length args.path.now in
-    part_refused _ _ _ (is_refused s n _ (refused_value s n _ (judged_refused s _ _ c.read-way.ensures.level_after c.if-status-ne0.true)) c.if-status-ne0.true)
+pub returns-in_err-way : goal.returns-in_err-way
+returns-in_err-way c =
+    ap found (handed_on _ _ c.from_residual.ensures.1)
+    ∙ part_refused _ _ _ (first_refused _ _ _ (value_refused _ _ c.in_err-way.ensures.level))
 
-pub returns-then-path-gt-MOST_NAMES : goal.returns-then-path-gt-MOST_NAMES
-returns-then-path-gt-MOST_NAMES c =
-    let args = c.args in
-    let n = length args.path.now in
-    part_refused _ _ _
-    (is_refused args.c.now n 11 (refused_names args.c.now n (told (goal.at.returns-then-path-gt-MOST_NAMES c).Else-status-ne0).reads c.if-path-gt-MOST_NAMES.true) (λ e. omega arith))
+pub returns-then-is_long : goal.returns-then-is_long
+returns-then-is_long c =
+    part_refused _ _ _ (names_refused _ _ (told (goal.at.returns-then-is_long c).In_ok-way).reads c.if-is_long.true)
 
 pub bounds-c-0 : goal.bounds-c-0
-bounds-c-0 c = held_byte c.args.c.now 0 (told (goal.at.bounds-c-0 c).Else-status-ne0).reads
+bounds-c-0 c = held_byte _ 0 (told (goal.at.bounds-c-0 c).In_ok-way).reads
 
 pub returns-then-c-ne-CONTEXT : goal.returns-then-c-ne-CONTEXT
 returns-then-c-ne-CONTEXT c =
-    let args = c.args in
-    let n = length args.path.now in
-    part_refused _ _ _
-    (is_refused args.c.now n 12 (refused_other args.c.now n (told (goal.at.returns-then-c-ne-CONTEXT c).Else-status-ne0).reads c.if-path-gt-MOST_NAMES.false
-    c.if-c-ne-CONTEXT.true) (λ e. omega arith))
+    part_refused _ _ _ (other_refused _ _ (told (goal.at.returns-then-c-ne-CONTEXT c).In_ok-way).reads c.if-is_long.false c.if-c-ne-CONTEXT.true)
 
-pub returns-then-way-eq0 : goal.returns-then-way-eq0
-returns-then-way-eq0 c =
-    searched_new (cut-known (goal.at.returns-then-way-eq0 c).Else-c-ne-CONTEXT) c.if-way-eq0.true
-
-pub returns-then-way-path : goal.returns-then-way-path
-returns-then-way-path c =
-    searched_left (cut-known (goal.at.returns-then-way-path c).Else-c-ne-CONTEXT) c.if-way-eq0.false c.if-way-path.true
+pub returns-then-is_new : goal.returns-then-is_new
+returns-then-is_new c = searched_none (cut_known (goal.at.returns-then-is_new c).Else-c-ne-CONTEXT) c.then-is_new.either
 
 pub overflow_add-result : goal.overflow_add-result
-overflow_add-result c =
-    search (rules, searched_room (cut-known (goal.at.overflow_add-result c).Else-c-ne-CONTEXT))
+overflow_add-result c = search (rules, searched_room (cut_known (goal.at.overflow_add-result c).Else-c-ne-CONTEXT))
 
 pub overflow_sub-result : goal.overflow_sub-result
-overflow_sub-result c =
-    searched_name (cut-known (goal.at.overflow_sub-result c).Else-c-ne-CONTEXT) c.if-way-eq0.false
+overflow_sub-result c = searched_name (cut_known (goal.at.overflow_sub-result c).Else-c-ne-CONTEXT) c.if-is_new.false
 
 pub returns : goal.returns
-returns c =
-    searched_part (cut-known (goal.at.returns c).Else-c-ne-CONTEXT) c.if-way-eq0.false c.if-way-path.false
+returns c = searched_part (cut_known (goal.at.returns c).Else-c-ne-CONTEXT) c.if-is_new.false c.if-way-path.false

@@ -3,18 +3,14 @@
 use mathlib.Core.Path.{sym, ◌∙◌}
 use Rattle.form.specs.Read.{read_type}
 use Rattle.order.specs.Document.{is_instance_of}
-use Rattle.types.proofs.TwoArguments.{asked_yes, not_yes}
 use Rattle.types.specs.Calls.{instance_of, read_then_no}
+use Rattle.types.proofs.TwoArguments.{asked_yes, not_yes}
 use Rattle.types.proofs.instance_of.Goals as goal
 
 pub returns-then-is_instance : goal.returns-then-is_instance
-returns-then-is_instance c =
-    let args = c.args in
-    asked_yes (instance_of args.a.now args.b.now) (sym c.if-is_instance.true ∙ c.is_instance.ensures)
+returns-then-is_instance c = asked_yes (instance_of c.args.a.now c.args.b.now) (sym c.if-is_instance.true ∙ c.is_instance.ensures)
 
 pub returns : goal.returns
 unfolding instance_of read_then_no
 returns c =
-    let args = c.args in
-    c.refuse.ensures
-    ∙ not_yes is_instance_of (read_type args.a.now) (read_type args.b.now) (sym c.if-is_instance.false ∙ c.is_instance.ensures)
+    c.refuse.ensures ∙ not_yes is_instance_of (read_type c.args.a.now) (read_type c.args.b.now) (sym c.if-is_instance.false ∙ c.is_instance.ensures)

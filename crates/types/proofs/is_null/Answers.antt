@@ -1,33 +1,16 @@
--- `types::is_null` meets its contract: the reader's refusal first; the first byte of an accepted type says whether it is Null.
+-- `types::is_null` meets its contract: the reader's refusals, then the first byte of the type that was read.
 -- Assumes nothing.
-use native.Mathlib.Omega.{arith}
-use Rattle.types.proofs.CallContracts.{was_refused, was_accepted, byte_there, null_refused, null_yes, null_no}
+use Rattle.tables.proofs.CallContracts.{handed_on}
+use Rattle.types.specs.Calls.{null_type, is_null}
+use Rattle.types.proofs.CallContracts.{question_refused, byte_there, null_answered}
 use Rattle.types.proofs.is_null.Goals as goal
 
-pub returns-in-Refused : goal.returns-in-Refused
-returns-in-Refused c =
-    null_refused c.args.t.now c.in-Refused.n
-    (was_refused c.args.t.now c.check_type.result c.in-Refused.n c.in-Refused.is c.check_type.ensures.result_value)
+pub returns-in_err-check_type : goal.returns-in_err-check_type
+unfolding is_null
+returns-in_err-check_type c = handed_on _ _ _ c.from_residual.ensures.1 (question_refused c.args.t.now _ null_type c.in_err-check_type.ensures.result_value)
 
 pub bounds-t-0 : goal.bounds-t-0
-bounds-t-0 c =
-    omega (
-      arith,
-      byte_there c.args.t.now
-          (was_accepted c.args.t.now c.check_type.result c.in_default.field-0 c.in_default.is
-          c.check_type.ensures.result_value),
-    )
-
-pub returns-then-t-eq-NULL_TYPE : goal.returns-then-t-eq-NULL_TYPE
-returns-then-t-eq-NULL_TYPE c =
-    null_yes c.args.t.now
-    (was_accepted c.args.t.now c.check_type.result c.in_default.field-0
-    c.in_default.is c.check_type.ensures.result_value)
-    c.if-t-eq-NULL_TYPE.true
+bounds-t-0 c = byte_there c.args.t.now _ c.in_ok-check_type.ensures.result_value
 
 pub returns : goal.returns
-returns c =
-    null_no c.args.t.now
-    (was_accepted c.args.t.now c.check_type.result c.in_default.field-0
-    c.in_default.is c.check_type.ensures.result_value)
-    c.if-t-eq-NULL_TYPE.false
+returns c = null_answered c.args.t.now _ c.in_ok-check_type.ensures.result_value

@@ -1,33 +1,17 @@
--- `types::is_simple_built_in_type` meets its contract: the reader's refusal first; the first byte of an accepted type says whether it is a simple one.
+-- `types::is_simple_built_in_type` meets its contract: the reader's refusals, then the first byte of the type that was read.
 -- Assumes nothing.
-use native.Mathlib.Omega.{arith}
-use Rattle.types.proofs.CallContracts.{was_refused, was_accepted, byte_there, simple_refused, simple_yes, simple_no}
+use Rattle.tables.proofs.CallContracts.{handed_on}
+use Rattle.form.specs.Trees.{simple}
+use Rattle.types.specs.Calls.{is_simple_built_in_type}
+use Rattle.types.proofs.CallContracts.{question_refused, byte_there, simple_answered}
 use Rattle.types.proofs.is_simple_built_in_type.Goals as goal
 
-pub returns-in-Refused : goal.returns-in-Refused
-returns-in-Refused c =
-    simple_refused c.args.t.now c.in-Refused.n
-    (was_refused c.args.t.now c.check_type.result c.in-Refused.n c.in-Refused.is c.check_type.ensures.result_value)
+pub returns-in_err-check_type : goal.returns-in_err-check_type
+unfolding is_simple_built_in_type
+returns-in_err-check_type c = handed_on _ _ _ c.from_residual.ensures.1 (question_refused c.args.t.now _ simple c.in_err-check_type.ensures.result_value)
 
 pub bounds-t-0 : goal.bounds-t-0
-bounds-t-0 c =
-    omega (
-      arith,
-      byte_there c.args.t.now
-          (was_accepted c.args.t.now c.check_type.result c.in_default.field-0 c.in_default.is
-          c.check_type.ensures.result_value),
-    )
-
-pub returns-then-t-lt-LIST_TYPE : goal.returns-then-t-lt-LIST_TYPE
-returns-then-t-lt-LIST_TYPE c =
-    simple_yes c.args.t.now
-    (was_accepted c.args.t.now c.check_type.result c.in_default.field-0
-    c.in_default.is c.check_type.ensures.result_value)
-    c.if-t-lt-LIST_TYPE.true
+bounds-t-0 c = byte_there c.args.t.now _ c.in_ok-check_type.ensures.result_value
 
 pub returns : goal.returns
-returns c =
-    simple_no c.args.t.now
-    (was_accepted c.args.t.now c.check_type.result c.in_default.field-0
-    c.in_default.is c.check_type.ensures.result_value)
-    c.if-t-lt-LIST_TYPE.false
+returns c = simple_answered c.args.t.now _ c.in_ok-check_type.ensures.result_value

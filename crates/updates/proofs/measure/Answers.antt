@@ -4,9 +4,5 @@ use mathlib.Core.Path.{sym}
 use Rattle.updates.proofs.Splices.{length_spliced}
 use Rattle.updates.proofs.measure.Goals as goal
 
-pub returns : goal.returns
-returns c =
-    record {
-      size_value = sym (length_spliced _ _ _ _ c.requires.cuts);
-      level_value = c.max.ensures;
-    }
+pub returns-clause-size_value : goal.returns-clause-size_value
+returns-clause-size_value c = sym (length_spliced _ _ _ _ c.requires.cuts)

@@ -1,5 +1,6 @@
 -- `updates::splice` meets its contract: the bytes before the context, its front up to the name, what stands under the name, and the rest are written one behind the other.
 -- Assumes nothing.
+use borrow.Author.Rules.{rules}
 use mathlib.Core.Path.{◌≡◌, refl}
 use Rattle.updates.proofs.Splices.{base_inside, front_asks, end_fits, count_more, count_kept, spliced_out}
 use Rattle.updates.specs.Writing.{count_after}
@@ -21,18 +22,7 @@ slice_bounds-fill-end c =
 pub write_to_name-requires : goal.write_to_name-requires
 write_to_name-requires c =
     front_asks c.args.c.now c.args.path.now c.args.v.now c.args.cut c.requires.small c.requires.cuts _ _ (counted (goal.at.write_to_name-requires c).Joined-is_new)
-    c.name_number-name.ensures.1
-
-pub overflow_add-to : goal.overflow_add-to
-overflow_add-to c =
-    let pre = c.requires in
-    omega (arith, pre.cuts.end, pre.small.bytes_c)
-
-pub slice_bounds-put-count : goal.slice_bounds-put-count
-slice_bounds-put-count c = c.requires.cuts.end
-
-pub slice_bounds-put-start : goal.slice_bounds-put-start
-slice_bounds-put-start c = c.requires.cuts.end
+    (search rules)
 
 pub overflow_add-p-2 : goal.overflow_add-p-2
 overflow_add-p-2 c =
@@ -50,7 +40,7 @@ put-requires c =
 pub returns : goal.returns
 returns c =
     let e = spliced_out c.args.c.now c.args.path.now c.args.v.now c.args.out.now c.args.cut c.requires.cuts _ _
-    (counted (goal.at.returns c).Joined-is_new) c.name_number-name.ensures.0 _ _ _ _ _ _ _ _ _ _ _ c.fill.ensures c.min-q.ensures
+    (counted (goal.at.returns c).Joined-is_new) c.from-name.ensures _ _ _ _ _ _ _ _ _ _ _ c.fill.ensures c.min-q.ensures
     c.write_to_name.ensures.value c.write_to_name.ensures.out_after refl c.min-r.ensures c.write_nested-n.ensures.value
     c.write_nested-n.ensures.out_after refl c.put.ensures.value c.put.ensures.out_after in
     record { value = e.0; out_after = e.1 }

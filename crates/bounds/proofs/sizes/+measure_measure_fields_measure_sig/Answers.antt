@@ -154,7 +154,7 @@ measure-measure_sig-m-requires t c = (
   omega (arith, c.decreases, some_left _ c.args.s.now c.requires),
   within_ok
       (in_function (function_at _ c.args.s.now c.requires c.if-c-lt-CONTEXT_TYPE.false c.if-c-eq-CONTEXT_TYPE.false) c.if-n-eq0.false _
-      c.wide.ensures.0),
+      c.from.ensures),
 )
 
 pub measure-overflow_add-result-2 : goal.measure-overflow_add-result-2
@@ -164,7 +164,7 @@ measure-overflow_add-result-2 t c =
       c.well_formed,
       within_ends
           (in_function (function_at _ c.args.s.now c.requires c.if-c-lt-CONTEXT_TYPE.false c.if-c-eq-CONTEXT_TYPE.false) c.if-n-eq0.false _
-          c.wide.ensures.0)
+          c.from.ensures)
           _ _ c.measure_sig-m.ensures,
     )
 
@@ -175,7 +175,7 @@ measure-overflow_add-result-3 t c =
       c.well_formed,
       within_ends
           (in_function (function_at _ c.args.s.now c.requires c.if-c-lt-CONTEXT_TYPE.false c.if-c-eq-CONTEXT_TYPE.false) c.if-n-eq0.false _
-          c.wide.ensures.0)
+          c.from.ensures)
           _ _ c.measure_sig-m.ensures,
     )
 
@@ -183,94 +183,82 @@ pub measure-returns : goal.measure-returns
 measure-returns t c =
     within_done
     (in_function (function_at _ c.args.s.now c.requires c.if-c-lt-CONTEXT_TYPE.false c.if-c-eq-CONTEXT_TYPE.false) c.if-n-eq0.false _
-    c.wide.ensures.0)
+    c.from.ensures)
     _ _ c.measure_sig-m.ensures
 
-pub measure_fields-loop-i-init : goal.measure_fields-loop-i-init
-measure_fields-loop-i-init t c = entries_start _ _ _ c.requires
+pub measure_fields-loop-init : goal.measure_fields-loop-init
+measure_fields-loop-init t c = entries_start _ _ _ c.requires
 
 pub measure_fields-overflow_add-p : goal.measure_fields-overflow_add-p
-measure_fields-overflow_add-p t c = omega (arith, c.well_formed, entry_name c.loop-i.invariant c.loop-i-test.true)
+measure_fields-overflow_add-p t c = omega (arith, c.well_formed, entry_name c.loop.invariant c.loop-test.true)
 
 pub measure_fields-overflow_add-w : goal.measure_fields-overflow_add-w
 measure_fields-overflow_add-w t c =
-    omega (arith, c.well_formed, c.loop-i.invariant.low, entry_name c.loop-i.invariant c.loop-i-test.true)
+    omega (arith, c.well_formed, c.loop.invariant.low, entry_name c.loop.invariant c.loop-test.true)
 
 pub measure_fields-slice_bounds-measure-count : goal.measure_fields-slice_bounds-measure-count
-measure_fields-slice_bounds-measure-count t c = omega (arith, entry_name c.loop-i.invariant c.loop-i-test.true)
+measure_fields-slice_bounds-measure-count t c = omega (arith, entry_name c.loop.invariant c.loop-test.true)
 
 pub measure_fields-slice_bounds-measure-start : goal.measure_fields-slice_bounds-measure-start
-measure_fields-slice_bounds-measure-start t c = omega (arith, entry_name c.loop-i.invariant c.loop-i-test.true)
+measure_fields-slice_bounds-measure-start t c = omega (arith, entry_name c.loop.invariant c.loop-test.true)
 
 pub measure_fields-measure-m-requires : goal.measure_fields-measure-m-requires
-measure_fields-measure-m-requires t c = (omega (arith, c.decreases), entry_there c.loop-i.invariant c.loop-i-test.true)
+measure_fields-measure-m-requires t c = (omega (arith, c.decreases), entry_there c.loop.invariant c.loop-test.true)
 
 pub measure_fields-overflow_add-at : goal.measure_fields-overflow_add-at
 measure_fields-overflow_add-at t c =
-    omega (arith, c.well_formed, entry_ends c.loop-i.invariant c.loop-i-test.true _ _ c.measure-m.ensures)
+    omega (arith, c.well_formed, entry_ends c.loop.invariant c.loop-test.true _ _ c.measure-m.ensures)
 
 pub measure_fields-overflow_add-to : goal.measure_fields-overflow_add-to
 measure_fields-overflow_add-to t c =
-    omega (arith, c.well_formed, entry_ends c.loop-i.invariant c.loop-i-test.true _ _ c.measure-m.ensures)
+    omega (arith, c.well_formed, entry_ends c.loop.invariant c.loop-test.true _ _ c.measure-m.ensures)
 
-pub measure_fields-overflow_add-i : goal.measure_fields-overflow_add-i
-measure_fields-overflow_add-i t c = omega (arith, c.well_formed, c.loop-i-test.true)
-
-pub measure_fields-loop-i-smaller : goal.measure_fields-loop-i-smaller
-measure_fields-loop-i-smaller t c = omega (arith, c.loop-i-test.true)
-
-pub measure_fields-loop-i-preserved : goal.measure_fields-loop-i-preserved
-measure_fields-loop-i-preserved t c = entry_next c.loop-i.invariant c.loop-i-test.true _ _ c.measure-m.ensures
+pub measure_fields-loop-preserved : goal.measure_fields-loop-preserved
+measure_fields-loop-preserved t c = entry_next c.loop.invariant c.loop-test.true _ _ c.measure-m.ensures
 
 pub measure_fields-returns : goal.measure_fields-returns
-measure_fields-returns t c = entries_done c.loop-i.invariant c.loop-i-test.false
+measure_fields-returns t c = entries_done c.loop.invariant c.loop-test.false
 
-pub measure_sig-loop-i-init : goal.measure_sig-loop-i-init
-measure_sig-loop-i-init t c = parameters_start _ _ _ c.requires
+pub measure_sig-loop-init : goal.measure_sig-loop-init
+measure_sig-loop-init t c = parameters_start _ _ _ c.requires
 
 pub measure_sig-slice_bounds-measure-count : goal.measure_sig-slice_bounds-measure-count
-measure_sig-slice_bounds-measure-count t c = omega (arith, c.loop-i.invariant.within)
+measure_sig-slice_bounds-measure-count t c = omega (arith, c.loop.invariant.within)
 
 pub measure_sig-slice_bounds-measure-start : goal.measure_sig-slice_bounds-measure-start
-measure_sig-slice_bounds-measure-start t c = omega (arith, c.loop-i.invariant.within)
+measure_sig-slice_bounds-measure-start t c = omega (arith, c.loop.invariant.within)
 
 pub measure_sig-measure-m-requires : goal.measure_sig-measure-m-requires
-measure_sig-measure-m-requires t c = (omega (arith, c.decreases), parameter_there c.loop-i.invariant c.loop-i-test.true)
+measure_sig-measure-m-requires t c = (omega (arith, c.decreases), parameter_there c.loop.invariant c.loop-test.true)
 
 pub measure_sig-overflow_add-at : goal.measure_sig-overflow_add-at
 measure_sig-overflow_add-at t c =
-    omega (arith, c.well_formed, parameter_ends c.loop-i.invariant c.loop-i-test.true _ _ c.measure-m.ensures)
+    omega (arith, c.well_formed, parameter_ends c.loop.invariant c.loop-test.true _ _ c.measure-m.ensures)
 
 pub measure_sig-overflow_add-to : goal.measure_sig-overflow_add-to
 measure_sig-overflow_add-to t c =
     omega
-    (arith, c.well_formed, parameter_ends c.loop-i.invariant c.loop-i-test.true _ _ c.measure-m.ensures)
+    (arith, c.well_formed, parameter_ends c.loop.invariant c.loop-test.true _ _ c.measure-m.ensures)
 
-pub measure_sig-overflow_add-i : goal.measure_sig-overflow_add-i
-measure_sig-overflow_add-i t c = omega (arith, c.well_formed, c.loop-i-test.true)
-
-pub measure_sig-loop-i-smaller : goal.measure_sig-loop-i-smaller
-measure_sig-loop-i-smaller t c = omega (arith, c.loop-i-test.true)
-
-pub measure_sig-loop-i-preserved : goal.measure_sig-loop-i-preserved
-measure_sig-loop-i-preserved t c = parameter_next c.loop-i.invariant c.loop-i-test.true _ _ c.measure-m.ensures
+pub measure_sig-loop-preserved : goal.measure_sig-loop-preserved
+measure_sig-loop-preserved t c = parameter_next c.loop.invariant c.loop-test.true _ _ c.measure-m.ensures
 
 pub measure_sig-slice_bounds-measure-count-2 : goal.measure_sig-slice_bounds-measure-count-2
-measure_sig-slice_bounds-measure-count-2 t c = omega (arith, c.loop-i.invariant.within)
+measure_sig-slice_bounds-measure-count-2 t c = omega (arith, c.loop.invariant.within)
 
 pub measure_sig-slice_bounds-measure-start-2 : goal.measure_sig-slice_bounds-measure-start-2
-measure_sig-slice_bounds-measure-start-2 t c = omega (arith, c.loop-i.invariant.within)
+measure_sig-slice_bounds-measure-start-2 t c = omega (arith, c.loop.invariant.within)
 
 pub measure_sig-measure-m-requires-2 : goal.measure_sig-measure-m-requires-2
-measure_sig-measure-m-requires-2 t c = (omega (arith, c.decreases), result_there c.loop-i.invariant c.loop-i-test.false)
+measure_sig-measure-m-requires-2 t c = (omega (arith, c.decreases), result_there c.loop.invariant c.loop-test.false)
 
 pub measure_sig-overflow_add-result : goal.measure_sig-overflow_add-result
 measure_sig-overflow_add-result t c =
-    omega (arith, c.well_formed, result_fits c.loop-i.invariant c.loop-i-test.false _ _ c.measure-m-2.ensures)
+    omega (arith, c.well_formed, result_fits c.loop.invariant c.loop-test.false _ _ c.measure-m-2.ensures)
 
 pub measure_sig-overflow_add-result-2 : goal.measure_sig-overflow_add-result-2
 measure_sig-overflow_add-result-2 t c =
-    omega (arith, c.well_formed, result_fits c.loop-i.invariant c.loop-i-test.false _ _ c.measure-m-2.ensures)
+    omega (arith, c.well_formed, result_fits c.loop.invariant c.loop-test.false _ _ c.measure-m-2.ensures)
 
 pub measure_sig-returns : goal.measure_sig-returns
-measure_sig-returns t c = parameters_done c.loop-i.invariant c.loop-i-test.false _ _ c.measure-m-2.ensures
+measure_sig-returns t c = parameters_done c.loop.invariant c.loop-test.false _ _ c.measure-m-2.ensures

@@ -1,5 +1,5 @@
 -- The cycle `bounds::sizes::measure`, `measure_fields`, `measure_sig` meets its contracts; the measure is twice the level that is left, one more for the loops.
-use Prim.Native.Nat.{◌*◌, ◌+◌, ◌-◌}
+use Prim.Native.Nat.{◌*◌, ◌+◌}
 use Rattle.bounds.proofs.ReducedSizes.{EntriesInv, ParametersInv}
 use Rattle.bounds.proofs.sizes.+measure_measure_fields_measure_sig.Given as goal
 
@@ -12,14 +12,8 @@ decreases-measure_fields l = 2 * l.left + 1
 abbrev pub decreases-measure_sig : goal.decreases-measure_sig
 decreases-measure_sig l = 2 * l.left + 1
 
-abbrev pub invariant-measure_fields-loop-i : goal.invariant-measure_fields-loop-i
-invariant-measure_fields-loop-i l = EntriesInv l.left l.s l.n l.at l.to l.i
+abbrev pub invariant-measure_fields-loop : goal.invariant-measure_fields-loop
+invariant-measure_fields-loop l = EntriesInv l.left l.s l.n l.at l.to l.counter
 
-abbrev pub decreases-measure_fields-loop-i : goal.decreases-measure_fields-loop-i
-decreases-measure_fields-loop-i l = l.n - l.i
-
-abbrev pub invariant-measure_sig-loop-i : goal.invariant-measure_sig-loop-i
-invariant-measure_sig-loop-i l = ParametersInv l.left l.s l.count l.at l.to l.i
-
-abbrev pub decreases-measure_sig-loop-i : goal.decreases-measure_sig-loop-i
-decreases-measure_sig-loop-i l = l.count - l.i
+abbrev pub invariant-measure_sig-loop : goal.invariant-measure_sig-loop
+invariant-measure_sig-loop l = ParametersInv l.left l.s l.count l.at l.to l.counter

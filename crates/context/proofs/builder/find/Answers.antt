@@ -1,37 +1,26 @@
 -- `context::builder::find` meets its contract: the walk along the one name reads the context and says its entry.
 -- Assumes nothing.
 use native.Mathlib.Omega.{arith}
-use mathlib.Core.Path.{◌∙◌}
+use mathlib.Core.Path.{sym}
+use Rattle.form.proofs.Values.{ValueTold, value_told}
 use Rattle.form.proofs.Whole.{bytes_of}
-use Rattle.paths.proofs.CallContracts.{refused_value, judged_refused, judged_told}
-use Rattle.context.proofs.CallContracts.{told_byte, find_other, find_context, taken}
+use Rattle.paths.proofs.CallContracts.{handed_on, value_refused, first_refused, other_refused, opened, held_byte}
+use Rattle.context.proofs.CallContracts.{finds}
 use Rattle.context.proofs.builder.find.Goals as goal
+use Rattle.context.proofs.builder.find.Goals.{In_ok-way}
 
-pub returns-then-status-ne0 : goal.returns-then-status-ne0
-returns-then-status-ne0 c =
-    let c-now = c.args.c.now in record {
-      status_after = refused_value c-now 0 _ (judged_refused c-now _ _ c.read-way.ensures.level_after c.if-status-ne0.true);
-      fact = λ z. absurd (c.if-status-ne0.true z);
-    }
+told : (c : In_ok-way) → ValueTold c.args.c.now c.in_ok-way.way.level
+told c = value_told c.args.c.now (bytes_of c.args.c.now c.type_inv.c) c.in_ok-way.way.level (sym c.in_ok-way.ensures.level)
+
+pub returns-in_err-way : goal.returns-in_err-way
+returns-in_err-way c = rw (handed_on _ _ c.from_residual.ensures.1) (first_refused _ 0 _ (value_refused _ _ c.in_err-way.ensures.level))
 
 pub bounds-c-0 : goal.bounds-c-0
-bounds-c-0 c =
-    told_byte
-    (judged_told c.args.c.now _ _ c.read-way.ensures.level_after
-    (bytes_of c.args.c.now c.type_inv.c) c.if-status-ne0.false)
+bounds-c-0 c = held_byte _ 0 (told (goal.at.bounds-c-0 c).In_ok-way).reads
 
 pub returns-then-c-ne-CONTEXT : goal.returns-then-c-ne-CONTEXT
-returns-then-c-ne-CONTEXT c =
-    let c-now = c.args.c.now in record {
-      status_after = find_other c-now (judged_told c-now _ _ c.read-way.ensures.level_after (bytes_of c-now c.type_inv.c) c.if-status-ne0.false)
-          c.if-c-ne-CONTEXT.true;
-      fact = λ z. absurd (omega (arith, z));
-    }
+returns-then-c-ne-CONTEXT c = other_refused _ 0 (told (goal.at.returns-then-c-ne-CONTEXT c).In_ok-way).reads (omega arith) c.if-c-ne-CONTEXT.true
 
 pub returns : goal.returns
 returns c =
-    let c-now = c.args.c.now in
-    let judged-told1 = judged_told c-now _ _ c.read-way.ensures.level_after (bytes_of c-now c.type_inv.c) c.if-status-ne0.false in record {
-      status_after = c.if-status-ne0.false ∙ find_context c-now judged-told1 c.if-c-ne-CONTEXT.false;
-      fact = λ z. taken c-now c.args.name _ _ (c.read-way.ensures.surveyed judged-told1.accepted.short);
-    }
+    finds _ c.args.name c.in_ok-way.way.rest _ (opened _ 0 (told (goal.at.returns c).In_ok-way).reads (omega arith) c.if-c-ne-CONTEXT.false) c.in_ok-way.ensures.surveyed

@@ -1,66 +1,68 @@
 -- `context::builder::update` meets its contract: the walk along the path, the names, the value, the command, each refusal in its turn; then `place`.
 -- Assumes nothing.
+use mathlib.Core.Path.{sym}
+use Rattle.form.proofs.Values.{ValueTold, value_told}
 use Rattle.form.proofs.Whole.{bytes_of}
-use Rattle.values.proofs.CallContracts.{value_refused}
-use Rattle.paths.proofs.CallContracts.{judged_refused, judged_told}
-use Rattle.context.proofs.CallContracts.{told, told_byte, update_first, update_names, update_second, update_other, update_small, update_value, update_level, update-context, update-done}
+use Rattle.output.proofs.Outcomes.{built_refused}
+use Rattle.paths.proofs.CallContracts.{value_refused, held_byte}
+use Rattle.context.proofs.CallContracts.{refused_on, update_first, update_names, update_second, update_other, update_small, update_value, update_level, update_context, update_done}
 use Rattle.context.proofs.builder.update.Goals as goal
+use Rattle.context.proofs.builder.update.Goals.{In_ok-way, In_ok-level}
 
-pub returns-then-status-ne0 : goal.returns-then-status-ne0
-returns-then-status-ne0 c =
+first : (c : In_ok-way) → ValueTold c.args.c.now c.in_ok-way.way.level
+first c = value_told c.args.c.now (bytes_of c.args.c.now c.type_inv.c) c.in_ok-way.way.level (sym c.in_ok-way.ensures.level)
+
+second : (c : In_ok-level) → ValueTold c.args.v.now c.in_ok-level.level
+second c = value_told c.args.v.now c.in_ok-level.ensures.bytes c.in_ok-level.level (sym c.in_ok-level.ensures.result_value)
+
+pub returns-in_err-way : goal.returns-in_err-way
+returns-in_err-way c =
     let args = c.args in
-    update_first args.strict args.c.now args.path.now args.v.now args.out.now _
-    (judged_refused args.c.now _ _ c.read-way.ensures.level_after c.if-status-ne0.true)
+    refused_on _ _ _ _ c.from_residual.ensures.1
+    (update_first args.strict args.c.now args.path.now args.v.now args.out.now _ (value_refused _ _ c.in_err-way.ensures.level))
 
 pub returns-then-path-gt-MOST_NAMES : goal.returns-then-path-gt-MOST_NAMES
 returns-then-path-gt-MOST_NAMES c =
     let args = c.args in
-    update_names args.strict args.c.now args.path.now args.v.now args.out.now
-    (judged_told args.c.now _ _ c.read-way.ensures.level_after (bytes_of args.c.now c.type_inv.c) c.if-status-ne0.false)
-    c.if-path-gt-MOST_NAMES.true
+    built_refused _ _ _
+    (update_names args.strict args.c.now args.path.now args.v.now args.out.now (first (goal.at.returns-then-path-gt-MOST_NAMES c).In_ok-way) c.if-path-gt-MOST_NAMES.true)
+
+pub returns-in_err-level : goal.returns-in_err-level
+returns-in_err-level c =
+    let args = c.args in
+    refused_on _ _ _ _ c.from_residual-in_err-level.ensures.1
+    (update_second args.strict args.c.now args.path.now args.v.now args.out.now (first (goal.at.returns-in_err-level c).In_ok-way) c.if-path-gt-MOST_NAMES.false _
+    (value_refused _ _ c.in_err-level.ensures.result_value))
 
 pub bounds-c-0 : goal.bounds-c-0
-bounds-c-0 c =
-    told_byte
-    (judged_told c.args.c.now _ _ c.read-way.ensures.level_after (bytes_of c.args.c.now c.type_inv.c)
-    c.if-status-ne0.false)
+bounds-c-0 c = held_byte _ 0 (first (goal.at.bounds-c-0 c).In_ok-way).reads
 
 pub returns-then-c-ne-CONTEXT : goal.returns-then-c-ne-CONTEXT
 returns-then-c-ne-CONTEXT c =
     let args = c.args in
-    update_other args.strict args.c.now args.path.now args.v.now args.out.now
-    (judged_told args.c.now _ _ c.read-way.ensures.level_after (bytes_of args.c.now c.type_inv.c) c.if-status-ne0.false)
-    c.if-path-gt-MOST_NAMES.false
-    (told args.v.now c.check_value.ensures.bytes _ _ c.in-Accepted.is c.check_value.ensures.result_value) c.if-c-ne-CONTEXT.true
+    let here = goal.at.returns-then-c-ne-CONTEXT c in
+    built_refused _ _ _
+    (update_other args.strict args.c.now args.path.now args.v.now args.out.now (first here.In_ok-way) c.if-path-gt-MOST_NAMES.false (second here.In_ok-level)
+    c.if-c-ne-CONTEXT.true)
 
 pub place-requires : goal.place-requires
 place-requires c =
     let args = c.args in
-    let c-now = args.c.now in
-    let judged-told1 = judged_told c-now _ _ c.read-way.ensures.level_after (bytes_of c-now c.type_inv.c) c.if-status-ne0.false in
-    let if2-left = c.if-path-gt-MOST_NAMES.false in
-    let v-now = args.v.now in
-    let told1 = told v-now c.check_value.ensures.bytes _ _ c.in-Accepted.is c.check_value.ensures.result_value in record {
-      ok = update-context args.strict c-now args.path.now v-now args.out.now judged-told1 if2-left told1 c.if-c-ne-CONTEXT.false;
-      ok_2 = update_value args.strict c-now args.path.now v-now args.out.now judged-told1 if2-left told1;
-      small = update_small args.strict c-now args.path.now v-now args.out.now judged-told1 if2-left told1;
-      surveyed = c.read-way.ensures.surveyed judged-told1.accepted.short;
-      level_value = update_level args.strict c-now args.path.now v-now args.out.now judged-told1 if2-left told1;
+    let here = goal.at.place-requires c in
+    let h = c.if-path-gt-MOST_NAMES.false in
+    let A = first here.In_ok-way in
+    let B = second here.In_ok-level in
+    record {
+      ok = update_context args.strict args.c.now args.path.now args.v.now args.out.now A h B c.if-c-ne-CONTEXT.false;
+      ok_2 = update_value args.strict args.c.now args.path.now args.v.now args.out.now A h B;
+      small = update_small args.strict args.c.now args.path.now args.v.now args.out.now A h B;
+      surveyed = c.in_ok-way.ensures.surveyed;
+      level_value = update_level args.strict args.c.now args.path.now args.v.now args.out.now A h B;
     }
 
-pub returns-in-Refused : goal.returns-in-Refused
-returns-in-Refused c =
+pub returns : goal.returns
+returns c =
     let args = c.args in
-    update_second args.strict args.c.now args.path.now args.v.now args.out.now
-    (judged_told args.c.now _ _ c.read-way.ensures.level_after (bytes_of args.c.now c.type_inv.c) c.if-status-ne0.false)
-    c.if-path-gt-MOST_NAMES.false _ (value_refused args.v.now c.check_value.result _ c.in-Refused.is c.check_value.ensures.result_value)
-
-pub returns-else-c-ne-CONTEXT : goal.returns-else-c-ne-CONTEXT
-returns-else-c-ne-CONTEXT c =
-    let args = c.args in
-    update-done args.strict args.c.now args.path.now args.v.now args.out.now
-    (judged_told args.c.now _ _ c.read-way.ensures.level_after (bytes_of args.c.now c.type_inv.c)
-    c.if-status-ne0.false)
-    c.if-path-gt-MOST_NAMES.false
-    (told args.v.now c.check_value.ensures.bytes _ _ c.in-Accepted.is c.check_value.ensures.result_value) c.if-c-ne-CONTEXT.false _
-    _ c.place.ensures
+    let here = goal.at.returns c in
+    update_done args.strict args.c.now args.path.now args.v.now args.out.now (first here.In_ok-way) c.if-path-gt-MOST_NAMES.false (second here.In_ok-level)
+    c.if-c-ne-CONTEXT.false _ _ c.place.ensures

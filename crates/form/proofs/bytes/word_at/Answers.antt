@@ -8,4 +8,4 @@ use Rattle.form.proofs.bytes.word_at.Goals as goal
 pub returns : goal.returns
 returns c =
     let args = c.args in
-    (c.word.ensures.0 ∙ sym (word_is args.s.now args.at (omega arith)), c.word.ensures.1)
+    (c.from.ensures ∙ c.from_le_bytes.ensures ∙ sym (word_is args.s.now args.at (omega arith)), omega (arith, c.from.ensures, c.from_le_bytes.type_inv))

@@ -31,104 +31,104 @@ walk_entries-returns-then-count-eq0 t c =
     args.s.now args.count 3 _ _ _ c.if-count-eq0.true (omega arith)
     c.end.ensures.0 c.end.ensures.1
 
-pub walk_entries-loop-i-init : goal.walk_entries-loop-i-init
-walk_entries-loop-i-init t c =
+pub walk_entries-loop-init : goal.walk_entries-loop-init
+walk_entries-loop-init t c =
     let args = c.args in
     deep_start level_entries
     (λ (n : ℕ). read_named no_entries entry ascending (read_v args.left) n 0)
     args.s.now args.count
 
 pub walk_entries-overflow_sub-s : goal.walk_entries-overflow_sub-s
-walk_entries-overflow_sub-s t c = omega (arith, c.loop-i.invariant.run)
+walk_entries-overflow_sub-s t c = omega (arith, c.loop.invariant.run)
 
 pub walk_entries-returns-then-s-at-lt-NAME_WIDTH : goal.walk_entries-returns-then-s-at-lt-NAME_WIDTH
 walk_entries-returns-then-s-at-lt-NAME_WIDTH t c =
     names_none level_v level_entries no_entries entry ascending entries_law entries_flat
-    (read_v c.args.left) c.loop-i.least
-    c.loop-i.invariant.run 3 _ _ _ c.loop-i-test.true c.if-s-at-lt-NAME_WIDTH.true
-    c.fault.ensures.0 c.fault.ensures.1
+    (read_v c.args.left) c.loop.least
+    c.loop.invariant.run 3 _ _ _ c.loop-test.true c.if-s-at-lt-NAME_WIDTH.true
+    c.stop.ensures.0 c.stop.ensures.1
 
 pub walk_entries-returns-then-name-least : goal.walk_entries-returns-then-name-least
 walk_entries-returns-then-name-least t c =
     names_fall level_v level_entries no_entries entry ascending entries_law entries_flat
-    (read_v c.args.left) c.loop-i.least c.loop-i.invariant.run
+    (read_v c.args.left) c.loop.least c.loop.invariant.run
     c.name_at-name.result c.name_at-name.ensures.0 c.if-s-at-lt-NAME_WIDTH.false
-    c.loop-i-test.true 3 _ _ _ c.if-name-least.true
-    c.fault-then-name-least.ensures.0 c.fault-then-name-least.ensures.1
+    c.loop-test.true 3 _ _ _ c.if-name-least.true
+    c.stop-then-name-least.ensures.0 c.stop-then-name-least.ensures.1
 
 pub walk_entries-overflow_add-at : goal.walk_entries-overflow_add-at
 walk_entries-overflow_add-at t c =
     omega (
       arith,
-      c.leaf_size_at-n.ensures.room,
-      c.loop-i.invariant.run,
+      c.in-Some.ensures.room,
+      c.loop.invariant.run,
     )
 
-pub walk_entries-loop-i-preserved-then-n-ne0 : goal.walk_entries-loop-i-preserved-then-n-ne0
-walk_entries-loop-i-preserved-then-n-ne0 t c =
+pub walk_entries-loop-preserved-in-Some : goal.walk_entries-loop-preserved-in-Some
+walk_entries-loop-preserved-in-Some t c =
     let readV1 = read_v c.args.left in
-    deep_turn c.loop-i.invariant
+    deep_turn c.loop.invariant
     (λ (n : ℕ). read_named no_entries entry ascending readV1 n (ascending c.name_at-name.result))
-    _ c.loop-i.deep 1
+    _ c.loop.deep 1
     (names_short level_v level_entries no_entries entry ascending entries_law entries_flat readV1
-    c.loop-i.least c.loop-i.invariant.run c.name_at-name.result c.name_at-name.ensures.0
-    c.if-s-at-lt-NAME_WIDTH.false c.loop-i-test.true c.if-name-least.false
-    is_short_leaf leaf_level c.leaf_size_at-n.result (max c.loop-i.invariant.d 1)
-    c.leaf_size_at-n.ensures c.if-n-ne0.true refl)
+    c.loop.least c.loop.invariant.run c.name_at-name.result c.name_at-name.ensures.0
+    c.if-s-at-lt-NAME_WIDTH.false c.loop-test.true c.if-name-least.false
+    is_short_leaf leaf_level c.in-Some.n (max c.loop.invariant.d 1)
+    c.in-Some.ensures refl)
     (omega arith)
-    (let w = c.loop-i.invariant.deeper in
+    (let w = c.loop.invariant.deeper in
     omega arith)
 
 pub walk_entries-returns-then-size-eq0 : goal.walk_entries-returns-then-size-eq0
 walk_entries-returns-then-size-eq0 t c =
     names_fault level_v level_entries no_entries entry ascending entries_law entries_flat
-    (read_v c.args.left) c.loop-i.least
-    c.loop-i.invariant.run c.name_at-name.result c.name_at-name.ensures.0 c.if-s-at-lt-NAME_WIDTH.false
-    c.loop-i-test.true c.if-name-least.false c.walk_value-size.result _ 3 _
+    (read_v c.args.left) c.loop.least
+    c.loop.invariant.run c.name_at-name.result c.name_at-name.ensures.0 c.if-s-at-lt-NAME_WIDTH.false
+    c.loop-test.true c.if-name-least.false c.walk_value-size.result _ 3 _
     c.walk_value-size.ensures c.if-size-eq0.true
 
-pub walk_entries-overflow_add-at-in-loop-i : goal.walk_entries-overflow_add-at-in-loop-i
-walk_entries-overflow_add-at-in-loop-i t c =
+pub walk_entries-overflow_add-at-in-loop : goal.walk_entries-overflow_add-at-in-loop
+walk_entries-overflow_add-at-in-loop t c =
     let q = fits level_v (read_v c.args.left)
-    c.args.s.now (c.loop-i.at + name_width)
+    c.args.s.now (c.loop.at + name_width)
     c.walk_value-size.result _ c.walk_value-size.ensures c.if-size-eq0.false in
-    omega (arith, c.loop-i.invariant.run)
+    omega (arith, c.loop.invariant.run)
 
-pub walk_entries-loop-i-preserved : goal.walk_entries-loop-i-preserved
-walk_entries-loop-i-preserved t c =
+pub walk_entries-loop-preserved : goal.walk_entries-loop-preserved
+walk_entries-loop-preserved t c =
     let args = c.args in
-    deep_turn c.loop-i.invariant
+    deep_turn c.loop.invariant
     (λ (n : ℕ).
     read_named no_entries entry ascending (read_v args.left) n (ascending c.name_at-name.result))
     _ c.max-deep.result c.walk_value-size.new.told
     (names_walk level_v level_entries no_entries entry ascending entries_law entries_flat
-    (read_v args.left) c.loop-i.least c.loop-i.invariant.run c.name_at-name.result
-    c.name_at-name.ensures.0 c.if-s-at-lt-NAME_WIDTH.false c.loop-i-test.true
+    (read_v args.left) c.loop.least c.loop.invariant.run c.name_at-name.result
+    c.name_at-name.ensures.0 c.if-s-at-lt-NAME_WIDTH.false c.loop-test.true
     c.if-name-least.false c.walk_value-size.result c.walk_value-size.new.told
-    (max c.loop-i.invariant.d c.walk_value-size.new.told) c.walk_value-size.ensures
+    (max c.loop.invariant.d c.walk_value-size.new.told) c.walk_value-size.ensures
     c.if-size-eq0.false refl)
-    (level_some level_v value_level (read_v args.left) args.s.now (c.loop-i.at + name_width)
+    (level_some level_v value_level (read_v args.left) args.s.now (c.loop.at + name_width)
     c.walk_value-size.result c.walk_value-size.new.told c.walk_value-size.ensures
     c.if-size-eq0.false)
     c.max-deep.ensures
 
 pub walk_entries-overflow_add-at-2 : goal.walk_entries-overflow_add-at-2
-walk_entries-overflow_add-at-2 t c = omega (arith, c.loop-i.invariant.run)
+walk_entries-overflow_add-at-2 t c = omega (arith, c.loop.invariant.run)
 
 pub walk_entries-overflow_add-deep : goal.walk_entries-overflow_add-deep
 walk_entries-overflow_add-deep t c =
     let e =
-    deep_is c.loop-i.invariant (omega (arith, c.if-count-eq0.false)) c.loop-i-test.false in
-    omega (arith, c.loop-i.invariant.run)
+    deep_is c.loop.invariant (omega (arith, c.if-count-eq0.false)) c.loop-test.false in
+    omega (arith, c.loop.invariant.run)
 
 pub walk_entries-returns : goal.walk_entries-returns
 walk_entries-returns t c =
     names_end level_v level_entries no_entries entry ascending entries_law entries_flat
-    (read_v c.args.left) c.loop-i.least c.loop-i.invariant.run 3 _ _
-    c.loop-i-test.false (omega arith) c.end-2.ensures.0
+    (read_v c.args.left) c.loop.least c.loop.invariant.run 3 _ _
+    c.loop-test.false (omega arith) c.end-2.ensures.0
     (c.end-2.ensures.1 ∙ ap
     (λ (z : ℕ). z + 1)
-    (deep_is c.loop-i.invariant (omega (arith, c.if-count-eq0.false)) c.loop-i-test.false))
+    (deep_is c.loop.invariant (omega (arith, c.if-count-eq0.false)) c.loop-test.false))
 
 pub walk_items-returns-then-count-eq0 : goal.walk_items-returns-then-count-eq0
 walk_items-returns-then-count-eq0 t c =
@@ -137,57 +137,57 @@ walk_items-returns-then-count-eq0 t c =
     (run_empty no_items item (read_v args.left)) args.s.now args.count 3 _ _ _
     c.if-count-eq0.true (omega arith) c.end.ensures.0 c.end.ensures.1
 
-pub walk_items-loop-i-init : goal.walk_items-loop-i-init
-walk_items-loop-i-init t c =
+pub walk_items-loop-init : goal.walk_items-loop-init
+walk_items-loop-init t c =
     let args = c.args in
     deep_start level_vals (read_run no_items item (read_v args.left)) args.s.now args.count
 
-pub walk_items-leaf_size_at-n-requires : goal.walk_items-leaf_size_at-n-requires
-walk_items-leaf_size_at-n-requires t c = omega (arith, c.loop-i.invariant.run)
+pub walk_items-leaf_size_at-requires : goal.walk_items-leaf_size_at-requires
+walk_items-leaf_size_at-requires t c = omega (arith, c.loop.invariant.run)
 
 pub walk_items-overflow_add-at : goal.walk_items-overflow_add-at
-walk_items-overflow_add-at t c = omega (arith, c.leaf_size_at-n.ensures.room, c.loop-i.invariant.run)
+walk_items-overflow_add-at t c = omega (arith, c.in-Some.ensures.room, c.loop.invariant.run)
 
-pub walk_items-loop-i-preserved-then-n-ne0 : goal.walk_items-loop-i-preserved-then-n-ne0
-walk_items-loop-i-preserved-then-n-ne0 t c =
+pub walk_items-loop-preserved-in-Some : goal.walk_items-loop-preserved-in-Some
+walk_items-loop-preserved-in-Some t c =
     let readV1 = read_v c.args.left in
-    deep_turn c.loop-i.invariant (read_run no_items item readV1) _ c.loop-i.deep 1
-    (items_short level_v level_vals no_items item vals_law vals_flat readV1 c.loop-i.invariant.run is_short_leaf
-    leaf_level c.leaf_size_at-n.result (max c.loop-i.invariant.d 1)
-    c.loop-i-test.true c.leaf_size_at-n.ensures c.if-n-ne0.true refl)
+    deep_turn c.loop.invariant (read_run no_items item readV1) _ c.loop.deep 1
+    (items_short level_v level_vals no_items item vals_law vals_flat readV1 c.loop.invariant.run is_short_leaf
+    leaf_level c.in-Some.n (max c.loop.invariant.d 1)
+    c.loop-test.true c.in-Some.ensures refl)
     (omega arith)
-    (let w = c.loop-i.invariant.deeper in
+    (let w = c.loop.invariant.deeper in
     omega arith)
 
 pub walk_items-slice_bounds-walk_value-count : goal.walk_items-slice_bounds-walk_value-count
-walk_items-slice_bounds-walk_value-count t c = omega (arith, c.loop-i.invariant.run)
+walk_items-slice_bounds-walk_value-count t c = omega (arith, c.loop.invariant.run)
 
 pub walk_items-slice_bounds-walk_value-start : goal.walk_items-slice_bounds-walk_value-start
-walk_items-slice_bounds-walk_value-start t c = omega (arith, c.loop-i.invariant.run)
+walk_items-slice_bounds-walk_value-start t c = omega (arith, c.loop.invariant.run)
 
 pub walk_items-returns-then-size-eq0 : goal.walk_items-returns-then-size-eq0
 walk_items-returns-then-size-eq0 t c =
     items_fault level_v level_vals no_items item vals_law vals_flat
-    (read_v c.args.left) c.loop-i.invariant.run
-    c.walk_value-size.result _ 3 _ c.loop-i-test.true c.walk_value-size.ensures
+    (read_v c.args.left) c.loop.invariant.run
+    c.walk_value-size.result _ 3 _ c.loop-test.true c.walk_value-size.ensures
     c.if-size-eq0.true
 
-pub walk_items-overflow_add-at-in-loop-i : goal.walk_items-overflow_add-at-in-loop-i
-walk_items-overflow_add-at-in-loop-i t c =
+pub walk_items-overflow_add-at-in-loop : goal.walk_items-overflow_add-at-in-loop
+walk_items-overflow_add-at-in-loop t c =
     let q = fits level_v (read_v c.args.left)
-    c.args.s.now c.loop-i.at c.walk_value-size.result _
+    c.args.s.now c.loop.at c.walk_value-size.result _
     c.walk_value-size.ensures c.if-size-eq0.false in
-    omega (arith, c.loop-i.invariant.run)
+    omega (arith, c.loop.invariant.run)
 
-pub walk_items-loop-i-preserved : goal.walk_items-loop-i-preserved
-walk_items-loop-i-preserved t c =
+pub walk_items-loop-preserved : goal.walk_items-loop-preserved
+walk_items-loop-preserved t c =
     let args = c.args in
-    let loop = c.loop-i in
+    let loop = c.loop in
     deep_turn loop.invariant (read_run no_items item (read_v args.left)) _ c.max-deep.result
     c.walk_value-size.new.told
     (items_walk level_v level_vals no_items item vals_law vals_flat (read_v args.left) loop.invariant.run
     c.walk_value-size.result c.walk_value-size.new.told
-    (max loop.invariant.d c.walk_value-size.new.told) c.loop-i-test.true
+    (max loop.invariant.d c.walk_value-size.new.told) c.loop-test.true
     c.walk_value-size.ensures c.if-size-eq0.false refl)
     (level_some level_v value_level (read_v args.left) args.s.now loop.at
     c.walk_value-size.result c.walk_value-size.new.told c.walk_value-size.ensures
@@ -195,22 +195,22 @@ walk_items-loop-i-preserved t c =
     c.max-deep.ensures
 
 pub walk_items-overflow_add-at-2 : goal.walk_items-overflow_add-at-2
-walk_items-overflow_add-at-2 t c = omega (arith, c.loop-i.invariant.run)
+walk_items-overflow_add-at-2 t c = omega (arith, c.loop.invariant.run)
 
 pub walk_items-overflow_add-deep : goal.walk_items-overflow_add-deep
 walk_items-overflow_add-deep t c =
     let e =
-    deep_is c.loop-i.invariant (omega (arith, c.if-count-eq0.false)) c.loop-i-test.false in
-    omega (arith, c.loop-i.invariant.run)
+    deep_is c.loop.invariant (omega (arith, c.if-count-eq0.false)) c.loop-test.false in
+    omega (arith, c.loop.invariant.run)
 
 pub walk_items-returns : goal.walk_items-returns
 walk_items-returns t c =
     items_end level_v level_vals no_items item vals_law vals_flat
-    (read_v c.args.left) c.loop-i.invariant.run 3 _ _
-    c.loop-i-test.false (omega arith) c.end-2.ensures.0
+    (read_v c.args.left) c.loop.invariant.run 3 _ _
+    c.loop-test.false (omega arith) c.end-2.ensures.0
     (c.end-2.ensures.1 ∙ ap
     (λ (z : ℕ). z + 1)
-    (deep_is c.loop-i.invariant (omega (arith, c.if-count-eq0.false)) c.loop-i-test.false))
+    (deep_is c.loop.invariant (omega (arith, c.if-count-eq0.false)) c.loop-test.false))
 
 pub walk_value-returns-then-s-lt3 : goal.walk_value-returns-then-s-lt3
 walk_value-returns-then-s-lt3 t c =
@@ -223,7 +223,7 @@ pub walk_value-returns-then-left-eq0 : goal.walk_value-returns-then-left-eq0
 walk_value-returns-then-left-eq0 t c =
     let args = c.args in
     told_stop Level (v_level args.left args.s.now (omega arith) c.if-left-eq0.true)
-    c.fault.ensures.0 c.fault.ensures.1
+    c.stop.ensures.0 c.stop.ensures.1
 
 pub walk_value-returns-then-s-gt3 : goal.walk_value-returns-then-s-gt3
 walk_value-returns-then-s-gt3 t c =
@@ -236,7 +236,7 @@ walk_value-returns-then-s-gt3 t c =
     c.args.left
     c.args.s.now
     (omega arith) (omega arith) w.1 w.0 c.if-s-gt3.true)
-    c.fault-then-s-gt3.ensures.0 c.fault-then-s-gt3.ensures.1
+    c.stop-then-s-gt3.ensures.0 c.stop-then-s-gt3.ensures.1
 
 pub walk_value-returns-then-s-gt3-2 : goal.walk_value-returns-then-s-gt3-2
 walk_value-returns-then-s-gt3-2 t c =
@@ -251,7 +251,7 @@ walk_value-returns-then-s-gt3-2 t c =
     c.args.s.now
     (omega arith) (omega arith) w.1 w.0 c.if-s-gt3.false
     c.if-s-gt3-2.true)
-    c.fault-then-s-gt3-2.ensures.0 c.fault-then-s-gt3-2.ensures.1
+    c.stop-then-s-gt3-2.ensures.0 c.stop-then-s-gt3-2.ensures.1
 
 pub walk_value-walk_items-requires : goal.walk_value-walk_items-requires
 walk_value-walk_items-requires t c = (search rules, part_room c.args.s.now 3 (omega arith) (omega (arith, c.well_formed)))

@@ -1,5 +1,5 @@
 -- The cycle `form::walk::walk_value`, `walk_items`, `walk_entries` meets its contracts; the measure is twice the level that is left, one more for the loops.
-use Prim.Native.Nat.{ℕ, ◌+◌, ◌*◌, ◌-◌}
+use Prim.Native.Nat.{ℕ, ◌+◌, ◌*◌}
 use Rattle.form.specs.Trees.{no_entries, entry, no_items, item}
 use Rattle.form.specs.Form.{level_vals, level_entries}
 use Rattle.form.specs.Read.{read_v, read_run, read_named, ascending}
@@ -16,18 +16,12 @@ decreases-walk_items l = 2 * l.left + 1
 abbrev pub decreases-walk_value : goal.decreases-walk_value
 decreases-walk_value l = 2 * l.left
 
-abbrev pub invariant-walk_entries-loop-i : goal.invariant-walk_entries-loop-i
-invariant-walk_entries-loop-i l = DeepInv level_entries
+abbrev pub invariant-walk_entries-loop : goal.invariant-walk_entries-loop
+invariant-walk_entries-loop l = DeepInv level_entries
     (walk_by level_entries 0 0 (read_named no_entries entry ascending (read_v l.left) l.count 0 l.s))
     (λ (n : ℕ). read_named no_entries entry ascending (read_v l.left) n l.least)
-    l.s l.count l.at l.deep l.i
+    l.s l.count l.at l.deep l.counter
 
-abbrev pub decreases-walk_entries-loop-i : goal.decreases-walk_entries-loop-i
-decreases-walk_entries-loop-i l = l.count - l.i
-
-abbrev pub invariant-walk_items-loop-i : goal.invariant-walk_items-loop-i
-invariant-walk_items-loop-i l = DeepInv level_vals (walk_by level_vals 0 0 (read_run no_items item (read_v l.left) l.count l.s))
-    (read_run no_items item (read_v l.left)) l.s l.count l.at l.deep l.i
-
-abbrev pub decreases-walk_items-loop-i : goal.decreases-walk_items-loop-i
-decreases-walk_items-loop-i l = l.count - l.i
+abbrev pub invariant-walk_items-loop : goal.invariant-walk_items-loop
+invariant-walk_items-loop l = DeepInv level_vals (walk_by level_vals 0 0 (read_run no_items item (read_v l.left) l.count l.s))
+    (read_run no_items item (read_v l.left)) l.s l.count l.at l.deep l.counter

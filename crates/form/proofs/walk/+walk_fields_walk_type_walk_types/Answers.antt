@@ -23,91 +23,91 @@ use Rattle.form.proofs.TypeLaws.{t_simple_lem, t_one_run, t_context_lem, t_funct
 use Rattle.form.proofs.walk.+walk_fields_walk_type_walk_types.Goals as goal
 use Rattle.form.proofs.walk.+walk_fields_walk_type_walk_types.Goals.{walk_type-in_default-via-then-this-lt32, walk_type-in_default-via-else-this-lt32+else-this-lt42}
 
-pub walk_fields-loop-i-init : goal.walk_fields-loop-i-init
-walk_fields-loop-i-init t c =
+pub walk_fields-loop-init : goal.walk_fields-loop-init
+walk_fields-loop-init t c =
     run_start level_fields
     (λ (n : ℕ). read_named no_fields field ascending (read_t c.args.left) n 0)
     c.args.s.now c.args.count 0 0 (omega arith) (omega arith)
 
 pub walk_fields-overflow_sub-s : goal.walk_fields-overflow_sub-s
-walk_fields-overflow_sub-s t c = omega (arith, c.loop-i.invariant)
+walk_fields-overflow_sub-s t c = omega (arith, c.loop.invariant)
 
 pub walk_fields-returns-then-s-at-lt-NAME_WIDTH : goal.walk_fields-returns-then-s-at-lt-NAME_WIDTH
 walk_fields-returns-then-s-at-lt-NAME_WIDTH t c =
     names_none level level_fields no_fields field ascending fields_law fields_flat
-    (read_t c.args.left) c.loop-i.least c.loop-i.invariant 3
-    _ _ _ c.loop-i-test.true c.if-s-at-lt-NAME_WIDTH.true c.fault.ensures.0
-    c.fault.ensures.1
+    (read_t c.args.left) c.loop.least c.loop.invariant 3
+    _ _ _ c.loop-test.true c.if-s-at-lt-NAME_WIDTH.true c.stop.ensures.0
+    c.stop.ensures.1
 
 pub walk_fields-returns-then-name-least : goal.walk_fields-returns-then-name-least
 walk_fields-returns-then-name-least t c =
     names_fall level level_fields no_fields field ascending fields_law fields_flat
-    (read_t c.args.left) c.loop-i.least c.loop-i.invariant c.name_at-name.result
-    c.name_at-name.ensures.0 c.if-s-at-lt-NAME_WIDTH.false c.loop-i-test.true 3 _ _ _
-    c.if-name-least.true c.fault-then-name-least.ensures.0 c.fault-then-name-least.ensures.1
+    (read_t c.args.left) c.loop.least c.loop.invariant c.name_at-name.result
+    c.name_at-name.ensures.0 c.if-s-at-lt-NAME_WIDTH.false c.loop-test.true 3 _ _ _
+    c.if-name-least.true c.stop-then-name-least.ensures.0 c.stop-then-name-least.ensures.1
 
 pub walk_fields-overflow_add-at : goal.walk_fields-overflow_add-at
 walk_fields-overflow_add-at t c =
     omega (
       arith,
-      c.simple_at-n.ensures.room,
-      c.loop-i.invariant,
+      c.in-Some.ensures.room,
+      c.loop.invariant,
     )
 
-pub walk_fields-loop-i-preserved-then-n-ne0 : goal.walk_fields-loop-i-preserved-then-n-ne0
-walk_fields-loop-i-preserved-then-n-ne0 t c =
+pub walk_fields-loop-preserved-in-Some : goal.walk_fields-loop-preserved-in-Some
+walk_fields-loop-preserved-in-Some t c =
     names_short level level_fields no_fields field ascending fields_law fields_flat
-    (read_t c.args.left) c.loop-i.least c.loop-i.invariant c.name_at-name.result
-    c.name_at-name.ensures.0 c.if-s-at-lt-NAME_WIDTH.false c.loop-i-test.true
-    c.if-name-least.false simple simple_level c.simple_at-n.result c.max-deep.result
-    c.simple_at-n.ensures c.if-n-ne0.true c.max-deep.ensures
+    (read_t c.args.left) c.loop.least c.loop.invariant c.name_at-name.result
+    c.name_at-name.ensures.0 c.if-s-at-lt-NAME_WIDTH.false c.loop-test.true
+    c.if-name-least.false simple simple_level c.in-Some.n c.max-deep.result
+    c.in-Some.ensures c.max-deep.ensures
 
 pub walk_fields-returns-then-size-eq0 : goal.walk_fields-returns-then-size-eq0
 walk_fields-returns-then-size-eq0 t c =
     names_fault level level_fields no_fields field ascending fields_law fields_flat
-    (read_t c.args.left) c.loop-i.least c.loop-i.invariant
-    c.name_at-name.result c.name_at-name.ensures.0 c.if-s-at-lt-NAME_WIDTH.false c.loop-i-test.true
+    (read_t c.args.left) c.loop.least c.loop.invariant
+    c.name_at-name.result c.name_at-name.ensures.0 c.if-s-at-lt-NAME_WIDTH.false c.loop-test.true
     c.if-name-least.false c.walk_type-size.result _ 3 _ c.walk_type-size.ensures c.if-size-eq0.true
 
-pub walk_fields-overflow_add-at-in-loop-i : goal.walk_fields-overflow_add-at-in-loop-i
-walk_fields-overflow_add-at-in-loop-i t c =
+pub walk_fields-overflow_add-at-in-loop : goal.walk_fields-overflow_add-at-in-loop
+walk_fields-overflow_add-at-in-loop t c =
     let q = fits level (read_t c.args.left) c.args.s.now
-    (c.loop-i.at + name_width) c.walk_type-size.result _ c.walk_type-size.ensures
+    (c.loop.at + name_width) c.walk_type-size.result _ c.walk_type-size.ensures
     c.if-size-eq0.false in
-    omega (arith, c.loop-i.invariant)
+    omega (arith, c.loop.invariant)
 
-pub walk_fields-loop-i-preserved : goal.walk_fields-loop-i-preserved
-walk_fields-loop-i-preserved t c =
+pub walk_fields-loop-preserved : goal.walk_fields-loop-preserved
+walk_fields-loop-preserved t c =
     names_walk level level_fields no_fields field ascending fields_law fields_flat
-    (read_t c.args.left) c.loop-i.least
-    c.loop-i.invariant c.name_at-name.result c.name_at-name.ensures.0
-    c.if-s-at-lt-NAME_WIDTH.false c.loop-i-test.true c.if-name-least.false c.walk_type-size.result
-    c.walk_type-size.new.told c.max-deep-in-loop-i.result c.walk_type-size.ensures
-    c.if-size-eq0.false c.max-deep-in-loop-i.ensures
+    (read_t c.args.left) c.loop.least
+    c.loop.invariant c.name_at-name.result c.name_at-name.ensures.0
+    c.if-s-at-lt-NAME_WIDTH.false c.loop-test.true c.if-name-least.false c.walk_type-size.result
+    c.walk_type-size.new.told c.max-deep-in-loop.result c.walk_type-size.ensures
+    c.if-size-eq0.false c.max-deep-in-loop.ensures
 
 pub walk_fields-overflow_add-at-2 : goal.walk_fields-overflow_add-at-2
-walk_fields-overflow_add-at-2 t c = omega (arith, c.loop-i.invariant)
+walk_fields-overflow_add-at-2 t c = omega (arith, c.loop.invariant)
 
 pub walk_fields-overflow_add-deep : goal.walk_fields-overflow_add-deep
-walk_fields-overflow_add-deep t c = omega (arith, c.loop-i.invariant)
+walk_fields-overflow_add-deep t c = omega (arith, c.loop.invariant)
 
 pub walk_fields-returns : goal.walk_fields-returns
 walk_fields-returns t c =
     names_end level level_fields no_fields field ascending fields_law fields_flat
-    (read_t c.args.left) c.loop-i.least c.loop-i.invariant 3 _ _
-    c.loop-i-test.false (omega arith) c.end.ensures.0 c.end.ensures.1
+    (read_t c.args.left) c.loop.least c.loop.invariant 3 _ _
+    c.loop-test.false (omega arith) c.end.ensures.0 c.end.ensures.1
 
 pub walk_type-returns-then-s-eq0 : goal.walk_type-returns-then-s-eq0
 walk_type-returns-then-s-eq0 t c =
     let args = c.args in
     told_stop Shape (t_none args.left args.s.now c.if-s-eq0.true)
-    c.fault.ensures.0 c.fault.ensures.1
+    c.stop.ensures.0 c.stop.ensures.1
 
 pub walk_type-returns-then-left-eq0 : goal.walk_type-returns-then-left-eq0
 walk_type-returns-then-left-eq0 t c =
     let args = c.args in
     told_stop Level (t_level args.left args.s.now (omega arith) c.if-left-eq0.true)
-    c.fault-then-left-eq0.ensures.0 c.fault-then-left-eq0.ensures.1
+    c.stop-then-left-eq0.ensures.0 c.stop-then-left-eq0.ensures.1
 
 pub walk_type-walk_types-requires : goal.walk_type-walk_types-requires
 walk_type-walk_types-requires t c = (
@@ -130,7 +130,7 @@ walk_type-returns-then-s-lt3 t c =
     (omega arith)
     (scant c.args.s.now 0x2C 2
     (of_type t_context) c.in-44.is refl refl (omega arith) (omega arith)))
-    c.fault-then-s-lt3.ensures.0 c.fault-then-s-lt3.ensures.1
+    c.stop-then-s-lt3.ensures.0 c.stop-then-s-lt3.ensures.1
 
 pub walk_type-walk_fields-requires : goal.walk_type-walk_fields-requires
 walk_type-walk_fields-requires t c = (search rules, part_room c.args.s.now 3 (omega arith) (omega (arith, c.well_formed)))
@@ -144,7 +144,7 @@ walk_type-returns-then-s-lt2 t c =
     (omega arith)
     (scant c.args.s.now 0x2D 1
     (of_type t_function) c.in-45.is refl refl (omega arith) (omega arith)))
-    c.fault-then-s-lt2.ensures.0 c.fault-then-s-lt2.ensures.1
+    c.stop-then-s-lt2.ensures.0 c.stop-then-s-lt2.ensures.1
 
 pub walk_type-walk_types-requires-in-45 : goal.walk_type-walk_types-requires-in-45
 walk_type-walk_types-requires-in-45 t c = (
@@ -209,14 +209,14 @@ walk_type-returns-else-s-lt2 t c =
     (read_t
     (c.args.left
     - 1))
-    (c.wide.result + 1) r))
+    (c.from.result + 1) r))
     c.args.s.now
     2 _ _
     (t_function_lem
     c.args.left
     c.args.s.now
-    (omega arith) (omega arith) w.1 (c.wide.result + 1)
-    (omega (arith, c.wide.ensures)) w.0)
+    (omega arith) (omega arith) w.1 (c.from.result + 1)
+    (omega (arith, c.from.ensures)) w.0)
     (omega arith) c.walk_types-in-45.ensures
 
 pub walk_type-returns-in-32-to-41 : goal.walk_type-returns-in-32-to-41
@@ -235,60 +235,60 @@ walk_type-returns-in_default t c =
     (λ x y. elim c.in_default.branch [ walk_type-in_default-via-then-this-lt32 w ↦ omega arith | walk_type-in_default-via-else-this-lt32+else-this-lt42 w ↦ omega arith ])
     (λ x y. omega (arith, c.in_default-1.rest))
     c.in_default-1.rest.0.1 c.in_default-1.rest.1)
-    c.fault-in_default.ensures.0 c.fault-in_default.ensures.1
+    c.stop-in_default.ensures.0 c.stop-in_default.ensures.1
 
-pub walk_types-loop-i-init : goal.walk_types-loop-i-init
-walk_types-loop-i-init t c =
+pub walk_types-loop-init : goal.walk_types-loop-init
+walk_types-loop-init t c =
     run_start level_tys (read_run no_params param (read_t c.args.left))
     c.args.s.now c.args.count 0 0 (omega arith) (omega arith)
 
-pub walk_types-simple_at-n-requires : goal.walk_types-simple_at-n-requires
-walk_types-simple_at-n-requires t c = omega (arith, c.loop-i.invariant)
+pub walk_types-simple_at-requires : goal.walk_types-simple_at-requires
+walk_types-simple_at-requires t c = omega (arith, c.loop.invariant)
 
 pub walk_types-overflow_add-at : goal.walk_types-overflow_add-at
-walk_types-overflow_add-at t c = omega (arith, c.simple_at-n.ensures.room, c.loop-i.invariant)
+walk_types-overflow_add-at t c = omega (arith, c.in-Some.ensures.room, c.loop.invariant)
 
-pub walk_types-loop-i-preserved-then-n-ne0 : goal.walk_types-loop-i-preserved-then-n-ne0
-walk_types-loop-i-preserved-then-n-ne0 t c =
+pub walk_types-loop-preserved-in-Some : goal.walk_types-loop-preserved-in-Some
+walk_types-loop-preserved-in-Some t c =
     items_short level level_tys no_params param tys_law tys_flat
-    (read_t c.args.left) c.loop-i.invariant simple
-    simple_level c.simple_at-n.result c.max-deep.result c.loop-i-test.true
-    c.simple_at-n.ensures c.if-n-ne0.true c.max-deep.ensures
+    (read_t c.args.left) c.loop.invariant simple
+    simple_level c.in-Some.n c.max-deep.result c.loop-test.true
+    c.in-Some.ensures c.max-deep.ensures
 
 pub walk_types-slice_bounds-walk_type-count : goal.walk_types-slice_bounds-walk_type-count
-walk_types-slice_bounds-walk_type-count t c = omega (arith, c.loop-i.invariant)
+walk_types-slice_bounds-walk_type-count t c = omega (arith, c.loop.invariant)
 
 pub walk_types-slice_bounds-walk_type-start : goal.walk_types-slice_bounds-walk_type-start
-walk_types-slice_bounds-walk_type-start t c = omega (arith, c.loop-i.invariant)
+walk_types-slice_bounds-walk_type-start t c = omega (arith, c.loop.invariant)
 
 pub walk_types-returns-then-size-eq0 : goal.walk_types-returns-then-size-eq0
 walk_types-returns-then-size-eq0 t c =
     items_fault level level_tys no_params param tys_law tys_flat
-    (read_t c.args.left) c.loop-i.invariant
-    c.walk_type-size.result _ c.args.k _ c.loop-i-test.true
+    (read_t c.args.left) c.loop.invariant
+    c.walk_type-size.result _ c.args.k _ c.loop-test.true
     c.walk_type-size.ensures c.if-size-eq0.true
 
-pub walk_types-overflow_add-at-in-loop-i : goal.walk_types-overflow_add-at-in-loop-i
-walk_types-overflow_add-at-in-loop-i t c =
+pub walk_types-overflow_add-at-in-loop : goal.walk_types-overflow_add-at-in-loop
+walk_types-overflow_add-at-in-loop t c =
     let q = fits level (read_t c.args.left) c.args.s.now
-    c.loop-i.at c.walk_type-size.result _ c.walk_type-size.ensures c.if-size-eq0.false in
-    omega (arith, c.loop-i.invariant)
+    c.loop.at c.walk_type-size.result _ c.walk_type-size.ensures c.if-size-eq0.false in
+    omega (arith, c.loop.invariant)
 
-pub walk_types-loop-i-preserved : goal.walk_types-loop-i-preserved
-walk_types-loop-i-preserved t c =
+pub walk_types-loop-preserved : goal.walk_types-loop-preserved
+walk_types-loop-preserved t c =
     items_walk level level_tys no_params param tys_law tys_flat
-    (read_t c.args.left) c.loop-i.invariant c.walk_type-size.result
-    c.walk_type-size.new.told c.max-deep-in-loop-i.result c.loop-i-test.true c.walk_type-size.ensures
-    c.if-size-eq0.false c.max-deep-in-loop-i.ensures
+    (read_t c.args.left) c.loop.invariant c.walk_type-size.result
+    c.walk_type-size.new.told c.max-deep-in-loop.result c.loop-test.true c.walk_type-size.ensures
+    c.if-size-eq0.false c.max-deep-in-loop.ensures
 
 pub walk_types-overflow_add-at-2 : goal.walk_types-overflow_add-at-2
-walk_types-overflow_add-at-2 t c = omega (arith, c.loop-i.invariant)
+walk_types-overflow_add-at-2 t c = omega (arith, c.loop.invariant)
 
 pub walk_types-overflow_add-deep : goal.walk_types-overflow_add-deep
-walk_types-overflow_add-deep t c = omega (arith, c.loop-i.invariant)
+walk_types-overflow_add-deep t c = omega (arith, c.loop.invariant)
 
 pub walk_types-returns : goal.walk_types-returns
 walk_types-returns t c =
     items_end level level_tys no_params param tys_law tys_flat (read_t c.args.left)
-    c.loop-i.invariant c.args.k _ _ c.loop-i-test.false
+    c.loop.invariant c.args.k _ _ c.loop-test.false
     c.requires.0 c.end.ensures.0 c.end.ensures.1

@@ -20,4 +20,4 @@ returns-else-x-most c =
     (rw
     (lt-leb c.args.x c.args.most
     c.if-x-most.false))
-    c.fault.ensures.0 c.fault.ensures.1
+    c.stop.ensures.0 c.stop.ensures.1

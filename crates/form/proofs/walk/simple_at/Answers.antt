@@ -1,18 +1,17 @@
--- `form::walk::simple_at` meets its contract: 1 where the command is that of a simple type, 0 where the level, the byte or such a command is missing.
+-- `form::walk::simple_at` meets its contract: 1 where the command is that of a simple type, none where the level, the byte or such a command is missing.
 -- Assumes nothing.
 use native.Mathlib.Omega.{arith}
 use Rattle.form.proofs.Leaves.{simple_none, simple_some}
 use Rattle.form.proofs.walk.simple_at.Goals as goal
+use Rattle.form.proofs.walk.simple_at.Goals.{then-left-eq0-via-then-left-eq0, then-left-eq0-via-else-left-eq0+then-s-at}
 
 pub returns-then-left-eq0 : goal.returns-then-left-eq0
 returns-then-left-eq0 c =
     let a = c.args in
-    simple_none a.left a.s.now a.at (λ p h x y. omega arith)
-
-pub returns-then-s-at : goal.returns-then-s-at
-returns-then-s-at c =
-    let a = c.args in
-    simple_none a.left a.s.now a.at (λ p h x y. omega arith)
+    elim c.then-left-eq0.branch [
+      | then-left-eq0-via-then-left-eq0 w ↦ simple_none a.left a.s.now a.at (λ p h x y. omega (arith, w.if-left-eq0.true))
+      | then-left-eq0-via-else-left-eq0+then-s-at w ↦ simple_none a.left a.s.now a.at (λ p h x y. omega (arith, w.if-s-at.true))
+    ]
 
 pub returns-in-32-to-41 : goal.returns-in-32-to-41
 returns-in-32-to-41 c =

@@ -26,8 +26,8 @@ returns-then-at-eq0 c =
     c.walk_type-at.ensures c.if-at-eq0.true
     (λ f e. sym (ap (up 4) (pair_fault level level_params s-now readNamed1 f x1 e)))
 
-pub loop-i-init : goal.loop-i-init
-loop-i-init c =
+pub loop-init : goal.loop-init
+loop-init c =
     let args = c.args in
     let x1 = (read_t args.left) args.s.now in
     let e = told_end (walk_of level x1) (length args.s.now) c.walk_type-at.result
@@ -42,48 +42,48 @@ loop-i-init c =
     e.1.1)
 
 pub overflow_sub-s : goal.overflow_sub-s
-overflow_sub-s c = omega (arith, c.loop-i.invariant)
+overflow_sub-s c = omega (arith, c.loop.invariant)
 
 pub returns-then-s-at-lt-NAME_WIDTH : goal.returns-then-s-at-lt-NAME_WIDTH
 returns-then-s-at-lt-NAME_WIDTH c =
     names_none level level_params no_parameters parameter any_order params_law params_flat
     (read_t c.args.left) 0
-    c.loop-i.invariant 4 _ _ _ c.loop-i-test.true c.if-s-at-lt-NAME_WIDTH.true
-    c.fault.ensures.0 c.fault.ensures.1
+    c.loop.invariant 4 _ _ _ c.loop-test.true c.if-s-at-lt-NAME_WIDTH.true
+    c.stop.ensures.0 c.stop.ensures.1
 
 pub returns-then-size-eq0 : goal.returns-then-size-eq0
 returns-then-size-eq0 c =
     let args = c.args in
     names_fault level level_params no_parameters parameter any_order params_law params_flat
-    (read_t args.left) 0 c.loop-i.invariant
-    (num_at name_width c.loop-i.at args.s.now) refl c.if-s-at-lt-NAME_WIDTH.false c.loop-i-test.true
+    (read_t args.left) 0 c.loop.invariant
+    (num_at name_width c.loop.at args.s.now) refl c.if-s-at-lt-NAME_WIDTH.false c.loop-test.true
     (omega arith) c.walk_type-size.result _ 4 _ c.walk_type-size.ensures c.if-size-eq0.true
 
 pub overflow_add-at : goal.overflow_add-at
 overflow_add-at c =
     let args = c.args in
-    let q = fits level (read_t args.left) args.s.now (c.loop-i.at + name_width)
+    let q = fits level (read_t args.left) args.s.now (c.loop.at + name_width)
     c.walk_type-size.result _ c.walk_type-size.ensures c.if-size-eq0.false in
-    omega (arith, c.loop-i.invariant)
+    omega (arith, c.loop.invariant)
 
-pub loop-i-preserved : goal.loop-i-preserved
-loop-i-preserved c =
+pub loop-preserved : goal.loop-preserved
+loop-preserved c =
     let args = c.args in
     names_walk level level_params no_parameters parameter any_order params_law params_flat
-    (read_t args.left) 0 c.loop-i.invariant (num_at name_width c.loop-i.at args.s.now) refl
-    c.if-s-at-lt-NAME_WIDTH.false c.loop-i-test.true (omega arith) c.walk_type-size.result
+    (read_t args.left) 0 c.loop.invariant (num_at name_width c.loop.at args.s.now) refl
+    c.if-s-at-lt-NAME_WIDTH.false c.loop-test.true (omega arith) c.walk_type-size.result
     c.walk_type-size.new.told c.max-deep.result c.walk_type-size.ensures
     c.if-size-eq0.false c.max-deep.ensures
 
 pub overflow_add-at-2 : goal.overflow_add-at-2
-overflow_add-at-2 c = omega (arith, c.loop-i.invariant)
+overflow_add-at-2 c = omega (arith, c.loop.invariant)
 
 pub overflow_add-deep : goal.overflow_add-deep
-overflow_add-deep c = omega (arith, c.loop-i.invariant)
+overflow_add-deep c = omega (arith, c.loop.invariant)
 
 pub returns : goal.returns
 returns c =
     names_end level level_params no_parameters parameter any_order params_law params_flat
     (read_t c.args.left) 0
-    c.loop-i.invariant 4 _ _ c.loop-i-test.false (omega arith)
+    c.loop.invariant 4 _ _ c.loop-test.false (omega arith)
     c.end.ensures.0 c.end.ensures.1

@@ -20,18 +20,18 @@ use Rattle.form.proofs.walk.walk_other.Goals.{in-16-1, in_default+then-c-lt9}
 pub returns-then-s-eq0 : goal.returns-then-s-eq0
 returns-then-s-eq0 c =
     let args = c.args in
-    told_stop Shape (v_none args.left args.s.now c.if-s-eq0.true) c.fault.ensures.0 c.fault.ensures.1
+    told_stop Shape (v_none args.left args.s.now c.if-s-eq0.true) c.stop.ensures.0 c.stop.ensures.1
 
 pub returns-then-left-eq0 : goal.returns-then-left-eq0
 returns-then-left-eq0 c =
     let args = c.args in
-    told_stop Level (v_level args.left args.s.now (omega arith) c.if-left-eq0.true) c.fault-then-left-eq0.ensures.0 c.fault-then-left-eq0.ensures.1
+    told_stop Level (v_level args.left args.s.now (omega arith) c.if-left-eq0.true) c.stop-then-left-eq0.ensures.0 c.stop-then-left-eq0.ensures.1
 
 pub returns-then-s-w : goal.returns-then-s-w
 returns-then-s-w c =
     let args = c.args in
     told_stop Shape (v_short args.left args.s.now (omega arith) (omega arith) (omega (arith, c.width-w.ensures)))
-    c.fault-then-s-w.ensures.0 c.fault-then-s-w.ensures.1
+    c.stop-then-s-w.ensures.0 c.stop-then-s-w.ensures.1
 
 pub slice_bounds-walk_definition-count : goal.slice_bounds-walk_definition-count
 slice_bounds-walk_definition-count c =
@@ -100,13 +100,13 @@ returns-in-12 c =
     (λ (r : List ℕ).
     pair_walk level level_params r
     (read_params (read_t (c.args.left - 1))
-    c.wide.result 0)
+    c.from.result 0)
     (read_t (c.args.left - 1) r))
     c.args.s.now 4 _ _
     (v_definition c.args.left
     c.args.s.now (omega arith) (omega arith)
-    (omega (arith, c.width-w.ensures)) c.wide.result
-    c.wide.ensures.0 w.0)
+    (omega (arith, c.width-w.ensures)) c.from.result
+    c.from.ensures w.0)
     (omega arith) c.walk_definition.ensures
 
 pub returns-in-13 : goal.returns-in-13
@@ -166,7 +166,7 @@ returns-in_default c =
     c.requires)
     c.in_default.in_default-own.rest.0.0.0.1 c.in_default.in_default-own.rest.0.0.1 c.in_default.in_default-own.rest.0.1
     c.in_default.in_default-own.rest.1 c.in_default.in_default-own.rest.0.0.0.0.1)
-    c.fault-in_default.ensures.0 c.fault-in_default.ensures.1
+    c.stop-in_default.ensures.0 c.stop-in_default.ensures.1
 
 pub returns-in-0-to-8 : goal.returns-in-0-to-8
 returns-in-0-to-8 c =

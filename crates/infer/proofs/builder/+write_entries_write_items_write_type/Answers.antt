@@ -28,15 +28,15 @@ leaf_arm t c =
       | write_type-in_default+then-c-lt9 w ↦ leaf_low (get_or c.args.v.now 0 0) (omega arith)
     ]
 
-pub write_entries-loop-i-init : goal.write_entries-loop-i-init
-write_entries-loop-i-init t c = entries_start _ _ _ _ _ _ _ c.requires.fit_entries
+pub write_entries-loop-init : goal.write_entries-loop-init
+write_entries-loop-init t c = entries_start _ _ _ _ _ _ _ c.requires.fit_entries
 
 pub write_entries-overflow_add-p : goal.write_entries-overflow_add-p
 write_entries-overflow_add-p t c =
     omega (
       arith,
       c.well_formed,
-      entry_name c.loop-i.invariant (bytes_of c.args.v.now c.type_inv.v) c.loop-i-test.true,
+      entry_name c.loop.invariant (bytes_of c.args.v.now c.type_inv.v) c.loop-test.true,
     )
 
 pub write_entries-overflow_add-w : goal.write_entries-overflow_add-w
@@ -44,52 +44,52 @@ write_entries-overflow_add-w t c =
     omega (
       arith,
       c.well_formed,
-      c.loop-i.invariant.low,
-      entry_name c.loop-i.invariant (bytes_of c.args.v.now c.type_inv.v) c.loop-i-test.true,
+      c.loop.invariant.low,
+      entry_name c.loop.invariant (bytes_of c.args.v.now c.type_inv.v) c.loop-test.true,
     )
 
 pub write_entries-copy_name-requires : goal.write_entries-copy_name-requires
 write_entries-copy_name-requires t c =
     let bytes-of1 = bytes_of c.args.v.now c.type_inv.v in
     record {
-      name_width_in_bounds = entry_name c.loop-i.invariant bytes-of1 c.loop-i-test.true;
-      name_width_in_bounds_2 = entry_room c.loop-i.invariant bytes-of1 c.loop-i-test.true;
+      name_width_in_bounds = entry_name c.loop.invariant bytes-of1 c.loop-test.true;
+      name_width_in_bounds_2 = entry_room c.loop.invariant bytes-of1 c.loop-test.true;
     }
 
 pub write_entries-slice_bounds-leaf-count : goal.write_entries-slice_bounds-leaf-count
 write_entries-slice_bounds-leaf-count t c =
-    entry_name c.loop-i.invariant (bytes_of c.args.v.now c.type_inv.v) c.loop-i-test.true
+    entry_name c.loop.invariant (bytes_of c.args.v.now c.type_inv.v) c.loop-test.true
 
 pub write_entries-slice_bounds-leaf-start : goal.write_entries-slice_bounds-leaf-start
 write_entries-slice_bounds-leaf-start t c =
     omega (
       arith,
-      entry_name c.loop-i.invariant (bytes_of c.args.v.now c.type_inv.v) c.loop-i-test.true,
+      entry_name c.loop.invariant (bytes_of c.args.v.now c.type_inv.v) c.loop-test.true,
     )
 
-pub write_entries-leaf-k-requires : goal.write_entries-leaf-k-requires
-write_entries-leaf-k-requires t c =
-    entry_some c.loop-i.invariant (bytes_of c.args.v.now c.type_inv.v) c.loop-i-test.true
+pub write_entries-leaf-requires : goal.write_entries-leaf-requires
+write_entries-leaf-requires t c =
+    entry_some c.loop.invariant (bytes_of c.args.v.now c.type_inv.v) c.loop-test.true
 
 pub write_entries-bounds-v-p : goal.write_entries-bounds-v-p
 write_entries-bounds-v-p t c =
-    entry_byte c.loop-i.invariant
+    entry_byte c.loop.invariant
     (bytes_of c.args.v.now c.type_inv.v)
-    c.loop-i-test.true
+    c.loop-test.true
 
 pub write_entries-bounds-out-w : goal.write_entries-bounds-out-w
 write_entries-bounds-out-w t c =
-    entry_free c.loop-i.invariant
+    entry_free c.loop.invariant
     (bytes_of c.args.v.now c.type_inv.v)
-    c.loop-i-test.true _ c.copy_name.ensures
+    c.loop-test.true _ c.copy_name.ensures
 
 pub write_entries-overflow_add-at : goal.write_entries-overflow_add-at
 write_entries-overflow_add-at t c =
     omega (
       arith,
       c.well_formed,
-      entry_leaf_read c.loop-i.invariant (bytes_of c.args.v.now c.type_inv.v) c.loop-i-test.true _
-          c.copy_name.ensures _ c.leaf_type.ensures _ (c.leaf-k.ensures.0 (omega (arith, c.if-k-ne0.true))),
+      entry_leaf_read c.loop.invariant (bytes_of c.args.v.now c.type_inv.v) c.loop-test.true _
+          c.copy_name.ensures _ c.leaf_type.ensures _ c.in-Some.ensures,
     )
 
 pub write_entries-overflow_add-to : goal.write_entries-overflow_add-to
@@ -97,51 +97,48 @@ write_entries-overflow_add-to t c =
     omega (
       arith,
       c.well_formed,
-      entry_leaf_wrote c.loop-i.invariant (bytes_of c.args.v.now c.type_inv.v) c.loop-i-test.true _
-          c.copy_name.ensures _ c.leaf_type.ensures _ (c.leaf-k.ensures.0 (omega (arith, c.if-k-ne0.true))),
+      entry_leaf_wrote c.loop.invariant (bytes_of c.args.v.now c.type_inv.v) c.loop-test.true _
+          c.copy_name.ensures _ c.leaf_type.ensures _ c.in-Some.ensures,
     )
 
-pub write_entries-loop-i-smaller-then-k-ne0 : goal.write_entries-loop-i-smaller-then-k-ne0
-write_entries-loop-i-smaller-then-k-ne0 t c = omega (arith, c.loop-i-test.true)
-
-pub write_entries-loop-i-preserved-then-k-ne0 : goal.write_entries-loop-i-preserved-then-k-ne0
-write_entries-loop-i-preserved-then-k-ne0 t c =
-    entry_leaf c.loop-i.invariant
+pub write_entries-loop-preserved-in-Some : goal.write_entries-loop-preserved-in-Some
+write_entries-loop-preserved-in-Some t c =
+    entry_leaf c.loop.invariant
     (bytes_of c.args.v.now c.type_inv.v)
-    c.loop-i-test.true _ c.copy_name.ensures _ c.leaf_type.ensures _
-    (c.leaf-k.ensures.0 (omega (arith, c.if-k-ne0.true)))
+    c.loop-test.true _ c.copy_name.ensures _ c.leaf_type.ensures _
+    c.in-Some.ensures
 
 pub write_entries-slice_bounds-write_type-count : goal.write_entries-slice_bounds-write_type-count
 write_entries-slice_bounds-write_type-count t c =
-    entry_name c.loop-i.invariant
+    entry_name c.loop.invariant
     (bytes_of c.args.v.now c.type_inv.v)
-    c.loop-i-test.true
+    c.loop-test.true
 
 pub write_entries-slice_bounds-write_type-start : goal.write_entries-slice_bounds-write_type-start
 write_entries-slice_bounds-write_type-start t c =
     omega (
       arith,
-      entry_name c.loop-i.invariant
+      entry_name c.loop.invariant
           (bytes_of c.args.v.now c.type_inv.v)
-          c.loop-i-test.true,
+          c.loop-test.true,
     )
 
-pub write_entries-slice_bounds-write_type-count-in-loop-i : goal.write_entries-slice_bounds-write_type-count-in-loop-i
-write_entries-slice_bounds-write_type-count-in-loop-i t c =
+pub write_entries-slice_bounds-write_type-count-in-loop : goal.write_entries-slice_bounds-write_type-count-in-loop
+write_entries-slice_bounds-write_type-count-in-loop t c =
     let bytes-of1 = bytes_of c.args.v.now c.type_inv.v in
     omega (
       arith,
-      entry_room c.loop-i.invariant bytes-of1 c.loop-i-test.true,
-      name_len c.loop-i.invariant bytes-of1 c.loop-i-test.true _ c.copy_name.ensures,
+      entry_room c.loop.invariant bytes-of1 c.loop-test.true,
+      name_len c.loop.invariant bytes-of1 c.loop-test.true _ c.copy_name.ensures,
     )
 
-pub write_entries-slice_bounds-write_type-start-in-loop-i : goal.write_entries-slice_bounds-write_type-start-in-loop-i
-write_entries-slice_bounds-write_type-start-in-loop-i t c =
+pub write_entries-slice_bounds-write_type-start-in-loop : goal.write_entries-slice_bounds-write_type-start-in-loop
+write_entries-slice_bounds-write_type-start-in-loop t c =
     let bytes-of1 = bytes_of c.args.v.now c.type_inv.v in
     omega (
       arith,
-      entry_room c.loop-i.invariant bytes-of1 c.loop-i-test.true,
-      name_len c.loop-i.invariant bytes-of1 c.loop-i-test.true _ c.copy_name.ensures,
+      entry_room c.loop.invariant bytes-of1 c.loop-test.true,
+      name_len c.loop.invariant bytes-of1 c.loop-test.true _ c.copy_name.ensures,
     )
 
 pub write_entries-write_type-e-requires : goal.write_entries-write_type-e-requires
@@ -149,53 +146,40 @@ write_entries-write_type-e-requires t c =
     let bytes-of1 = bytes_of c.args.v.now c.type_inv.v in (
       omega (arith, c.decreases),
       (
-        entry_fits c.loop-i.invariant bytes-of1 c.loop-i-test.true c.copy_name.new.out
-            (name_len c.loop-i.invariant bytes-of1 c.loop-i-test.true _ c.copy_name.ensures),
+        entry_fits c.loop.invariant bytes-of1 c.loop-test.true c.copy_name.new.out
+            (name_len c.loop.invariant bytes-of1 c.loop-test.true _ c.copy_name.ensures),
         omega arith,
       ),
     )
 
-pub write_entries-overflow_add-at-in-loop-i : goal.write_entries-overflow_add-at-in-loop-i
-write_entries-overflow_add-at-in-loop-i t c =
+pub write_entries-overflow_add-at-in-loop : goal.write_entries-overflow_add-at-in-loop
+write_entries-overflow_add-at-in-loop t c =
     omega (
       arith,
       c.well_formed,
-      entry_read c.loop-i.invariant (bytes_of c.args.v.now c.type_inv.v)
-          c.loop-i-test.true _ _ _ _ c.copy_name.ensures c.write_type-e.ensures.typed,
+      entry_read c.loop.invariant (bytes_of c.args.v.now c.type_inv.v)
+          c.loop-test.true _ _ _ _ c.copy_name.ensures c.write_type-e.ensures.typed,
     )
 
-pub write_entries-overflow_add-to-in-loop-i : goal.write_entries-overflow_add-to-in-loop-i
-write_entries-overflow_add-to-in-loop-i t c =
+pub write_entries-overflow_add-to-in-loop : goal.write_entries-overflow_add-to-in-loop
+write_entries-overflow_add-to-in-loop t c =
     omega (
       arith,
       c.well_formed,
-      entry_wrote c.loop-i.invariant (bytes_of c.args.v.now c.type_inv.v)
-          c.loop-i-test.true _ _ _ _ c.copy_name.ensures c.write_type-e.ensures.typed,
+      entry_wrote c.loop.invariant (bytes_of c.args.v.now c.type_inv.v)
+          c.loop-test.true _ _ _ _ c.copy_name.ensures c.write_type-e.ensures.typed,
     )
 
-pub write_entries-loop-i-smaller : goal.write_entries-loop-i-smaller
-write_entries-loop-i-smaller t c =
-    omega (
-      arith,
-      c.loop-i-test.true,
-    )
-
-pub write_entries-loop-i-preserved : goal.write_entries-loop-i-preserved
-write_entries-loop-i-preserved t c =
-    entry_next c.loop-i.invariant (bytes_of c.args.v.now c.type_inv.v)
-    c.loop-i-test.true _ _ _ _ c.copy_name.ensures c.write_type-e.ensures.typed _ c.write_type-e.ensures.spare_len_unchanged
-
-pub write_entries-shape_of-out : goal.write_entries-shape_of-out
-write_entries-shape_of-out t c = c.loop-i.invariant.out_len
-
-pub write_entries-shape_of-spare : goal.write_entries-shape_of-spare
-write_entries-shape_of-spare t c = c.loop-i.invariant.spare_len
+pub write_entries-loop-preserved : goal.write_entries-loop-preserved
+write_entries-loop-preserved t c =
+    entry_next c.loop.invariant (bytes_of c.args.v.now c.type_inv.v)
+    c.loop-test.true _ _ _ _ c.copy_name.ensures c.write_type-e.ensures.typed _ c.write_type-e.ensures.spare_len_unchanged
 
 pub write_entries-returns : goal.write_entries-returns
 write_entries-returns t c =
     record {
-      typed = entries_done c.loop-i.invariant (bytes_of c.args.v.now c.type_inv.v) c.loop-i-test.false;
-      spare_len_unchanged = c.loop-i.invariant.spare_len;
+      typed = entries_done c.loop.invariant (bytes_of c.args.v.now c.type_inv.v) c.loop-test.false;
+      spare_len_unchanged = c.loop.invariant.spare_len;
     }
 
 pub write_items-bounds-out-0 : goal.write_items-bounds-out-0
@@ -224,141 +208,106 @@ write_items-write_type-e-requires t c = (
   ),
 )
 
-pub write_items-loop-i-init : goal.write_items-loop-i-init
-write_items-loop-i-init t c =
+pub write_items-loop-init : goal.write_items-loop-init
+write_items-loop-init t c =
     let args = c.args in
     items_start (order_of args.reading) args.least args.equal args.left args.v.now args.n args.out.now args.spare.now c.requires.fit_items
     (bytes_of args.v.now c.type_inv.v) c.requires.left_le_value_levels c.if-n-eq0.false _ _ _ _
     c.write_type-e.ensures.typed c.write_type-e.ensures.spare_len_unchanged
 
-pub write_items-slice_bounds-leaf-count : goal.write_items-slice_bounds-leaf-count
-write_items-slice_bounds-leaf-count t c = c.loop-i.invariant.in_v
-
-pub write_items-slice_bounds-leaf-start : goal.write_items-slice_bounds-leaf-start
-write_items-slice_bounds-leaf-start t c = omega (arith, c.loop-i.invariant.in_v)
-
-pub write_items-leaf-k-requires : goal.write_items-leaf-k-requires
-write_items-leaf-k-requires t c =
-    item_some c.loop-i.invariant (bytes_of c.args.v.now c.type_inv.v) c.loop-i-test.true
+pub write_items-leaf-requires : goal.write_items-leaf-requires
+write_items-leaf-requires t c =
+    item_some c.loop.invariant (bytes_of c.args.v.now c.type_inv.v) c.loop-test.true
 
 pub write_items-bounds-v-at : goal.write_items-bounds-v-at
 write_items-bounds-v-at t c =
-    item_byte c.loop-i.invariant (bytes_of c.args.v.now c.type_inv.v) c.loop-i-test.true
+    item_byte c.loop.invariant (bytes_of c.args.v.now c.type_inv.v) c.loop-test.true
 
 pub write_items-bounds-out-to : goal.write_items-bounds-out-to
 write_items-bounds-out-to t c =
-    item_free c.loop-i.invariant (bytes_of c.args.v.now c.type_inv.v) c.loop-i-test.true
+    item_free c.loop.invariant (bytes_of c.args.v.now c.type_inv.v) c.loop-test.true
 
 pub write_items-overflow_add-at : goal.write_items-overflow_add-at
 write_items-overflow_add-at t c =
     omega (
       arith,
       c.well_formed,
-      leaf_read c.loop-i.invariant (bytes_of c.args.v.now c.type_inv.v) c.loop-i-test.true
-          c.requires.left_le_value_levels _ c.leaf_type.ensures _ (c.leaf-k.ensures.0 (omega (arith, c.if-k-ne0.true))),
+      leaf_read c.loop.invariant (bytes_of c.args.v.now c.type_inv.v) c.loop-test.true
+          c.requires.left_le_value_levels _ c.leaf_type.ensures _ c.in-Some.ensures,
     )
 
 pub write_items-join-to-requires : goal.write_items-join-to-requires
 write_items-join-to-requires t c =
-    let c1 = c.leaf-k.ensures.0 (omega (arith, c.if-k-ne0.true)) in
+    let c1 = c.in-Some.ensures in
     let bytes-of1 = bytes_of c.args.v.now c.type_inv.v in record {
-      sides = leaf_sides c.loop-i.invariant bytes-of1 c.loop-i-test.true c.requires.left_le_value_levels _ c.leaf_type.ensures _ c1;
-      reduced = leaf_reduced c.loop-i.invariant bytes-of1 c.loop-i-test.true c.requires.left_le_value_levels _ c.leaf_type.ensures _ c1;
+      sides = leaf_sides c.loop.invariant bytes-of1 c.loop-test.true c.requires.left_le_value_levels _ c.leaf_type.ensures _ c1;
+      reduced = leaf_reduced c.loop.invariant bytes-of1 c.loop-test.true c.requires.left_le_value_levels _ c.leaf_type.ensures _ c1;
     }
 
-pub write_items-overflow_add-i : goal.write_items-overflow_add-i
-write_items-overflow_add-i t c =
-    omega
-    (arith, c.well_formed, c.loop-i-test.true)
-
-pub write_items-loop-i-smaller-then-k-ne0 : goal.write_items-loop-i-smaller-then-k-ne0
-write_items-loop-i-smaller-then-k-ne0 t c = omega (arith, c.loop-i-test.true)
-
-pub write_items-loop-i-preserved-then-k-ne0 : goal.write_items-loop-i-preserved-then-k-ne0
-write_items-loop-i-preserved-then-k-ne0 t c =
-    leaf_next c.loop-i.invariant (bytes_of c.args.v.now c.type_inv.v) c.loop-i-test.true
-    c.requires.left_le_value_levels _ c.leaf_type.ensures _ (c.leaf-k.ensures.0 (omega (arith, c.if-k-ne0.true))) _ _ _
+pub write_items-loop-preserved-in-Some : goal.write_items-loop-preserved-in-Some
+write_items-loop-preserved-in-Some t c =
+    leaf_next c.loop.invariant (bytes_of c.args.v.now c.type_inv.v) c.loop-test.true
+    c.requires.left_le_value_levels _ c.leaf_type.ensures _ c.in-Some.ensures _ _ _
     c.join-to.ensures.joined c.join-to.ensures.spare_len_unchanged
 
-pub write_items-slice_bounds-write_type-count : goal.write_items-slice_bounds-write_type-count
-write_items-slice_bounds-write_type-count t c = c.loop-i.invariant.in_v
+pub write_items-slice_bounds-write_type-count-in-loop : goal.write_items-slice_bounds-write_type-count-in-loop
+write_items-slice_bounds-write_type-count-in-loop t c = item_room c.loop.invariant (bytes_of c.args.v.now c.type_inv.v)
 
-pub write_items-slice_bounds-write_type-start : goal.write_items-slice_bounds-write_type-start
-write_items-slice_bounds-write_type-start t c = omega (arith, c.loop-i.invariant.in_v)
-
-pub write_items-slice_bounds-write_type-count-in-loop-i : goal.write_items-slice_bounds-write_type-count-in-loop-i
-write_items-slice_bounds-write_type-count-in-loop-i t c = item_room c.loop-i.invariant (bytes_of c.args.v.now c.type_inv.v)
-
-pub write_items-slice_bounds-write_type-start-in-loop-i : goal.write_items-slice_bounds-write_type-start-in-loop-i
-write_items-slice_bounds-write_type-start-in-loop-i t c =
+pub write_items-slice_bounds-write_type-start-in-loop : goal.write_items-slice_bounds-write_type-start-in-loop
+write_items-slice_bounds-write_type-start-in-loop t c =
     omega (
       arith,
-      item_room c.loop-i.invariant (bytes_of c.args.v.now c.type_inv.v),
+      item_room c.loop.invariant (bytes_of c.args.v.now c.type_inv.v),
     )
 
-pub write_items-write_type-e-requires-in-loop-i : goal.write_items-write_type-e-requires-in-loop-i
-write_items-write_type-e-requires-in-loop-i t c = (
+pub write_items-write_type-e-requires-in-loop : goal.write_items-write_type-e-requires-in-loop
+write_items-write_type-e-requires-in-loop t c = (
   omega (arith, c.decreases),
   (
-    item_fits c.loop-i.invariant (bytes_of c.args.v.now c.type_inv.v) c.loop-i-test.true,
+    item_fits c.loop.invariant (bytes_of c.args.v.now c.type_inv.v) c.loop-test.true,
     omega arith,
   ),
 )
 
-pub write_items-overflow_add-at-in-loop-i : goal.write_items-overflow_add-at-in-loop-i
-write_items-overflow_add-at-in-loop-i t c =
+pub write_items-overflow_add-at-in-loop : goal.write_items-overflow_add-at-in-loop
+write_items-overflow_add-at-in-loop t c =
     omega (
       arith,
       c.well_formed,
-      item_read c.loop-i.invariant (bytes_of c.args.v.now c.type_inv.v) c.loop-i-test.true
-          c.requires.left_le_value_levels _ c.write_type-e-in-loop-i.new.spare _ _ c.write_type-e-in-loop-i.ensures.typed c.write_type-e-in-loop-i.ensures.spare_len_unchanged,
+      item_read c.loop.invariant (bytes_of c.args.v.now c.type_inv.v) c.loop-test.true
+          c.requires.left_le_value_levels _ c.write_type-e-in-loop.new.spare _ _ c.write_type-e-in-loop.ensures.typed c.write_type-e-in-loop.ensures.spare_len_unchanged,
     )
 
-pub write_items-join-to-requires-in-loop-i : goal.write_items-join-to-requires-in-loop-i
-write_items-join-to-requires-in-loop-i t c =
+pub write_items-join-to-requires-in-loop : goal.write_items-join-to-requires-in-loop
+write_items-join-to-requires-in-loop t c =
     let bytes-of1 = bytes_of c.args.v.now c.type_inv.v in record {
-      sides = item_sides c.loop-i.invariant bytes-of1 c.loop-i-test.true c.requires.left_le_value_levels _ c.write_type-e-in-loop-i.new.spare _ _
-          c.write_type-e-in-loop-i.ensures.typed c.write_type-e-in-loop-i.ensures.spare_len_unchanged;
-      reduced = item_reduced c.loop-i.invariant bytes-of1 c.loop-i-test.true c.requires.left_le_value_levels _ c.write_type-e-in-loop-i.new.spare _ _
-          c.write_type-e-in-loop-i.ensures.typed c.write_type-e-in-loop-i.ensures.spare_len_unchanged;
+      sides = item_sides c.loop.invariant bytes-of1 c.loop-test.true c.requires.left_le_value_levels _ c.write_type-e-in-loop.new.spare _ _
+          c.write_type-e-in-loop.ensures.typed c.write_type-e-in-loop.ensures.spare_len_unchanged;
+      reduced = item_reduced c.loop.invariant bytes-of1 c.loop-test.true c.requires.left_le_value_levels _ c.write_type-e-in-loop.new.spare _ _
+          c.write_type-e-in-loop.ensures.typed c.write_type-e-in-loop.ensures.spare_len_unchanged;
     }
 
-pub write_items-overflow_add-i-in-loop-i : goal.write_items-overflow_add-i-in-loop-i
-write_items-overflow_add-i-in-loop-i t c =
-    omega
-    (arith, c.well_formed, c.loop-i-test.true)
-
-pub write_items-loop-i-smaller : goal.write_items-loop-i-smaller
-write_items-loop-i-smaller t c =
-    omega (
-      arith,
-      c.loop-i-test.true,
-    )
-
-pub write_items-loop-i-preserved : goal.write_items-loop-i-preserved
-write_items-loop-i-preserved t c =
-    item_next c.loop-i.invariant (bytes_of c.args.v.now c.type_inv.v) c.loop-i-test.true
-    c.requires.left_le_value_levels _ c.write_type-e-in-loop-i.new.spare _ _ c.write_type-e-in-loop-i.ensures.typed c.write_type-e-in-loop-i.ensures.spare_len_unchanged _ _ _
-    c.join-to-in-loop-i.ensures.joined c.join-to-in-loop-i.ensures.spare_len_unchanged
+pub write_items-loop-preserved : goal.write_items-loop-preserved
+write_items-loop-preserved t c =
+    item_next c.loop.invariant (bytes_of c.args.v.now c.type_inv.v) c.loop-test.true
+    c.requires.left_le_value_levels _ c.write_type-e-in-loop.new.spare _ _ c.write_type-e-in-loop.ensures.typed c.write_type-e-in-loop.ensures.spare_len_unchanged _ _ _
+    c.join-to-in-loop.ensures.joined c.join-to-in-loop.ensures.spare_len_unchanged
 
 pub write_items-shape_of-out : goal.write_items-shape_of-out
 write_items-shape_of-out t c =
     let args = c.args in
-    c.loop-i.invariant.out_len ∙
+    c.loop.invariant.out_len ∙
     (items_kept (order_of args.reading) args.least args.equal args.left args.v.now args.n args.out.now args.spare.now c.requires.fit_items
     (bytes_of args.v.now c.type_inv.v) c.requires.left_le_value_levels c.if-n-eq0.false _ _ _ c.write_type-e.ensures.typed)
-
-pub write_items-shape_of-spare : goal.write_items-shape_of-spare
-write_items-shape_of-spare t c = c.loop-i.invariant.spare_len ∙ c.write_type-e.ensures.spare_len_unchanged
 
 pub write_items-returns : goal.write_items-returns
 write_items-returns t c =
     let args = c.args in
     let bytes-of1 = bytes_of args.v.now c.type_inv.v in record {
-      typed = items_done c.loop-i.invariant bytes-of1 c.loop-i-test.false _
+      typed = items_done c.loop.invariant bytes-of1 c.loop-test.false _
           (items_kept (order_of args.reading) args.least args.equal args.left args.v.now args.n args.out.now args.spare.now c.requires.fit_items bytes-of1
           c.requires.left_le_value_levels c.if-n-eq0.false _ _ _ c.write_type-e.ensures.typed);
-      spare_len_unchanged = c.loop-i.invariant.spare_len ∙ c.write_type-e.ensures.spare_len_unchanged;
+      spare_len_unchanged = c.loop.invariant.spare_len ∙ c.write_type-e.ensures.spare_len_unchanged;
     }
 
 pub write_type-bounds-v-0 : goal.write_type-bounds-v-0
@@ -714,7 +663,7 @@ write_type-slice_bounds-write_signature-count-in-12 t c =
     let args = c.args in
     under_free
     (in_definition (order_of args.reading) args.least args.left args.v.now args.out.now args.spare.now c.requires.fit_val
-    (bytes_of args.v.now c.type_inv.v) _ c.wide.ensures.0 c.in-12.is)
+    (bytes_of args.v.now c.type_inv.v) _ c.from.ensures c.in-12.is)
 
 pub write_type-slice_bounds-write_signature-start-in-12 : goal.write_type-slice_bounds-write_signature-start-in-12
 write_type-slice_bounds-write_signature-start-in-12 t c =
@@ -723,7 +672,7 @@ write_type-slice_bounds-write_signature-start-in-12 t c =
       let args = c.args in
           under_free
           (in_definition (order_of args.reading) args.least args.left args.v.now args.out.now args.spare.now c.requires.fit_val
-          (bytes_of args.v.now c.type_inv.v) _ c.wide.ensures.0 c.in-12.is),
+          (bytes_of args.v.now c.type_inv.v) _ c.from.ensures c.in-12.is),
     )
 
 pub write_type-overflow_sub-left-in-12 : goal.write_type-overflow_sub-left-in-12
@@ -737,7 +686,7 @@ write_type-write_signature-e-requires t c =
     let args = c.args in
     definition_fits
     (in_definition (order_of args.reading) args.least args.left args.v.now args.out.now args.spare.now c.requires.fit_val
-    (bytes_of args.v.now c.type_inv.v) _ c.wide.ensures.0 c.in-12.is)
+    (bytes_of args.v.now c.type_inv.v) _ c.from.ensures c.in-12.is)
 
 pub write_type-overflow_add-result-in-12 : goal.write_type-overflow_add-result-in-12
 write_type-overflow_add-result-in-12 t c =
@@ -747,7 +696,7 @@ write_type-overflow_add-result-in-12 t c =
       let args = c.args in
           under_read
           (in_definition (order_of args.reading) args.least args.left args.v.now args.out.now args.spare.now c.requires.fit_val
-          (bytes_of args.v.now c.type_inv.v) _ c.wide.ensures.0 c.in-12.is)
+          (bytes_of args.v.now c.type_inv.v) _ c.from.ensures c.in-12.is)
           _ _ _ c.write_signature-e.ensures,
     )
 
@@ -759,7 +708,7 @@ write_type-overflow_add-result-in-12-2 t c =
       let args = c.args in
           under_wrote
           (in_definition (order_of args.reading) args.least args.left args.v.now args.out.now args.spare.now c.requires.fit_val
-          (bytes_of args.v.now c.type_inv.v) _ c.wide.ensures.0 c.in-12.is)
+          (bytes_of args.v.now c.type_inv.v) _ c.from.ensures c.in-12.is)
           _ _ _ c.write_signature-e.ensures,
     )
 
@@ -910,7 +859,7 @@ write_type-shape_of-out-in-12 t c =
     let args = c.args in
     under_kept
     (in_definition (order_of args.reading) args.least args.left args.v.now args.out.now args.spare.now c.requires.fit_val
-    (bytes_of args.v.now c.type_inv.v) _ c.wide.ensures.0 c.in-12.is)
+    (bytes_of args.v.now c.type_inv.v) _ c.from.ensures c.in-12.is)
     _ _ _ c.write_signature-e.ensures
 
 pub write_type-returns-in-12 : goal.write_type-returns-in-12
@@ -918,7 +867,7 @@ write_type-returns-in-12 t c =
     let args = c.args in record {
       typed = under_done
           (in_definition (order_of args.reading) args.least args.left args.v.now args.out.now args.spare.now c.requires.fit_val
-          (bytes_of args.v.now c.type_inv.v) _ c.wide.ensures.0 c.in-12.is)
+          (bytes_of args.v.now c.type_inv.v) _ c.from.ensures c.in-12.is)
           _ _ _ c.write_signature-e.ensures;
       spare_len_unchanged = refl;
     }

@@ -1,5 +1,5 @@
 -- The cycle `infer::builder::write_type`, `write_items`, `write_entries` meets its contracts; the measure is twice the level that is left, one more for the loops.
-use Prim.Native.Nat.{◌+◌, ◌-◌, ◌*◌}
+use Prim.Native.Nat.{◌+◌, ◌*◌}
 use Rattle.order.specs.Order.{order_of}
 use Rattle.infer.proofs.Entries.{EntriesInv}
 use Rattle.infer.proofs.Items.{ItemsInv}
@@ -14,14 +14,8 @@ decreases-write_items l = 2 * l.left + 1
 abbrev pub decreases-write_type : goal.decreases-write_type
 decreases-write_type l = 2 * l.left
 
-abbrev pub invariant-write_entries-loop-i : goal.invariant-write_entries-loop-i
-invariant-write_entries-loop-i l = EntriesInv (order_of l.reading) l.least l.left l.v l.n l.initial.out l.initial.spare l.out l.spare l.at l.to l.i
+abbrev pub invariant-write_entries-loop : goal.invariant-write_entries-loop
+invariant-write_entries-loop l = EntriesInv (order_of l.reading) l.least l.left l.v l.n l.initial.out l.initial.spare l.out l.spare l.at l.to l.counter
 
-abbrev pub decreases-write_entries-loop-i : goal.decreases-write_entries-loop-i
-decreases-write_entries-loop-i l = l.n - l.i
-
-abbrev pub invariant-write_items-loop-i : goal.invariant-write_items-loop-i
-invariant-write_items-loop-i l = ItemsInv (order_of l.reading) l.least l.equal l.left l.v l.n l.initial.out l.initial.spare l.out l.spare l.at l.to l.i
-
-abbrev pub decreases-write_items-loop-i : goal.decreases-write_items-loop-i
-decreases-write_items-loop-i l = l.n - l.i
+abbrev pub invariant-write_items-loop : goal.invariant-write_items-loop
+invariant-write_items-loop l = ItemsInv (order_of l.reading) l.least l.equal l.left l.v l.n l.initial.out l.initial.spare l.out l.spare l.at l.to l.counter

@@ -5,7 +5,7 @@ use mathlib.Core.Path.{sym}
 use lib.ListN.{length}
 use Rattle.order.specs.Order.{order_of}
 use Rattle.form.proofs.Numbers.{take_length}
-use Rattle.infer.proofs.CallContracts.{build_long, build_scratch, build_ask, build_inside, build_short, build_done}
+use Rattle.infer.proofs.CallContracts.{build_long, build_scratch, build_ask, build_inside, build_given}
 use Rattle.infer.proofs.builder.build_with.Goals as goal
 
 pub overflow_mul-v : goal.overflow_mul-v
@@ -29,40 +29,22 @@ write_type-e-requires c =
       left_le_value_levels = omega arith;
     }
 
-pub returns-then-out-n : goal.returns-then-out-n
-returns-then-out-n c =
-    build_short (order_of c.args.reading) c.args.least c.args.v.now (length c.args.scratch.now)
-    c.args.out.now c.requires.ready c.if-scratch-v.false
-    c.args.scratch.now _ _ _ c.write_type-e.ensures.typed c.if-out-n.true
-
-pub slice_bounds-copy-end : goal.slice_bounds-copy-end
-slice_bounds-copy-end c =
+pub slice_bounds-give-end : goal.slice_bounds-give-end
+slice_bounds-give-end c =
     build_inside (order_of c.args.reading) c.args.least c.args.v.now (length c.args.scratch.now)
     c.args.out.now c.requires.ready c.if-scratch-v.false
     c.args.scratch.now _ _ _ c.write_type-e.ensures.typed
 
-pub slice_bounds-copy-end-2 : goal.slice_bounds-copy-end-2
-slice_bounds-copy-end-2 c =
+pub slice_bounds-give-end-2 : goal.slice_bounds-give-end-2
+slice_bounds-give-end-2 c =
     sym
     (take_length _ _
     (build_inside (order_of c.args.reading) c.args.least c.args.v.now (length c.args.scratch.now)
     c.args.out.now c.requires.ready c.if-scratch-v.false
     c.args.scratch.now _ _ _ c.write_type-e.ensures.typed))
 
-pub copy-requires : goal.copy-requires
-copy-requires c =
-    omega (
-      arith,
-      c.if-out-n.false,
-      take_length c.write_type-e.result.wrote c.write_type-e.new.out
-          (build_inside (order_of c.args.reading) c.args.least c.args.v.now (length c.args.scratch.now)
-          c.args.out.now c.requires.ready c.if-scratch-v.false
-          c.args.scratch.now _ _ _ c.write_type-e.ensures.typed),
-    )
-
 pub returns : goal.returns
 returns c =
-    build_done (order_of c.args.reading) c.args.least c.args.v.now (length c.args.scratch.now)
+    build_given (order_of c.args.reading) c.args.least c.args.v.now (length c.args.scratch.now)
     c.args.out.now c.requires.ready c.if-scratch-v.false
-    c.args.scratch.now _ _ _ c.write_type-e.ensures.typed _ c.if-out-n.false
-    c.copy.ensures
+    c.args.scratch.now _ _ _ c.write_type-e.ensures.typed _ _ c.give.ensures

@@ -23,22 +23,22 @@ returns-then-keeps c =
       spare_len_unchanged = refl;
     }
 
-pub slice_bounds-write_super-count : goal.slice_bounds-write_super-count
-slice_bounds-write_super-count c =
+pub slice_bounds-write-count : goal.slice_bounds-write-count
+slice_bounds-write-count c =
     omega (
       arith,
       both_inside c.args.out.now c.args.n c.args.m _ c.requires.sides,
     )
 
-pub slice_bounds-write_super-start : goal.slice_bounds-write_super-start
-slice_bounds-write_super-start c =
+pub slice_bounds-write-start : goal.slice_bounds-write-start
+slice_bounds-write-start c =
     omega (
       arith,
       both_inside c.args.out.now c.args.n c.args.m _ c.requires.sides,
     )
 
-pub write_super-e-requires : goal.write_super-e-requires
-write_super-e-requires c = join_ask c.args.out.now c.args.n c.args.m _ c.requires.sides (order_of c.args.reading)
+pub write-e-requires : goal.write-e-requires
+write-e-requires c = join_ask c.args.out.now c.args.n c.args.m _ c.requires.sides (order_of c.args.reading)
 
 pub slice_bounds-copy-end : goal.slice_bounds-copy-end
 slice_bounds-copy-end c =
@@ -46,9 +46,9 @@ slice_bounds-copy-end c =
     omega (
       arith,
       sup_spared args.out.now args.n args.m _ c.requires.sides (order_of args.reading) args.spare.now _ _ _ _ refl
-          c.write_super-e.ensures,
+          c.write-e.ensures,
       sup_kept args.out.now args.n args.m _ c.requires.sides (order_of args.reading) args.spare.now _ _ _ _ refl
-          c.write_super-e.ensures,
+          c.write-e.ensures,
     )
 
 pub slice_bounds-copy-end-then-least : goal.slice_bounds-copy-end-then-least
@@ -59,9 +59,9 @@ slice_bounds-copy-end-then-least c =
     (omega (
       arith,
       sup_spared args.out.now args.n args.m _ c.requires.sides (order_of args.reading) args.spare.now _ _ _ _ refl
-          c.write_super-e.ensures,
+          c.write-e.ensures,
       sup_kept args.out.now args.n args.m _ c.requires.sides (order_of args.reading) args.spare.now _ _ _ _ refl
-          c.write_super-e.ensures,
+          c.write-e.ensures,
     )))
 
 pub copy-requires : goal.copy-requires
@@ -70,14 +70,14 @@ copy-requires c =
     omega (
       arith,
       sup_inside args.out.now args.n args.m _ c.requires.sides (order_of args.reading) args.spare.now _ _ _ _ refl
-          c.write_super-e.ensures,
-      take_length c.write_super-e.result.wrote c.write_super-e.new.out
+          c.write-e.ensures,
+      take_length c.write-e.result.wrote c.write-e.new.out
           (omega (
             arith,
             sup_spared args.out.now args.n args.m _ c.requires.sides (order_of args.reading) args.spare.now _ _ _ _ refl
-                c.write_super-e.ensures,
+                c.write-e.ensures,
             sup_kept args.out.now args.n args.m _ c.requires.sides (order_of args.reading) args.spare.now _ _ _ _ refl
-                c.write_super-e.ensures,
+                c.write-e.ensures,
           )),
     )
 
@@ -85,10 +85,10 @@ pub returns-then-least : goal.returns-then-least
 returns-then-least c =
     let args = c.args in record {
       joined = joined_super args.out.now args.n args.m _ c.requires.sides (order_of args.reading) args.spare.now _ _ _ _ refl
-          c.write_super-e.ensures _ _ c.if-least.true _
+          c.write-e.ensures _ _ c.if-least.true _
           c.copy.ensures;
       spare_len_unchanged = sup_kept args.out.now args.n args.m _ c.requires.sides (order_of args.reading) args.spare.now _ _ _ _ refl
-          c.write_super-e.ensures;
+          c.write-e.ensures;
     }
 
 pub keeps-requires-2 : goal.keeps-requires-2

@@ -8,81 +8,78 @@ use Rattle.infer.proofs.Signatures.{sig_start, sig_name, sig_type, sig_to, sig_p
 use Rattle.infer.proofs.Signatures.{sig_last_room, sig_same, sig_done}
 use Rattle.infer.proofs.builder.write_signature.Goals as goal
 
-pub loop-i-init : goal.loop-i-init
-loop-i-init c = sig_start _ _ _ _ _ c.requires c.skip-k.ensures
+pub loop-init : goal.loop-init
+loop-init c = sig_start _ _ _ _ _ c.requires c.skip-k.ensures
 
 pub overflow_add-p : goal.overflow_add-p
-overflow_add-p c = omega (arith, sig_name c.loop-i.invariant c.loop-i-test.true)
+overflow_add-p c = omega (arith, sig_name c.loop.invariant c.loop-test.true)
 
 pub slice_bounds-skip-count : goal.slice_bounds-skip-count
-slice_bounds-skip-count c = sig_name c.loop-i.invariant c.loop-i-test.true
+slice_bounds-skip-count c = sig_name c.loop.invariant c.loop-test.true
 
 pub slice_bounds-skip-start : goal.slice_bounds-skip-start
-slice_bounds-skip-start c = sig_name c.loop-i.invariant c.loop-i-test.true
+slice_bounds-skip-start c = sig_name c.loop.invariant c.loop-test.true
 
 pub overflow_add-q : goal.overflow_add-q
 overflow_add-q c =
     omega (
       arith,
-      sig_type c.loop-i.invariant c.loop-i-test.true _
+      sig_type c.loop.invariant c.loop-test.true _
           c.skip-x.ensures,
     )
 
 pub slice_bounds-copy-end : goal.slice_bounds-copy-end
 slice_bounds-copy-end c =
-    sig_type c.loop-i.invariant c.loop-i-test.true _
+    sig_type c.loop.invariant c.loop-test.true _
     c.skip-x.ensures
 
-pub slice_bounds-copy-count-in-loop-i : goal.slice_bounds-copy-count-in-loop-i
-slice_bounds-copy-count-in-loop-i c = sig_to c.loop-i.invariant
+pub slice_bounds-copy-count-in-loop : goal.slice_bounds-copy-count-in-loop
+slice_bounds-copy-count-in-loop c = sig_to c.loop.invariant
 
-pub slice_bounds-copy-start-in-loop-i : goal.slice_bounds-copy-start-in-loop-i
-slice_bounds-copy-start-in-loop-i c = sig_to c.loop-i.invariant
+pub slice_bounds-copy-start-in-loop : goal.slice_bounds-copy-start-in-loop
+slice_bounds-copy-start-in-loop c = sig_to c.loop.invariant
 
 pub copy-requires : goal.copy-requires
-copy-requires c = sig_part c.loop-i.invariant c.loop-i-test.true _ c.skip-x.ensures
+copy-requires c = sig_part c.loop.invariant c.loop-test.true _ c.skip-x.ensures
 
 pub overflow_add-to : goal.overflow_add-to
 overflow_add-to c =
     omega (
       arith,
-      sig_wide c.loop-i.invariant c.loop-i-test.true _
+      sig_wide c.loop.invariant c.loop-test.true _
           c.skip-x.ensures,
     )
 
-pub loop-i-smaller : goal.loop-i-smaller
-loop-i-smaller c = omega (arith, c.loop-i-test.true)
-
-pub loop-i-preserved : goal.loop-i-preserved
-loop-i-preserved c =
-    sig_again c.loop-i.invariant c.loop-i-test.true _ c.skip-x.ensures
+pub loop-preserved : goal.loop-preserved
+loop-preserved c =
+    sig_again c.loop.invariant c.loop-test.true _ c.skip-x.ensures
     (bytes_of c.args.v.now
     c.type_inv.v)
     _ c.copy.ensures
 
 pub slice_bounds-copy-end-2 : goal.slice_bounds-copy-end-2
-slice_bounds-copy-end-2 c = sym (take_length _ _ (sig_result c.loop-i.invariant))
+slice_bounds-copy-end-2 c = sym (take_length _ _ (sig_result c.loop.invariant))
 
 pub slice_bounds-copy-count-2 : goal.slice_bounds-copy-count-2
-slice_bounds-copy-count-2 c = sig_to c.loop-i.invariant
+slice_bounds-copy-count-2 c = sig_to c.loop.invariant
 
 pub slice_bounds-copy-start-2 : goal.slice_bounds-copy-start-2
-slice_bounds-copy-start-2 c = sig_to c.loop-i.invariant
+slice_bounds-copy-start-2 c = sig_to c.loop.invariant
 
 pub copy-requires-2 : goal.copy-requires-2
-copy-requires-2 c = sig_last c.loop-i.invariant
+copy-requires-2 c = sig_last c.loop.invariant
 
 pub overflow_add-result : goal.overflow_add-result
-overflow_add-result c = omega (arith, sig_last_room c.loop-i.invariant)
+overflow_add-result c = omega (arith, sig_last_room c.loop.invariant)
 
 pub shape_of-out : goal.shape_of-out
 shape_of-out c =
-    sig_same c.loop-i.invariant c.loop-i-test.false
+    sig_same c.loop.invariant c.loop-test.false
     (bytes_of c.args.v.now c.type_inv.v) _
     c.copy-2.ensures
 
 pub returns : goal.returns
 returns c =
-    sig_done c.loop-i.invariant c.loop-i-test.false
+    sig_done c.loop.invariant c.loop-test.false
     (bytes_of c.args.v.now c.type_inv.v) _
     c.copy-2.ensures

@@ -8,22 +8,16 @@ use Rattle.infer.proofs.data.leaf.Goals as goal
 
 pub returns-in-1 : goal.returns-in-1
 returns-in-1 c =
-    let e = c.in-1.is in plain _ 1 c.leaf_size.result c.leaf_size.ensures (ap width_of e) (omega arith) (omega (arith, e)) (omega (arith, e))
+    let e = c.in-1.is in plain _ 1 _ c.leaf_size.ensures (ap width_of e) (omega arith) (omega (arith, e)) (omega (arith, e))
 
 pub returns-in-2 : goal.returns-in-2
 returns-in-2 c =
-    let e = c.in-2.is in plain _ 2 c.leaf_size-in-2.result c.leaf_size-in-2.ensures (ap width_of e) (omega arith) (omega (arith, e)) (omega (arith, e))
+    let e = c.in-2.is in plain _ 2 _ c.leaf_size-in-2.ensures (ap width_of e) (omega arith) (omega (arith, e)) (omega (arith, e))
 
 pub returns-in-3 : goal.returns-in-3
 returns-in-3 c =
-    let e = c.in-3.is in plain _ 3 c.leaf_size-in-3.result c.leaf_size-in-3.ensures (ap width_of e) (omega arith) (omega (arith, e)) (omega (arith, e))
+    let e = c.in-3.is in plain _ 3 _ c.leaf_size-in-3.ensures (ap width_of e) (omega arith) (omega (arith, e)) (omega (arith, e))
 
 pub returns-in-4-to-8 : goal.returns-in-4-to-8
 returns-in-4-to-8 c =
-    plain _ 4 c.leaf_size-in-4-to-8.result c.leaf_size-in-4-to-8.ensures (same_key _ 4 (omega arith) (omega arith) (omega arith) (omega arith)) (omega arith) (omega arith) (omega arith)
-
-pub returns-in_default : goal.returns-in_default
-returns-in_default c = (λ h. absurd (omega arith), λ z p. omega arith)
-
-pub returns-in_default-2 : goal.returns-in_default-2
-returns-in_default-2 c = (λ h. absurd (omega arith), λ z p. omega arith)
+    plain _ 4 _ c.leaf_size-in-4-to-8.ensures (same_key _ 4 (omega arith) (omega arith) (omega arith) (omega arith)) (omega arith) (omega arith) (omega arith)

@@ -227,30 +227,30 @@ retrieve_context-retrieve-requires t c =
       ),
     )
 
-pub retrieve_context-overflow_add-at-in-Yes : goal.retrieve_context-overflow_add-at-in-Yes
-retrieve_context-overflow_add-at-in-Yes t c =
+pub retrieve_context-overflow_add-at-in-loop-p : goal.retrieve_context-overflow_add-at-in-loop-p
+retrieve_context-overflow_add-at-in-loop-p t c =
     omega (
       arith,
       c.well_formed,
       both-read-v c.loop-p.invariant c.next_name-x.result c.next_name-y.result c.next_name-x.ensures.value
           c.next_name-y.ensures.value c.next_name-x.ensures.upper_bound.0 c.next_name-y.ensures.upper_bound.0 c.if-x-y.false
           c.if-y-x.false c.if-x-eq-NAME_END.false (bytes_of c.args.v.now c.shared_slice_known-2-1.given) _
-          c.min-w.ensures _ c.fill-in-loop-p.ensures _ _ _ c.retrieve.ensures _ _ _ c.in-Yes.is,
+          c.min-w.ensures _ c.fill-in-loop-p.ensures _ _ _ c.retrieve.ensures _ _ _ c.in_ok-e.was,
     )
 
-pub retrieve_context-overflow_add-bt-in-Yes : goal.retrieve_context-overflow_add-bt-in-Yes
-retrieve_context-overflow_add-bt-in-Yes t c =
+pub retrieve_context-overflow_add-bt-in-loop-p : goal.retrieve_context-overflow_add-bt-in-loop-p
+retrieve_context-overflow_add-bt-in-loop-p t c =
     omega (
       arith,
       c.well_formed,
       both-read-t c.loop-p.invariant c.next_name-x.result c.next_name-y.result c.next_name-x.ensures.value
           c.next_name-y.ensures.value c.next_name-x.ensures.upper_bound.0 c.next_name-y.ensures.upper_bound.0 c.if-x-y.false
           c.if-y-x.false c.if-x-eq-NAME_END.false (bytes_of c.args.v.now c.shared_slice_known-2-1.given) _
-          c.min-w.ensures _ c.fill-in-loop-p.ensures _ _ _ c.retrieve.ensures _ _ _ c.in-Yes.is,
+          c.min-w.ensures _ c.fill-in-loop-p.ensures _ _ _ c.retrieve.ensures _ _ _ c.in_ok-e.was,
     )
 
-pub retrieve_context-overflow_add-to-in-Yes : goal.retrieve_context-overflow_add-to-in-Yes
-retrieve_context-overflow_add-to-in-Yes t c =
+pub retrieve_context-overflow_add-to : goal.retrieve_context-overflow_add-to
+retrieve_context-overflow_add-to t c =
     omega (
       arith,
       c.well_formed,
@@ -259,30 +259,31 @@ retrieve_context-overflow_add-to-in-Yes t c =
           c.if-y-x.false c.if-x-eq-NAME_END.false,
     )
 
-pub retrieve_context-overflow_add-to-in-Yes-2 : goal.retrieve_context-overflow_add-to-in-Yes-2
-retrieve_context-overflow_add-to-in-Yes-2 t c =
+pub retrieve_context-overflow_add-to-in-loop-p-2 : goal.retrieve_context-overflow_add-to-in-loop-p-2
+retrieve_context-overflow_add-to-in-loop-p-2 t c =
     omega (
       arith,
       c.well_formed,
       both-wrote c.loop-p.invariant c.next_name-x.result c.next_name-y.result c.next_name-x.ensures.value
           c.next_name-y.ensures.value c.next_name-x.ensures.upper_bound.0 c.next_name-y.ensures.upper_bound.0 c.if-x-y.false
           c.if-y-x.false c.if-x-eq-NAME_END.false (bytes_of c.args.v.now c.shared_slice_known-2-1.given) _
-          c.min-w.ensures _ c.fill-in-loop-p.ensures _ _ _ c.retrieve.ensures _ _ _ c.in-Yes.is,
+          c.min-w.ensures _ c.fill-in-loop-p.ensures _ _ _ c.retrieve.ensures _ _ _ c.in_ok-e.was,
     )
 
-pub retrieve_context-shape_of-out-in-No : goal.retrieve_context-shape_of-out-in-No
-retrieve_context-shape_of-out-in-No t c =
+pub retrieve_context-shape_of-out-in_err-e : goal.retrieve_context-shape_of-out-in_err-e
+retrieve_context-shape_of-out-in_err-e t c =
     back_kept c.loop-p.invariant c.next_name-x.result c.next_name-y.result c.next_name-x.ensures.value
     c.next_name-y.ensures.value c.next_name-x.ensures.upper_bound.0 c.next_name-y.ensures.upper_bound.0 c.if-x-y.false
     c.if-y-x.false c.if-x-eq-NAME_END.false (bytes_of c.args.v.now c.shared_slice_known-2-1.given) _
     c.min-w.ensures _ c.fill-in-loop-p.ensures _ _ _ c.retrieve.ensures ∙ ap length c.fill.ensures ∙ length_fill _ _
 
-pub retrieve_context-returns-in-No : goal.retrieve_context-returns-in-No
-retrieve_context-returns-in-No t c =
-    common-no c.loop-p.invariant c.next_name-x.result c.next_name-y.result c.next_name-x.ensures.value
+pub retrieve_context-returns-in_err-e : goal.retrieve_context-returns-in_err-e
+retrieve_context-returns-in_err-e t c =
+    rw c.from_residual.ensures
+    (common-no c.loop-p.invariant c.next_name-x.result c.next_name-y.result c.next_name-x.ensures.value
     c.next_name-y.ensures.value c.next_name-x.ensures.upper_bound.0 c.next_name-y.ensures.upper_bound.0 c.if-x-y.false
     c.if-y-x.false c.if-x-eq-NAME_END.false (bytes_of c.args.v.now c.shared_slice_known-2-1.given) _
-    c.min-w.ensures _ c.fill-in-loop-p.ensures _ _ _ c.retrieve.ensures c.in-No.is _ c.fill.ensures
+    c.min-w.ensures _ c.fill-in-loop-p.ensures _ _ _ c.retrieve.ensures c.in_err-e.was _ c.fill.ensures)
 
 pub retrieve_context-overflow_add-j-in-loop-p : goal.retrieve_context-overflow_add-j-in-loop-p
 retrieve_context-overflow_add-j-in-loop-p t c =
@@ -310,7 +311,7 @@ retrieve_context-loop-p-preserved t c =
     common-next c.loop-p.invariant c.next_name-x.result c.next_name-y.result c.next_name-x.ensures.value
     c.next_name-y.ensures.value c.next_name-x.ensures.upper_bound.0 c.next_name-y.ensures.upper_bound.0 c.if-x-y.false
     c.if-y-x.false c.if-x-eq-NAME_END.false (bytes_of c.args.v.now c.shared_slice_known-2-1.given) _
-    c.min-w.ensures _ c.fill-in-loop-p.ensures _ _ _ c.retrieve.ensures _ _ _ c.in-Yes.is c.min-u.ensures
+    c.min-w.ensures _ c.fill-in-loop-p.ensures _ _ _ c.retrieve.ensures _ _ _ c.in_ok-e.was c.min-u.ensures
 
 pub retrieve_context-shape_of-out : goal.retrieve_context-shape_of-out
 retrieve_context-shape_of-out t c =
@@ -334,8 +335,8 @@ retrieve_list-slice_bounds-fill-end t c =
       length-take-le 3 c.args.v.now (lists c.args.left c.args.t.now c.args.v.now c.requires.ok c.requires.ok_2 c.requires.t_value.0 c.requires.t_value.1).three,
     )
 
-pub retrieve_list-loop-i-init : goal.retrieve_list-loop-i-init
-retrieve_list-loop-i-init t c =
+pub retrieve_list-loop-init : goal.retrieve_list-loop-init
+retrieve_list-loop-init t c =
     list_begins (lists c.args.left c.args.t.now c.args.v.now c.requires.ok c.requires.ok_2 c.requires.t_value.0 c.requires.t_value.1) _ c.args.out.now _
     (bytes_of c.args.v.now c.shared_slice_known-2-1.given) c.word_at-n.ensures.0
     c.fill.ensures
@@ -344,8 +345,8 @@ pub retrieve_list-retrieve-requires : goal.retrieve_list-retrieve-requires
 retrieve_list-retrieve-requires t c = (
   omega (arith, c.requires-raw.0, (lists c.args.left c.args.t.now c.args.v.now c.requires.ok c.requires.ok_2 c.requires.t_value.0 c.requires.t_value.1).level),
   (
-    type_ok c.loop-i.invariant,
-    item_ok c.loop-i.invariant c.loop-i-test.true,
+    type_ok c.loop.invariant,
+    item_ok c.loop.invariant c.loop-test.true,
   ),
 )
 
@@ -354,7 +355,7 @@ retrieve_list-overflow_add-at t c =
     omega (
       arith,
       c.well_formed,
-      item_read c.loop-i.invariant c.loop-i-test.true _ _ _ c.retrieve.ensures _ _ _ c.in-Yes.is,
+      item_read c.loop.invariant c.loop-test.true _ _ _ c.retrieve.ensures _ _ _ c.in_ok-e.was,
     )
 
 pub retrieve_list-overflow_add-to : goal.retrieve_list-overflow_add-to
@@ -362,30 +363,31 @@ retrieve_list-overflow_add-to t c =
     omega (
       arith,
       c.well_formed,
-      item_wrote c.loop-i.invariant c.loop-i-test.true _ _ _ c.retrieve.ensures _ _ _ c.in-Yes.is,
+      item_wrote c.loop.invariant c.loop-test.true _ _ _ c.retrieve.ensures _ _ _ c.in_ok-e.was,
     )
 
-pub retrieve_list-shape_of-out-in-No : goal.retrieve_list-shape_of-out-in-No
-retrieve_list-shape_of-out-in-No t c =
-    listing.back_kept c.loop-i.invariant c.loop-i-test.true _ _ _ c.retrieve.ensures ∙ list_kept c.loop-i.invariant ∙ ap length
+pub retrieve_list-shape_of-out-in_err-e : goal.retrieve_list-shape_of-out-in_err-e
+retrieve_list-shape_of-out-in_err-e t c =
+    listing.back_kept c.loop.invariant c.loop-test.true _ _ _ c.retrieve.ensures ∙ list_kept c.loop.invariant ∙ ap length
     c.fill.ensures ∙ length_fill _ _
 
-pub retrieve_list-returns-in-No : goal.retrieve_list-returns-in-No
-retrieve_list-returns-in-No t c =
-    item_no c.loop-i.invariant c.loop-i-test.true _ _ _ c.retrieve.ensures c.in-No.is _
-    c.fill.ensures
+pub retrieve_list-returns-in_err-e : goal.retrieve_list-returns-in_err-e
+retrieve_list-returns-in_err-e t c =
+    rw c.from_residual.ensures
+    (item_no c.loop.invariant c.loop-test.true _ _ _ c.retrieve.ensures c.in_err-e.was _
+    c.fill.ensures)
 
-pub retrieve_list-loop-i-preserved : goal.retrieve_list-loop-i-preserved
-retrieve_list-loop-i-preserved t c =
-    item_next c.loop-i.invariant c.loop-i-test.true _ _ _ c.retrieve.ensures _ _ _ c.in-Yes.is
+pub retrieve_list-loop-preserved : goal.retrieve_list-loop-preserved
+retrieve_list-loop-preserved t c =
+    item_next c.loop.invariant c.loop-test.true _ _ _ c.retrieve.ensures _ _ _ c.in_ok-e.was
     c.min-p.ensures
 
-pub retrieve_list-shape_of-out-then-i-eq0 : goal.retrieve_list-shape_of-out-then-i-eq0
-retrieve_list-shape_of-out-then-i-eq0 t c = list_kept c.loop-i.invariant ∙ ap length c.fill.ensures ∙ length_fill _ _
+pub retrieve_list-shape_of-out-then-n-eq0 : goal.retrieve_list-shape_of-out-then-n-eq0
+retrieve_list-shape_of-out-then-n-eq0 t c = list_kept c.loop.invariant ∙ ap length c.fill.ensures ∙ length_fill _ _
 
-pub retrieve_list-returns-then-i-eq0 : goal.retrieve_list-returns-then-i-eq0
-retrieve_list-returns-then-i-eq0 t c =
-    list_none c.loop-i.invariant c.loop-i-test.false _ c.skip.ensures _
+pub retrieve_list-returns-then-n-eq0 : goal.retrieve_list-returns-then-n-eq0
+retrieve_list-returns-then-n-eq0 t c =
+    list_none c.loop.invariant c.loop-test.false _ c.skip.ensures _
     c.fill.ensures
 
 pub retrieve_list-overflow_add-result : goal.retrieve_list-overflow_add-result
@@ -393,13 +395,13 @@ retrieve_list-overflow_add-result t c =
     omega (
       arith,
       c.well_formed,
-      list_type_lem c.loop-i.invariant (omega (arith, c.if-i-eq0.false)),
+      list_type_lem c.loop.invariant (omega (arith, c.if-n-eq0.false)),
     )
 
 pub retrieve_list-shape_of-out : goal.retrieve_list-shape_of-out
-retrieve_list-shape_of-out t c = list_kept c.loop-i.invariant ∙ ap length c.fill.ensures ∙ length_fill _ _
+retrieve_list-shape_of-out t c = list_kept c.loop.invariant ∙ ap length c.fill.ensures ∙ length_fill _ _
 
 pub retrieve_list-returns : goal.retrieve_list-returns
 retrieve_list-returns t c =
-    list_done c.loop-i.invariant c.loop-i-test.false (omega (arith, c.if-i-eq0.false)) _
+    list_done c.loop.invariant c.loop-test.false (omega (arith, c.if-n-eq0.false)) _
     c.fill.ensures

@@ -19,8 +19,5 @@ invariant-retrieve_context-loop-p l = ContextInv l.left l.t l.m l.v l.n l.initia
 abbrev pub decreases-retrieve_context-loop-p : goal.decreases-retrieve_context-loop-p
 decreases-retrieve_context-loop-p l = (l.n - l.i) + (l.m - l.j)
 
-abbrev pub invariant-retrieve_list-loop-i : goal.invariant-retrieve_list-loop-i
-invariant-retrieve_list-loop-i l = ListInv l.left l.t l.v l.n l.initial.out l.out l.at l.to l.bt l.i
-
-abbrev pub decreases-retrieve_list-loop-i : goal.decreases-retrieve_list-loop-i
-decreases-retrieve_list-loop-i l = l.n - l.i
+abbrev pub invariant-retrieve_list-loop : goal.invariant-retrieve_list-loop
+invariant-retrieve_list-loop l = ListInv l.left l.t l.v l.n l.initial.out l.out l.at l.to l.bt l.counter

@@ -14,23 +14,22 @@ retrieve-requires c =
 
 pub slice_bounds-give-end : goal.slice_bounds-give-end
 slice_bounds-give-end c =
-    call_room c.args.t.now c.args.v.now c.requires.accepted c.args.out.now _ _ _ c.retrieve.ensures _ _ _ c.in-Yes.is
+    call_room c.args.t.now c.args.v.now c.requires.accepted c.args.out.now _ _ _ c.retrieve.ensures _ _ _ c.in-Some.is
     c.requires.v_in_bounds
 
-pub slice_bounds-give-end-in-Yes : goal.slice_bounds-give-end-in-Yes
-slice_bounds-give-end-in-Yes c =
+pub slice_bounds-give-end-in-Some : goal.slice_bounds-give-end-in-Some
+slice_bounds-give-end-in-Some c =
     simp length-take
     (omega (
       arith,
       call_room c.args.t.now c.args.v.now c.requires.accepted c.args.out.now _ _ _ c.retrieve.ensures _ _ _
-          c.in-Yes.is c.requires.v_in_bounds,
+          c.in-Some.is c.requires.v_in_bounds,
     ))
 
-pub returns-in-No : goal.returns-in-No
-returns-in-No c =
-    call_err c.args.t.now c.args.v.now c.requires.accepted c.args.out.now _ _ _ c.retrieve.ensures c.in-No.is
+pub returns-in-None : goal.returns-in-None
+returns-in-None c = call_err c.args.t.now c.args.v.now c.requires.accepted c.args.out.now _ _ _ c.retrieve.ensures c.in-None.is
 
-pub returns-in-Yes : goal.returns-in-Yes
-returns-in-Yes c =
+pub returns-in-Some : goal.returns-in-Some
+returns-in-Some c =
     call_done c.args.t.now c.args.v.now c.requires.accepted c.args.out.now _ _ _ c.retrieve.ensures _
-    _ _ c.in-Yes.is c.requires.v_in_bounds _ _ c.give.ensures
+    _ _ c.in-Some.is c.requires.v_in_bounds _ _ c.give.ensures

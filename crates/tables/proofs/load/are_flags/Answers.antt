@@ -1,22 +1,15 @@
--- `tables::load::are_flags` meets its contract: what is left of the bytes decides what all of them decide (`Flags`).
+-- `tables::load::are_flags` meets its contract: the definition tests the bytes one by one.
 -- Assumes nothing.
-use Rattle.tables.proofs.Loops.{flags_start, flags_fails, flags_next, flags_end}
-use native.Mathlib.Omega.{arith}
+use Rattle.std.proofs.Common.{◌∙◌, ◌&&◌, refl, rules, tests, ltb}
+use Rattle.std.specs.List.{list_all}
+use Rattle.std.proofs.lemmas.Iterator.{YieldsList-from_slice}
+use Rattle.std.proofs.lemmas.Iterator.Search.{all_from_yields_List}
+use Rattle.std.proofs.lemmas.List.Recursion.{same_from_clauses}
+use Rattle.order.specs.Table.{are_flags}
 use Rattle.tables.proofs.load.are_flags.Goals as goal
 
-pub loop-i-init : goal.loop-i-init
-loop-i-init c = flags_start c.args.table.now
-
-pub returns-then-table-i-gt1 : goal.returns-then-table-i-gt1
-returns-then-table-i-gt1 c =
-    flags_fails c.args.table.now c.loop-i.i c.loop-i.invariant c.loop-i-test.true c.if-table-i-gt1.true
-
-pub loop-i-smaller : goal.loop-i-smaller
-loop-i-smaller c = omega (arith, c.loop-i-test.true)
-
-pub loop-i-preserved : goal.loop-i-preserved
-loop-i-preserved c =
-    flags_next c.args.table.now c.loop-i.i c.loop-i.invariant c.loop-i-test.true c.if-table-i-gt1.false
-
 pub returns : goal.returns
-returns c = flags_end c.args.table.now c.loop-i.i c.loop-i.invariant c.loop-i-test.false
+unfolding are_flags
+returns c =
+    all_from_yields_List (λ b. ltb b 2) _ _ _ c.all.ensures.ran (YieldsList-from_slice c.args.table.now cc) (λ x b q k. search (rules, tests))
+    ∙ same_from_clauses (list_all (λ b. ltb b 2)) are_flags (λ x q. ltb x 2 && q) refl (λ x xs. refl) (λ x xs. refl) c.args.table.now

@@ -1,46 +1,21 @@
--- `tables::load::pack` meets its contract: 64 bits, the highest first (`Packing`).
+-- `tables::load::pack` meets its contract: the number so far has the bits so far, whatever the later ones are.
 -- Assumes nothing.
-use Rattle.tables.proofs.Loops.{packing_start, packing_room, packing_next, packing_end}
-use Rattle.order.specs.Table.{place}
-use Rattle.order.proofs.Packed.{place_lt}
-use Prim.Native.Nat.{◌-◌}
-use native.Mathlib.Omega.{arith}
+use Rattle.std.proofs.Common.{◌≡◌, ◌<◌, ◌+◌, ◌%◌, ◌^◌, cond, refl, arith, ◌∙◌}
+use Rattle.order.specs.Table.{pack}
+use Rattle.tables.proofs.Loops.{packed_more, packed_small}
+use Rattle.tables.proofs.load.pack.Goals.{then-flag, else-flag}
 use Rattle.tables.proofs.load.pack.Goals as goal
 
 pub loop-k-init : goal.loop-k-init
-loop-k-init c = packing_start (place c.args.table.now) 64
-
-pub overflow_mul-n : goal.overflow_mul-n
-overflow_mul-n c =
-    record {
-      fits = omega (
-        arith,
-        packing_room c.loop-k.invariant (place_lt c.args.table.now c.requires.1) c.loop-k-test.true
-            (omega arith),
-      );
-    }
-
-pub place-requires : goal.place-requires
-place-requires c = (c.requires.0, omega (arith, c.loop-k.invariant.within, c.loop-k-test.true), c.requires.1)
-
-pub overflow_add-n : goal.overflow_add-n
-overflow_add-n c =
-    record {
-      fits = omega (
-        arith,
-        packing_room c.loop-k.invariant (place_lt c.args.table.now c.requires.1) c.loop-k-test.true (omega arith),
-        c.place.ensures,
-        place_lt c.args.table.now c.requires.1 (c.loop-k.k - 1),
-      );
-    }
-
-pub loop-k-smaller : goal.loop-k-smaller
-loop-k-smaller c = omega (arith, c.loop-k-test.true)
+unfolding pack
+loop-k-init g c = record { small = omega arith; same = λ f h. refl }
 
 pub loop-k-preserved : goal.loop-k-preserved
-loop-k-preserved c =
-    packing_next c.loop-k.invariant (place_lt c.args.table.now c.requires.1) c.loop-k-test.true c.place.result
-    c.place.ensures
-
-pub returns : goal.returns
-returns c = packing_end c.loop-k.invariant c.loop-k-test.false
+loop-k-preserved g c =
+    let v = c.loop-k.invariant in
+    let room : c.loop-k.k < 64 = omega (arith, c.requires.room) in
+    let sum : c.if-flag.n ≡ c.loop-k.n + cond c.flag.result (2 ^ c.loop-k.k % 2 ^ 64) 0 = elim c.if-flag.branch [ then-flag w ↦ grind arith | else-flag w ↦ grind arith ] in
+    record {
+      small = rw sum (packed_small c.flag.result c.loop-k.n c.loop-k.k v.small room);
+      same = λ f h. sum ∙ packed_more f c.flag.result c.loop-k.n c.loop-k.k (v.same f h) v.small room (h c.loop-k.k c.flag.result c.loop-k-test.true c.flag.ensures);
+    }

@@ -28,7 +28,7 @@ use Rattle.types.proofs.compare.+conform_fields_conform_inner_conform_sig_confor
 use Rattle.types.proofs.compare.+conform_fields_conform_inner_conform_sig_conforms.Goals.{conform_fields-else-j-m, conform_sig-Joined-count-eq0}
 use Rattle.types.proofs.compare.+conform_fields_conform_inner_conform_sig_conforms.Goals.{conform_sig-then-count-eq0+else-not-is_strict, conform_sig-else-count-eq0}
 
-there : (t : ℕ) (c : conform_fields-Joined-j-m t) → c.loop-i.j < c.args.m → c.loop-i.bt + name_width ≤ length c.args.b.now
+there : (t : ℕ) (c : conform_fields-Joined-j-m t) → c.loop.j < c.args.m → c.loop.bt + name_width ≤ length c.args.b.now
 there t c h =
     elim c.if-j-m.branch [
       | conform_fields-then-j-m+else-b-bt-lt-NAME_WIDTH w ↦ omega (arith, w.if-b-bt-lt-NAME_WIDTH.false, h)
@@ -43,30 +43,30 @@ looked_at t c =
       | conform_sig-else-count-eq0 w ↦ compared_some (order_of c.args.reading) c.args.count w.if-count-eq0.false
     ]
 
-pub conform_fields-loop-i-init : goal.conform_fields-loop-i-init
-conform_fields-loop-i-init t c =
+pub conform_fields-loop-init : goal.conform_fields-loop-init
+conform_fields-loop-init t c =
     let args = c.args in
     names_start (fields_run args.left) (fields_tests (le (order_of args.reading))) args.left args.a.now
     args.n args.b.now args.m
 
 pub conform_fields-overflow_sub-a : goal.conform_fields-overflow_sub-a
-conform_fields-overflow_sub-a t c = omega (arith, c.loop-i.invariant)
+conform_fields-overflow_sub-a t c = omega (arith, c.loop.invariant)
 
 pub conform_fields-returns-then-a-at-lt-NAME_WIDTH : goal.conform_fields-returns-then-a-at-lt-NAME_WIDTH
-conform_fields-returns-then-a-at-lt-NAME_WIDTH t c = cut_a c.loop-i.invariant 3 _ c.loop-i-test.true c.if-a-at-lt-NAME_WIDTH.true
+conform_fields-returns-then-a-at-lt-NAME_WIDTH t c = cut_a c.loop.invariant 3 _ c.loop-test.true c.if-a-at-lt-NAME_WIDTH.true
 
 pub conform_fields-returns-then-name-least : goal.conform_fields-returns-then-name-least
 conform_fields-returns-then-name-least t c =
-    falls_a c.loop-i.invariant 3 _
-    c.loop-i-test.true c.name_at-name.result
+    falls_a c.loop.invariant 3 _
+    c.loop-test.true c.name_at-name.result
     c.name_at-name.ensures.0 c.if-name-least.true
 
 pub conform_fields-overflow_sub-b : goal.conform_fields-overflow_sub-b
-conform_fields-overflow_sub-b t c = omega (arith, c.loop-i.invariant)
+conform_fields-overflow_sub-b t c = omega (arith, c.loop.invariant)
 
 pub conform_fields-returns-then-b-bt-lt-NAME_WIDTH : goal.conform_fields-returns-then-b-bt-lt-NAME_WIDTH
 conform_fields-returns-then-b-bt-lt-NAME_WIDTH t c =
-    cut_b c.loop-i.invariant 3 _ c.if-j-m.true
+    cut_b c.loop.invariant 3 _ c.if-j-m.true
     c.if-b-bt-lt-NAME_WIDTH.true
 
 pub conform_fields-next_name-next-requires : goal.conform_fields-next_name-next-requires
@@ -74,47 +74,47 @@ conform_fields-next_name-next-requires t c = there t (goal.at.conform_fields-nex
 
 pub conform_fields-returns-then-next-name : goal.conform_fields-returns-then-next-name
 conform_fields-returns-then-next-name t c =
-    names_missing c.loop-i.invariant 3 _ c.loop-i-test.true
-    (omega (arith, c.loop-i.invariant, c.if-a-at-lt-NAME_WIDTH.false)) c.name_at-name.result
+    names_missing c.loop.invariant 3 _ c.loop-test.true
+    (omega (arith, c.loop.invariant, c.if-a-at-lt-NAME_WIDTH.false)) c.name_at-name.result
     c.next_name-next.result c.name_at-name.ensures.0 c.if-name-least.false
     c.name_at-name.ensures.1 c.next_name-next.ensures.value c.if-next-name.true
 
 pub conform_fields-returns-then-k-eq0 : goal.conform_fields-returns-then-k-eq0
 conform_fields-returns-then-k-eq0 t c =
-    names_unread c.loop-i.invariant 3 _ c.loop-i-test.true
-    (omega (arith, c.loop-i.invariant, c.if-a-at-lt-NAME_WIDTH.false)) c.name_at-name.result c.next_name-next.result
+    names_unread c.loop.invariant 3 _ c.loop-test.true
+    (omega (arith, c.loop.invariant, c.if-a-at-lt-NAME_WIDTH.false)) c.name_at-name.result c.next_name-next.result
     c.name_at-name.ensures.0 c.if-name-least.false c.name_at-name.ensures.1
     c.next_name-next.ensures.value
     (unsized_part c.args.left c.args.a.now
-    (c.loop-i.at + name_width) c.skip-k.result c.skip-k.ensures c.if-k-eq0.true)
+    (c.loop.at + name_width) c.skip-k.result c.skip-k.ensures c.if-k-eq0.true)
 
 pub conform_fields-overflow_add-at : goal.conform_fields-overflow_add-at
 conform_fields-overflow_add-at t c =
     omega (
       arith,
       let args = c.args in
-          sized_in (readable_type args.left) args.a.now (c.loop-i.at + name_width)
-          c.skip-k.result (omega (arith, c.loop-i.invariant, c.if-a-at-lt-NAME_WIDTH.false))
-          (sized_part args.left args.a.now (c.loop-i.at + name_width) c.skip-k.result
+          sized_in (readable_type args.left) args.a.now (c.loop.at + name_width)
+          c.skip-k.result (omega (arith, c.loop.invariant, c.if-a-at-lt-NAME_WIDTH.false))
+          (sized_part args.left args.a.now (c.loop.at + name_width) c.skip-k.result
           c.skip-k.ensures c.if-k-eq0.false),
     )
 
-pub conform_fields-loop-i-preserved-then-name-next : goal.conform_fields-loop-i-preserved-then-name-next
-conform_fields-loop-i-preserved-then-name-next t c =
-    names_skip c.loop-i.invariant 3 0 c.loop-i-test.true
-    (omega (arith, c.loop-i.invariant, c.if-a-at-lt-NAME_WIDTH.false)) c.name_at-name.result c.next_name-next.result
+pub conform_fields-loop-preserved-then-name-next : goal.conform_fields-loop-preserved-then-name-next
+conform_fields-loop-preserved-then-name-next t c =
+    names_skip c.loop.invariant 3 0 c.loop-test.true
+    (omega (arith, c.loop.invariant, c.if-a-at-lt-NAME_WIDTH.false)) c.name_at-name.result c.next_name-next.result
     c.name_at-name.ensures.0 c.if-name-least.false c.name_at-name.ensures.1
     c.next_name-next.ensures.value c.if-name-next.true c.skip-k.result
     (sized_part c.args.left c.args.a.now
-    (c.loop-i.at + name_width) c.skip-k.result c.skip-k.ensures c.if-k-eq0.false)
+    (c.loop.at + name_width) c.skip-k.result c.skip-k.ensures c.if-k-eq0.false)
 
 pub conform_fields-overflow_add-q : goal.conform_fields-overflow_add-q
 conform_fields-overflow_add-q t c =
     omega (
       arith,
       (there t (goal.at.conform_fields-overflow_add-q t c).Joined-j-m
-          (b_more c.loop-i.invariant 3 0 c.loop-i-test.true
-          (omega (arith, c.loop-i.invariant, c.if-a-at-lt-NAME_WIDTH.false)) c.name_at-name.result
+          (b_more c.loop.invariant 3 0 c.loop-test.true
+          (omega (arith, c.loop.invariant, c.if-a-at-lt-NAME_WIDTH.false)) c.name_at-name.result
           c.next_name-next.result c.name_at-name.ensures.0 c.if-name-least.false
           c.name_at-name.ensures.1 c.next_name-next.ensures.value c.if-name-next.false c.if-next-name.false)),
     )
@@ -123,39 +123,39 @@ pub conform_fields-overflow_add-j : goal.conform_fields-overflow_add-j
 conform_fields-overflow_add-j t c =
     omega (
       arith,
-      (b_more c.loop-i.invariant 3 0 c.loop-i-test.true
-          (omega (arith, c.loop-i.invariant, c.if-a-at-lt-NAME_WIDTH.false)) c.name_at-name.result
+      (b_more c.loop.invariant 3 0 c.loop-test.true
+          (omega (arith, c.loop.invariant, c.if-a-at-lt-NAME_WIDTH.false)) c.name_at-name.result
           c.next_name-next.result c.name_at-name.ensures.0 c.if-name-least.false
           c.name_at-name.ensures.1 c.next_name-next.ensures.value c.if-name-next.false c.if-next-name.false),
     )
 
-pub conform_fields-same_simple-k-requires : goal.conform_fields-same_simple-k-requires
-conform_fields-same_simple-k-requires t c =
-    let loop-inv = c.loop-i.invariant in (
+pub conform_fields-same_simple-requires : goal.conform_fields-same_simple-requires
+conform_fields-same_simple-requires t c =
+    let loop-inv = c.loop.invariant in (
       omega (arith, loop-inv, c.if-a-at-lt-NAME_WIDTH.false),
-      (there t (goal.at.conform_fields-same_simple-k-requires t c).Joined-j-m
-          (b_more loop-inv 3 0 c.loop-i-test.true
+      (there t (goal.at.conform_fields-same_simple-requires t c).Joined-j-m
+          (b_more loop-inv 3 0 c.loop-test.true
           (omega (arith, loop-inv, c.if-a-at-lt-NAME_WIDTH.false)) c.name_at-name.result c.next_name-next.result
           c.name_at-name.ensures.0 c.if-name-least.false c.name_at-name.ensures.1
           c.next_name-next.ensures.value c.if-name-next.false c.if-next-name.false)),
     )
 
-pub conform_fields-overflow_add-at-then-k-ne0 : goal.conform_fields-overflow_add-at-then-k-ne0
-conform_fields-overflow_add-at-then-k-ne0 t c =
+pub conform_fields-overflow_add-at-in-Some : goal.conform_fields-overflow_add-at-in-Some
+conform_fields-overflow_add-at-in-Some t c =
     omega (
       arith,
       let args = c.args in
-          let loop = c.loop-i in
+          let loop = c.loop in
           pair_in (readable_type args.left) (readable_type args.left) (le (order_of args.reading)) args.a.now
-          (loop.at + name_width) args.b.now (loop.bt + name_width) c.same_simple-k.result
-          c.same_simple-k.result (omega (arith, loop.invariant, c.if-a-at-lt-NAME_WIDTH.false))
-          (there t (goal.at.conform_fields-overflow_add-at-then-k-ne0 t c).Joined-j-m
-          (b_more loop.invariant 3 0 c.loop-i-test.true (omega (arith, loop.invariant, c.if-a-at-lt-NAME_WIDTH.false))
+          (loop.at + name_width) args.b.now (loop.bt + name_width) c.in-Some.k
+          c.in-Some.k (omega (arith, loop.invariant, c.if-a-at-lt-NAME_WIDTH.false))
+          (there t (goal.at.conform_fields-overflow_add-at-in-Some t c).Joined-j-m
+          (b_more loop.invariant 3 0 c.loop-test.true (omega (arith, loop.invariant, c.if-a-at-lt-NAME_WIDTH.false))
           c.name_at-name.result c.next_name-next.result c.name_at-name.ensures.0 c.if-name-least.false
           c.name_at-name.ensures.1 c.next_name-next.ensures.value c.if-name-next.false
           c.if-next-name.false))
           (simple_pair (reading_ends args.reading) args.left args.a.now (loop.at + name_width) args.b.now (loop.bt + name_width)
-          c.same_simple-k.result c.same_simple-k.ensures c.if-k-ne0.true),
+          c.in-Some.k c.in-Some.ensures.0 (λ z. omega (arith, z, c.in-Some.ensures.1))),
     )
 
 pub conform_fields-overflow_add-bt : goal.conform_fields-overflow_add-bt
@@ -163,79 +163,78 @@ conform_fields-overflow_add-bt t c =
     omega (
       arith,
       let args = c.args in
-          let loop = c.loop-i in
+          let loop = c.loop in
           pair_in (readable_type args.left) (readable_type args.left) (le (order_of args.reading)) args.a.now
-          (loop.at + name_width) args.b.now (loop.bt + name_width) c.same_simple-k.result
-          c.same_simple-k.result (omega (arith, loop.invariant, c.if-a-at-lt-NAME_WIDTH.false))
+          (loop.at + name_width) args.b.now (loop.bt + name_width) c.in-Some.k
+          c.in-Some.k (omega (arith, loop.invariant, c.if-a-at-lt-NAME_WIDTH.false))
           (there t (goal.at.conform_fields-overflow_add-bt t c).Joined-j-m
-          (b_more loop.invariant 3 0 c.loop-i-test.true (omega (arith, loop.invariant, c.if-a-at-lt-NAME_WIDTH.false))
+          (b_more loop.invariant 3 0 c.loop-test.true (omega (arith, loop.invariant, c.if-a-at-lt-NAME_WIDTH.false))
           c.name_at-name.result c.next_name-next.result c.name_at-name.ensures.0 c.if-name-least.false
           c.name_at-name.ensures.1 c.next_name-next.ensures.value c.if-name-next.false
           c.if-next-name.false))
           (simple_pair (reading_ends args.reading) args.left args.a.now (loop.at + name_width) args.b.now (loop.bt + name_width)
-          c.same_simple-k.result c.same_simple-k.ensures c.if-k-ne0.true),
+          c.in-Some.k c.in-Some.ensures.0 (λ z. omega (arith, z, c.in-Some.ensures.1))),
     )
 
-pub conform_fields-loop-i-preserved-then-k-ne0 : goal.conform_fields-loop-i-preserved-then-k-ne0
-conform_fields-loop-i-preserved-then-k-ne0 t c =
+pub conform_fields-loop-preserved-in-Some : goal.conform_fields-loop-preserved-in-Some
+conform_fields-loop-preserved-in-Some t c =
     let args = c.args in
-    names_common c.loop-i.invariant 3 0 c.loop-i-test.true
-    (omega (arith, c.loop-i.invariant, c.if-a-at-lt-NAME_WIDTH.false)) c.name_at-name.result c.next_name-next.result
+    names_common c.loop.invariant 3 0 c.loop-test.true
+    (omega (arith, c.loop.invariant, c.if-a-at-lt-NAME_WIDTH.false)) c.name_at-name.result c.next_name-next.result
     c.name_at-name.ensures.0 c.if-name-least.false c.name_at-name.ensures.1 c.next_name-next.ensures.value
     c.if-name-next.false c.if-next-name.false
-    (there t (goal.at.conform_fields-loop-i-preserved-then-k-ne0 t c).Joined-j-m
-    (b_more c.loop-i.invariant 3 0 c.loop-i-test.true
-    (omega (arith, c.loop-i.invariant, c.if-a-at-lt-NAME_WIDTH.false)) c.name_at-name.result c.next_name-next.result
+    (there t (goal.at.conform_fields-loop-preserved-in-Some t c).Joined-j-m
+    (b_more c.loop.invariant 3 0 c.loop-test.true
+    (omega (arith, c.loop.invariant, c.if-a-at-lt-NAME_WIDTH.false)) c.name_at-name.result c.next_name-next.result
     c.name_at-name.ensures.0 c.if-name-least.false c.name_at-name.ensures.1 c.next_name-next.ensures.value
     c.if-name-next.false c.if-next-name.false))
-    c.same_simple-k.result c.same_simple-k.result
-    (simple_pair (reading_ends args.reading) args.left args.a.now (c.loop-i.at + name_width) args.b.now
-    (c.loop-i.bt + name_width) c.same_simple-k.result c.same_simple-k.ensures
-    c.if-k-ne0.true)
+    c.in-Some.k c.in-Some.k
+    (simple_pair (reading_ends args.reading) args.left args.a.now (c.loop.at + name_width) args.b.now
+    (c.loop.bt + name_width) c.in-Some.k c.in-Some.ensures.0 (λ z. omega (arith, z, c.in-Some.ensures.1)))
 
-pub conform_fields-slice_bounds-conforms-count-in-loop-i : goal.conform_fields-slice_bounds-conforms-count-in-loop-i
-conform_fields-slice_bounds-conforms-count-in-loop-i t c =
+pub conform_fields-slice_bounds-conforms-count-in-loop : goal.conform_fields-slice_bounds-conforms-count-in-loop
+conform_fields-slice_bounds-conforms-count-in-loop t c =
     omega (
       arith,
-      (there t (goal.at.conform_fields-slice_bounds-conforms-count-in-loop-i t c).Joined-j-m
-          (b_more c.loop-i.invariant 3 0 c.loop-i-test.true
-          (omega (arith, c.loop-i.invariant, c.if-a-at-lt-NAME_WIDTH.false)) c.name_at-name.result
+      (there t (goal.at.conform_fields-slice_bounds-conforms-count-in-loop t c).Joined-j-m
+          (b_more c.loop.invariant 3 0 c.loop-test.true
+          (omega (arith, c.loop.invariant, c.if-a-at-lt-NAME_WIDTH.false)) c.name_at-name.result
           c.next_name-next.result c.name_at-name.ensures.0 c.if-name-least.false
           c.name_at-name.ensures.1 c.next_name-next.ensures.value c.if-name-next.false c.if-next-name.false)),
     )
 
-pub conform_fields-slice_bounds-conforms-start-in-loop-i : goal.conform_fields-slice_bounds-conforms-start-in-loop-i
-conform_fields-slice_bounds-conforms-start-in-loop-i t c =
+pub conform_fields-slice_bounds-conforms-start-in-loop : goal.conform_fields-slice_bounds-conforms-start-in-loop
+conform_fields-slice_bounds-conforms-start-in-loop t c =
     omega (
       arith,
-      (there t (goal.at.conform_fields-slice_bounds-conforms-start-in-loop-i t c).Joined-j-m
-          (b_more c.loop-i.invariant 3 0 c.loop-i-test.true
-          (omega (arith, c.loop-i.invariant, c.if-a-at-lt-NAME_WIDTH.false)) c.name_at-name.result
+      (there t (goal.at.conform_fields-slice_bounds-conforms-start-in-loop t c).Joined-j-m
+          (b_more c.loop.invariant 3 0 c.loop-test.true
+          (omega (arith, c.loop.invariant, c.if-a-at-lt-NAME_WIDTH.false)) c.name_at-name.result
           c.next_name-next.result c.name_at-name.ensures.0 c.if-name-least.false
           c.name_at-name.ensures.1 c.next_name-next.ensures.value c.if-name-next.false c.if-next-name.false)),
     )
 
 pub conform_fields-returns-then-x-eq0 : goal.conform_fields-returns-then-x-eq0
 conform_fields-returns-then-x-eq0 t c =
-    names_apart c.loop-i.invariant 3 _ c.loop-i-test.true
-    (omega (arith, c.loop-i.invariant, c.if-a-at-lt-NAME_WIDTH.false))
+    names_apart c.loop.invariant 3 _ c.loop-test.true
+    (omega (arith, c.loop.invariant, c.if-a-at-lt-NAME_WIDTH.false))
     c.name_at-name.result c.next_name-next.result c.name_at-name.ensures.0 c.if-name-least.false
     c.name_at-name.ensures.1 c.next_name-next.ensures.value c.if-name-next.false c.if-next-name.false
     c.conforms-x.result c.conforms-x.new.other c.conforms-x.ensures
     c.if-x-eq0.true
 
-pub conform_fields-overflow_add-at-in-loop-i : goal.conform_fields-overflow_add-at-in-loop-i
-conform_fields-overflow_add-at-in-loop-i t c =
+pub conform_fields-overflow_add-at-in-loop : goal.conform_fields-overflow_add-at-in-loop
+conform_fields-overflow_add-at-in-loop t c =
     omega (
       arith,
       let args = c.args in
-          let loop = c.loop-i in
+          let loop = c.loop in
           let conforms = c.conforms-x in
           pair_in (readable_type args.left) (readable_type args.left) (le (order_of args.reading)) args.a.now
           (loop.at + name_width) args.b.now (loop.bt + name_width) conforms.result
           conforms.new.other (omega (arith, loop.invariant, c.if-a-at-lt-NAME_WIDTH.false))
-          (there t (goal.at.conform_fields-overflow_add-at-in-loop-i t c).Joined-j-m
-          (b_more loop.invariant 3 0 c.loop-i-test.true
+          (there t (goal.at.conform_fields-overflow_add-at-in-loop t c).Joined-j-m
+          (b_more loop.invariant 3 0 c.loop-test.true
           (omega (arith, loop.invariant, c.if-a-at-lt-NAME_WIDTH.false)) c.name_at-name.result c.next_name-next.result
           c.name_at-name.ensures.0 c.if-name-least.false c.name_at-name.ensures.1
           c.next_name-next.ensures.value c.if-name-next.false c.if-next-name.false))
@@ -244,17 +243,17 @@ conform_fields-overflow_add-at-in-loop-i t c =
           conforms.new.other conforms.ensures c.if-x-eq0.false),
     )
 
-pub conform_fields-overflow_add-bt-in-loop-i : goal.conform_fields-overflow_add-bt-in-loop-i
-conform_fields-overflow_add-bt-in-loop-i t c =
+pub conform_fields-overflow_add-bt-in-loop : goal.conform_fields-overflow_add-bt-in-loop
+conform_fields-overflow_add-bt-in-loop t c =
     omega (
       arith,
       let args = c.args in
-          let loop = c.loop-i in
+          let loop = c.loop in
           pair_in (readable_type args.left) (readable_type args.left) (le (order_of args.reading)) args.a.now
           (loop.at + name_width) args.b.now (loop.bt + name_width) c.conforms-x.result
           c.conforms-x.new.other (omega (arith, loop.invariant, c.if-a-at-lt-NAME_WIDTH.false))
-          (there t (goal.at.conform_fields-overflow_add-bt-in-loop-i t c).Joined-j-m
-          (b_more loop.invariant 3 0 c.loop-i-test.true
+          (there t (goal.at.conform_fields-overflow_add-bt-in-loop t c).Joined-j-m
+          (b_more loop.invariant 3 0 c.loop-test.true
           (omega (arith, loop.invariant, c.if-a-at-lt-NAME_WIDTH.false)) c.name_at-name.result c.next_name-next.result
           c.name_at-name.ensures.0 c.if-name-least.false c.name_at-name.ensures.1
           c.next_name-next.ensures.value c.if-name-next.false c.if-next-name.false))
@@ -263,49 +262,49 @@ conform_fields-overflow_add-bt-in-loop-i t c =
           c.conforms-x.new.other c.conforms-x.ensures c.if-x-eq0.false),
     )
 
-pub conform_fields-loop-i-preserved : goal.conform_fields-loop-i-preserved
-conform_fields-loop-i-preserved t c =
+pub conform_fields-loop-preserved : goal.conform_fields-loop-preserved
+conform_fields-loop-preserved t c =
     let args = c.args in
-    names_common c.loop-i.invariant 3 0 c.loop-i-test.true
-    (omega (arith, c.loop-i.invariant, c.if-a-at-lt-NAME_WIDTH.false)) c.name_at-name.result c.next_name-next.result
+    names_common c.loop.invariant 3 0 c.loop-test.true
+    (omega (arith, c.loop.invariant, c.if-a-at-lt-NAME_WIDTH.false)) c.name_at-name.result c.next_name-next.result
     c.name_at-name.ensures.0 c.if-name-least.false c.name_at-name.ensures.1
     c.next_name-next.ensures.value c.if-name-next.false c.if-next-name.false
-    (there t (goal.at.conform_fields-loop-i-preserved t c).Joined-j-m
-    (b_more c.loop-i.invariant 3 0 c.loop-i-test.true
-    (omega (arith, c.loop-i.invariant, c.if-a-at-lt-NAME_WIDTH.false)) c.name_at-name.result c.next_name-next.result
+    (there t (goal.at.conform_fields-loop-preserved t c).Joined-j-m
+    (b_more c.loop.invariant 3 0 c.loop-test.true
+    (omega (arith, c.loop.invariant, c.if-a-at-lt-NAME_WIDTH.false)) c.name_at-name.result c.next_name-next.result
     c.name_at-name.ensures.0 c.if-name-least.false c.name_at-name.ensures.1
     c.next_name-next.ensures.value c.if-name-next.false c.if-next-name.false))
     c.conforms-x.result c.conforms-x.new.other
     (pair (readable_type args.left) (readable_type args.left) (le (order_of args.reading)) args.a.now
-    (c.loop-i.at + name_width) args.b.now (c.loop-i.bt + name_width) c.conforms-x.result
+    (c.loop.at + name_width) args.b.now (c.loop.bt + name_width) c.conforms-x.result
     c.conforms-x.new.other c.conforms-x.ensures c.if-x-eq0.false)
 
 pub conform_fields-returns-then-j-m-2 : goal.conform_fields-returns-then-j-m-2
-conform_fields-returns-then-j-m-2 t c = names_left c.loop-i.invariant 3 _ c.loop-i-test.false c.if-j-m-2.true
+conform_fields-returns-then-j-m-2 t c = names_left c.loop.invariant 3 _ c.loop-test.false c.if-j-m-2.true
 
 pub conform_fields-overflow_add-other : goal.conform_fields-overflow_add-other
-conform_fields-overflow_add-other t c = omega (arith, c.loop-i.invariant, c.requires-raw)
+conform_fields-overflow_add-other t c = omega (arith, c.loop.invariant, c.requires-raw)
 
 pub conform_fields-overflow_add-result : goal.conform_fields-overflow_add-result
-conform_fields-overflow_add-result t c = omega (arith, c.loop-i.invariant, c.requires-raw)
+conform_fields-overflow_add-result t c = omega (arith, c.loop.invariant, c.requires-raw)
 
 pub conform_fields-returns : goal.conform_fields-returns
 conform_fields-returns t c =
-    names_done c.loop-i.invariant 3 _ c.loop-i-test.false c.if-j-m-2.false _ refl
+    names_done c.loop.invariant 3 _ c.loop-test.false c.if-j-m-2.false _ refl
     refl
 
-pub conform_inner-same_simple-k-requires : goal.conform_inner-same_simple-k-requires
-conform_inner-same_simple-k-requires t c = (omega arith, omega arith)
+pub conform_inner-same_simple-requires : goal.conform_inner-same_simple-requires
+conform_inner-same_simple-requires t c = (omega arith, omega arith)
 
 pub conform_inner-overflow_add-other : goal.conform_inner-overflow_add-other
 conform_inner-overflow_add-other t c =
     omega (
       arith,
       pair_in (readable_type c.args.left) (readable_type c.args.left) (le (order_of c.args.reading))
-          c.args.a.now 0 c.args.b.now 0 c.same_simple-k.result
-          c.same_simple-k.result (omega arith) (omega arith)
+          c.args.a.now 0 c.args.b.now 0 c.in-Some.k
+          c.in-Some.k (omega arith) (omega arith)
           (simple_pair (reading_ends c.args.reading) c.args.left c.args.a.now 0 c.args.b.now 0
-          c.same_simple-k.result c.same_simple-k.ensures c.if-k-ne0.true),
+          c.in-Some.k c.in-Some.ensures.0 (λ z. omega (arith, z, c.in-Some.ensures.1))),
       c.requires-raw,
     )
 
@@ -314,20 +313,20 @@ conform_inner-overflow_add-result t c =
     omega (
       arith,
       pair_in (readable_type c.args.left) (readable_type c.args.left) (le (order_of c.args.reading))
-          c.args.a.now 0 c.args.b.now 0 c.same_simple-k.result
-          c.same_simple-k.result (omega arith) (omega arith)
+          c.args.a.now 0 c.args.b.now 0 c.in-Some.k
+          c.in-Some.k (omega arith) (omega arith)
           (simple_pair (reading_ends c.args.reading) c.args.left c.args.a.now 0 c.args.b.now 0
-          c.same_simple-k.result c.same_simple-k.ensures c.if-k-ne0.true),
+          c.in-Some.k c.in-Some.ensures.0 (λ z. omega (arith, z, c.in-Some.ensures.1))),
       c.requires-raw,
     )
 
-pub conform_inner-returns-then-k-ne0 : goal.conform_inner-returns-then-k-ne0
-conform_inner-returns-then-k-ne0 t c =
+pub conform_inner-returns-in-Some : goal.conform_inner-returns-in-Some
+conform_inner-returns-in-Some t c =
     let args = c.args in
-    behind_pair (le (order_of args.reading)) args.left args.a.now args.b.now 1 c.same_simple-k.result
-    c.same_simple-k.result
-    (simple_pair (reading_ends args.reading) args.left args.a.now 0 args.b.now 0 c.same_simple-k.result
-    c.same_simple-k.ensures c.if-k-ne0.true)
+    behind_pair (le (order_of args.reading)) args.left args.a.now args.b.now 1 c.in-Some.k
+    c.in-Some.k
+    (simple_pair (reading_ends args.reading) args.left args.a.now 0 args.b.now 0 c.in-Some.k
+    c.in-Some.ensures.0 (λ z. omega (arith, z, c.in-Some.ensures.1)))
     _ _ refl refl
 
 pub conform_inner-returns-then-x-eq0 : goal.conform_inner-returns-then-x-eq0
@@ -410,13 +409,13 @@ conform_sig-returns-then-not-is_strict t c =
     (behind_yes any_two args.left args.a.now args.b.now 2 c.skip_both-x.result
     c.skip_both-x.new.other c.skip_both-x.ensures c.if-x-eq0.false _ _ refl refl)
 
-pub conform_sig-loop-i-init : goal.conform_sig-loop-i-init
-conform_sig-loop-i-init t c =
+pub conform_sig-loop-init : goal.conform_sig-loop-init
+conform_sig-loop-init t c =
     let args = c.args in
     sig_start (order_of args.reading) args.left (ignores_at (order_of args.reading) args.count) args.a.now args.b.now args.count
 
-pub conform_sig-same_simple-k-requires : goal.conform_sig-same_simple-k-requires
-conform_sig-same_simple-k-requires t c = (omega (arith, c.loop-i.invariant), omega (arith, c.loop-i.invariant))
+pub conform_sig-same_simple-requires : goal.conform_sig-same_simple-requires
+conform_sig-same_simple-requires t c = (omega (arith, c.loop.invariant), omega (arith, c.loop.invariant))
 
 pub conform_sig-overflow_add-bt : goal.conform_sig-overflow_add-bt
 conform_sig-overflow_add-bt t c =
@@ -424,10 +423,10 @@ conform_sig-overflow_add-bt t c =
       arith,
       let args = c.args in
           pair_in (readable_type args.left) (readable_type args.left) (le (order_of args.reading)) args.b.now
-          c.loop-i.bt args.a.now c.loop-i.at c.same_simple-k.result
-          c.same_simple-k.result c.loop-i.invariant.in_b c.loop-i.invariant.in_a
-          (simple_pair (reading_ends args.reading) args.left args.b.now c.loop-i.bt args.a.now c.loop-i.at
-          c.same_simple-k.result c.same_simple-k.ensures c.if-k-ne0.true),
+          c.loop.bt args.a.now c.loop.at c.in-Some.k
+          c.in-Some.k c.loop.invariant.in_b c.loop.invariant.in_a
+          (simple_pair (reading_ends args.reading) args.left args.b.now c.loop.bt args.a.now c.loop.at
+          c.in-Some.k c.in-Some.ensures.0 (λ z. omega (arith, z, c.in-Some.ensures.1))),
     )
 
 pub conform_sig-overflow_add-at : goal.conform_sig-overflow_add-at
@@ -436,88 +435,88 @@ conform_sig-overflow_add-at t c =
       arith,
       let args = c.args in
           pair_in (readable_type args.left) (readable_type args.left) (le (order_of args.reading)) args.b.now
-          c.loop-i.bt args.a.now c.loop-i.at c.same_simple-k.result
-          c.same_simple-k.result c.loop-i.invariant.in_b c.loop-i.invariant.in_a
-          (simple_pair (reading_ends args.reading) args.left args.b.now c.loop-i.bt args.a.now c.loop-i.at
-          c.same_simple-k.result c.same_simple-k.ensures c.if-k-ne0.true),
+          c.loop.bt args.a.now c.loop.at c.in-Some.k
+          c.in-Some.k c.loop.invariant.in_b c.loop.invariant.in_a
+          (simple_pair (reading_ends args.reading) args.left args.b.now c.loop.bt args.a.now c.loop.at
+          c.in-Some.k c.in-Some.ensures.0 (λ z. omega (arith, z, c.in-Some.ensures.1))),
     )
 
-pub conform_sig-loop-i-preserved-then-k-ne0 : goal.conform_sig-loop-i-preserved-then-k-ne0
-conform_sig-loop-i-preserved-then-k-ne0 t c =
+pub conform_sig-loop-preserved-in-Some : goal.conform_sig-loop-preserved-in-Some
+conform_sig-loop-preserved-in-Some t c =
     let args = c.args in
-    sig_turn c.loop-i.invariant c.loop-i-test.true c.same_simple-k.result
-    c.same_simple-k.result
-    (simple_pair (reading_ends args.reading) args.left args.b.now c.loop-i.bt args.a.now c.loop-i.at
-    c.same_simple-k.result c.same_simple-k.ensures c.if-k-ne0.true)
+    sig_turn c.loop.invariant c.loop-test.true c.in-Some.k
+    c.in-Some.k
+    (simple_pair (reading_ends args.reading) args.left args.b.now c.loop.bt args.a.now c.loop.at
+    c.in-Some.k c.in-Some.ensures.0 (λ z. omega (arith, z, c.in-Some.ensures.1)))
 
 pub conform_sig-slice_bounds-conforms-count : goal.conform_sig-slice_bounds-conforms-count
-conform_sig-slice_bounds-conforms-count t c = omega (arith, c.loop-i.invariant)
+conform_sig-slice_bounds-conforms-count t c = omega (arith, c.loop.invariant)
 
 pub conform_sig-slice_bounds-conforms-start : goal.conform_sig-slice_bounds-conforms-start
-conform_sig-slice_bounds-conforms-start t c = omega (arith, c.loop-i.invariant)
+conform_sig-slice_bounds-conforms-start t c = omega (arith, c.loop.invariant)
 
-pub conform_sig-slice_bounds-conforms-count-in-loop-i : goal.conform_sig-slice_bounds-conforms-count-in-loop-i
-conform_sig-slice_bounds-conforms-count-in-loop-i t c = omega (arith, c.loop-i.invariant)
+pub conform_sig-slice_bounds-conforms-count-in-loop : goal.conform_sig-slice_bounds-conforms-count-in-loop
+conform_sig-slice_bounds-conforms-count-in-loop t c = omega (arith, c.loop.invariant)
 
-pub conform_sig-slice_bounds-conforms-start-in-loop-i : goal.conform_sig-slice_bounds-conforms-start-in-loop-i
-conform_sig-slice_bounds-conforms-start-in-loop-i t c = omega (arith, c.loop-i.invariant)
+pub conform_sig-slice_bounds-conforms-start-in-loop : goal.conform_sig-slice_bounds-conforms-start-in-loop
+conform_sig-slice_bounds-conforms-start-in-loop t c = omega (arith, c.loop.invariant)
 
 pub conform_sig-returns-then-y-eq0 : goal.conform_sig-returns-then-y-eq0
 conform_sig-returns-then-y-eq0 t c =
-    sig_apart c.loop-i.invariant c.loop-i-test.true 2 _ c.conforms-y.result
+    sig_apart c.loop.invariant c.loop-test.true 2 _ c.conforms-y.result
     c.conforms-y.new.other c.conforms-y.ensures c.if-y-eq0.true
 
-pub conform_sig-overflow_add-bt-in-loop-i : goal.conform_sig-overflow_add-bt-in-loop-i
-conform_sig-overflow_add-bt-in-loop-i t c =
+pub conform_sig-overflow_add-bt-in-loop : goal.conform_sig-overflow_add-bt-in-loop
+conform_sig-overflow_add-bt-in-loop t c =
     omega (
       arith,
       let args = c.args in
           let conforms = c.conforms-y in
           pair_in (readable_type args.left) (readable_type args.left) (le (order_of args.reading)) args.b.now
-          c.loop-i.bt args.a.now c.loop-i.at conforms.result conforms.new.other
-          c.loop-i.invariant.in_b c.loop-i.invariant.in_a
+          c.loop.bt args.a.now c.loop.at conforms.result conforms.new.other
+          c.loop.invariant.in_b c.loop.invariant.in_a
           (pair (readable_type args.left) (readable_type args.left) (le (order_of args.reading)) args.b.now
-          c.loop-i.bt args.a.now c.loop-i.at conforms.result conforms.new.other
+          c.loop.bt args.a.now c.loop.at conforms.result conforms.new.other
           conforms.ensures c.if-y-eq0.false),
     )
 
-pub conform_sig-overflow_add-at-in-loop-i : goal.conform_sig-overflow_add-at-in-loop-i
-conform_sig-overflow_add-at-in-loop-i t c =
+pub conform_sig-overflow_add-at-in-loop : goal.conform_sig-overflow_add-at-in-loop
+conform_sig-overflow_add-at-in-loop t c =
     omega (
       arith,
       let args = c.args in
           pair_in (readable_type args.left) (readable_type args.left) (le (order_of args.reading)) args.b.now
-          c.loop-i.bt args.a.now c.loop-i.at c.conforms-y.result c.conforms-y.new.other
-          c.loop-i.invariant.in_b c.loop-i.invariant.in_a
+          c.loop.bt args.a.now c.loop.at c.conforms-y.result c.conforms-y.new.other
+          c.loop.invariant.in_b c.loop.invariant.in_a
           (pair (readable_type args.left) (readable_type args.left) (le (order_of args.reading)) args.b.now
-          c.loop-i.bt args.a.now c.loop-i.at c.conforms-y.result c.conforms-y.new.other
+          c.loop.bt args.a.now c.loop.at c.conforms-y.result c.conforms-y.new.other
           c.conforms-y.ensures c.if-y-eq0.false),
     )
 
-pub conform_sig-loop-i-preserved : goal.conform_sig-loop-i-preserved
-conform_sig-loop-i-preserved t c =
+pub conform_sig-loop-preserved : goal.conform_sig-loop-preserved
+conform_sig-loop-preserved t c =
     let args = c.args in
-    sig_turn c.loop-i.invariant c.loop-i-test.true c.conforms-y.result
+    sig_turn c.loop.invariant c.loop-test.true c.conforms-y.result
     c.conforms-y.new.other
     (pair (readable_type args.left) (readable_type args.left) (le (order_of args.reading)) args.b.now
-    c.loop-i.bt args.a.now c.loop-i.at c.conforms-y.result
+    c.loop.bt args.a.now c.loop.at c.conforms-y.result
     c.conforms-y.new.other c.conforms-y.ensures c.if-y-eq0.false)
 
 pub conform_sig-slice_bounds-conforms-count-2 : goal.conform_sig-slice_bounds-conforms-count-2
-conform_sig-slice_bounds-conforms-count-2 t c = omega (arith, c.loop-i.invariant)
+conform_sig-slice_bounds-conforms-count-2 t c = omega (arith, c.loop.invariant)
 
 pub conform_sig-slice_bounds-conforms-start-2 : goal.conform_sig-slice_bounds-conforms-start-2
-conform_sig-slice_bounds-conforms-start-2 t c = omega (arith, c.loop-i.invariant)
+conform_sig-slice_bounds-conforms-start-2 t c = omega (arith, c.loop.invariant)
 
 pub conform_sig-slice_bounds-conforms-count-3 : goal.conform_sig-slice_bounds-conforms-count-3
-conform_sig-slice_bounds-conforms-count-3 t c = omega (arith, c.loop-i.invariant)
+conform_sig-slice_bounds-conforms-count-3 t c = omega (arith, c.loop.invariant)
 
 pub conform_sig-slice_bounds-conforms-start-3 : goal.conform_sig-slice_bounds-conforms-start-3
-conform_sig-slice_bounds-conforms-start-3 t c = omega (arith, c.loop-i.invariant)
+conform_sig-slice_bounds-conforms-start-3 t c = omega (arith, c.loop.invariant)
 
 pub conform_sig-returns-then-x-eq0-2 : goal.conform_sig-returns-then-x-eq0-2
 conform_sig-returns-then-x-eq0-2 t c =
-    sig_last_apart c.loop-i.invariant c.loop-i-test.false (looked_at t (goal.at.conform_sig-returns-then-x-eq0-2 t c).Joined-count-eq0)
+    sig_last_apart c.loop.invariant c.loop-test.false (looked_at t (goal.at.conform_sig-returns-then-x-eq0-2 t c).Joined-count-eq0)
     c.conforms-x.result c.conforms-x.new.other
     c.conforms-x.ensures c.if-x-eq0-2.true _
 
@@ -527,10 +526,10 @@ conform_sig-overflow_add-other-2 t c =
       arith,
       let args = c.args in
           pair_in (readable_type args.left) (readable_type args.left) (le (order_of args.reading)) args.a.now
-          c.loop-i.at args.b.now c.loop-i.bt c.conforms-x.result
-          c.conforms-x.new.other c.loop-i.invariant.in_a c.loop-i.invariant.in_b
+          c.loop.at args.b.now c.loop.bt c.conforms-x.result
+          c.conforms-x.new.other c.loop.invariant.in_a c.loop.invariant.in_b
           (pair (readable_type args.left) (readable_type args.left) (le (order_of args.reading)) args.a.now
-          c.loop-i.at args.b.now c.loop-i.bt c.conforms-x.result
+          c.loop.at args.b.now c.loop.bt c.conforms-x.result
           c.conforms-x.new.other c.conforms-x.ensures c.if-x-eq0-2.false),
       c.requires-raw,
     )
@@ -541,10 +540,10 @@ conform_sig-overflow_add-other-3 t c =
       arith,
       let args = c.args in
           pair_in (readable_type args.left) (readable_type args.left) (le (order_of args.reading)) args.a.now
-          c.loop-i.at args.b.now c.loop-i.bt c.conforms-x.result
-          c.conforms-x.new.other c.loop-i.invariant.in_a c.loop-i.invariant.in_b
+          c.loop.at args.b.now c.loop.bt c.conforms-x.result
+          c.conforms-x.new.other c.loop.invariant.in_a c.loop.invariant.in_b
           (pair (readable_type args.left) (readable_type args.left) (le (order_of args.reading)) args.a.now
-          c.loop-i.at args.b.now c.loop-i.bt c.conforms-x.result
+          c.loop.at args.b.now c.loop.bt c.conforms-x.result
           c.conforms-x.new.other c.conforms-x.ensures c.if-x-eq0-2.false),
       c.requires-raw,
     )
@@ -555,10 +554,10 @@ conform_sig-overflow_add-result-2 t c =
       arith,
       let args = c.args in
           pair_in (readable_type args.left) (readable_type args.left) (le (order_of args.reading)) args.a.now
-          c.loop-i.at args.b.now c.loop-i.bt c.conforms-x.result
-          c.conforms-x.new.other c.loop-i.invariant.in_a c.loop-i.invariant.in_b
+          c.loop.at args.b.now c.loop.bt c.conforms-x.result
+          c.conforms-x.new.other c.loop.invariant.in_a c.loop.invariant.in_b
           (pair (readable_type args.left) (readable_type args.left) (le (order_of args.reading)) args.a.now
-          c.loop-i.at args.b.now c.loop-i.bt c.conforms-x.result
+          c.loop.at args.b.now c.loop.bt c.conforms-x.result
           c.conforms-x.new.other c.conforms-x.ensures c.if-x-eq0-2.false),
       c.requires-raw,
     )
@@ -569,17 +568,17 @@ conform_sig-overflow_add-result-3 t c =
       arith,
       let args = c.args in
           pair_in (readable_type args.left) (readable_type args.left) (le (order_of args.reading)) args.a.now
-          c.loop-i.at args.b.now c.loop-i.bt c.conforms-x.result
-          c.conforms-x.new.other c.loop-i.invariant.in_a c.loop-i.invariant.in_b
+          c.loop.at args.b.now c.loop.bt c.conforms-x.result
+          c.conforms-x.new.other c.loop.invariant.in_a c.loop.invariant.in_b
           (pair (readable_type args.left) (readable_type args.left) (le (order_of args.reading)) args.a.now
-          c.loop-i.at args.b.now c.loop-i.bt c.conforms-x.result
+          c.loop.at args.b.now c.loop.bt c.conforms-x.result
           c.conforms-x.new.other c.conforms-x.ensures c.if-x-eq0-2.false),
       c.requires-raw,
     )
 
 pub conform_sig-returns : goal.conform_sig-returns
 conform_sig-returns t c =
-    sig_done c.loop-i.invariant c.loop-i-test.false (looked_at t (goal.at.conform_sig-returns t c).Joined-count-eq0)
+    sig_done c.loop.invariant c.loop-test.false (looked_at t (goal.at.conform_sig-returns t c).Joined-count-eq0)
     c.conforms-x.result c.conforms-x.new.other c.conforms-x.ensures
     c.if-x-eq0-2.false _ _ refl refl
 
@@ -720,7 +719,7 @@ pub conforms-returns-else-k-b : goal.conforms-returns-else-k-b
 conforms-returns-else-k-b t c =
     let args = c.args in
     met_function (order_of args.reading) args.left args.a.now args.b.now (omega arith) (omega arith) (omega arith) _
-    _ c.wide.result c.wide.ensures.0 c.if-k-b.false
+    _ c.from.result c.from.ensures c.if-k-b.false
     c.in-45.is (sym c.if-e-f.false ∙ c.in-45.is) (omega arith) (omega arith)
     c.conform_sig.ensures
 

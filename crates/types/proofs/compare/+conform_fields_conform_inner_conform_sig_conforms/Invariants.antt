@@ -23,19 +23,13 @@ decreases-conform_sig l = 2 * l.left + 1
 abbrev pub decreases-conforms : goal.decreases-conforms
 decreases-conforms l = 2 * l.left
 
-abbrev pub invariant-conform_fields-loop-i : goal.invariant-conform_fields-loop-i
-invariant-conform_fields-loop-i l = NamesGo size size_fields (type_at l.left) (fields_at l.left) no_fields field AscFields (le (order_of l.reading))
+abbrev pub invariant-conform_fields-loop : goal.invariant-conform_fields-loop
+invariant-conform_fields-loop l = NamesGo size size_fields (type_at l.left) (fields_at l.left) no_fields field AscFields (le (order_of l.reading))
     (entries (le (order_of l.reading))) l.left
     (conform_by size_fields size_fields (entries (le (order_of l.reading))) (fields_at l.left l.n 0 l.a) (fields_at l.left l.m 0 l.b))
-    l.a l.n l.b l.m l.at l.least l.i l.bt l.j
+    l.a l.n l.b l.m l.at l.least l.counter l.bt l.j
 
-abbrev pub decreases-conform_fields-loop-i : goal.decreases-conform_fields-loop-i
-decreases-conform_fields-loop-i l = l.n - l.i
-
-abbrev pub invariant-conform_sig-loop-i : goal.invariant-conform_sig-loop-i
-invariant-conform_sig-loop-i l = SigGo (order_of l.reading) l.left (ignores_at (order_of l.reading) l.count)
+abbrev pub invariant-conform_sig-loop : goal.invariant-conform_sig-loop
+invariant-conform_sig-loop l = SigGo (order_of l.reading) l.left (ignores_at (order_of l.reading) l.count)
     (conform_by size_sig size_sig (le_sig (order_of l.reading) (ignores_at (order_of l.reading) l.count)) (sig_at l.left l.count l.a) (sig_at l.left l.count l.b)) l.a l.b
-    l.count l.at l.bt l.i
-
-abbrev pub decreases-conform_sig-loop-i : goal.decreases-conform_sig-loop-i
-decreases-conform_sig-loop-i l = l.count - l.i
+    l.count l.at l.bt l.counter

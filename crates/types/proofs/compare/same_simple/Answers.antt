@@ -3,27 +3,22 @@
 use native.Mathlib.Omega.{arith}
 use Rattle.types.proofs.TypeConformance.{simple_none, simple_end, simple_apart, simple_both}
 use Rattle.types.proofs.compare.same_simple.Goals as goal
+use Rattle.types.proofs.compare.same_simple.Goals.{then-b-bt-via-then-b-bt, then-b-bt-via-else-b-bt+then-a-at}
 
-pub returns-then-n-eq0 : goal.returns-then-n-eq0
-returns-then-n-eq0 c =
+pub returns-in_err-n : goal.returns-in_err-n
+returns-in_err-n c =
     let args = c.args in
-    simple_none args.left args.a.now args.at args.b.now args.bt
-    c.simple_at-n.result _ c.simple_at-n.ensures c.if-n-eq0.true 0
+    rw c.from_residual.ensures (simple_none args.left args.a.now args.at args.b.now args.bt _ c.in_err-n.ensures)
 
 pub returns-then-b-bt : goal.returns-then-b-bt
 returns-then-b-bt c =
     let args = c.args in
-    simple_end args.left args.a.now args.at args.b.now args.bt
-    c.simple_at-n.result _ c.simple_at-n.ensures c.if-b-bt.true 0
-
-pub returns-then-a-at : goal.returns-then-a-at
-returns-then-a-at c =
-    let args = c.args in
-    simple_apart args.left args.a.now args.at args.b.now args.bt
-    c.simple_at-n.result _ c.simple_at-n.ensures c.if-a-at.true 0
+    elim c.then-b-bt.branch [
+      | then-b-bt-via-then-b-bt w ↦ simple_end args.left args.a.now args.at args.b.now args.bt 0 w.if-b-bt.true
+      | then-b-bt-via-else-b-bt+then-a-at w ↦ simple_apart args.left args.a.now args.at args.b.now args.bt 0 w.if-a-at.true
+    ]
 
 pub returns : goal.returns
 returns c =
-    simple_both c.args.left c.args.a.now c.args.at c.args.b.now c.args.bt
-    c.simple_at-n.result _ c.simple_at-n.ensures c.if-n-eq0.false
-    (omega (arith, c.requires, c.if-b-bt.false)) c.if-a-at.false
+    let args = c.args in
+    simple_both args.left args.a.now args.at args.b.now args.bt _ c.in_ok-n.n c.in_ok-n.ensures (omega (arith, c.requires, c.if-b-bt.false)) c.if-a-at.false

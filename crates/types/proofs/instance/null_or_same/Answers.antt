@@ -2,6 +2,8 @@
 -- Assumes nothing.
 use mathlib.Core.Path.{sym, ◌∙◌}
 use mathlib.Core.Bool.{true≢false}
+use Rattle.std.proofs.lemmas.Bool.Decides.{Decides-eqb}
+use Rattle.std.proofs.lemmas.Slice.Eq.{slice_eq-Decides}
 use Rattle.form.proofs.Numbers.{take_length}
 use Rattle.form.proofs.Whole.{bytes_of}
 use Rattle.order.specs.Document.{null_or_same}
@@ -28,37 +30,35 @@ returns-then-a-eq-NULL_TYPE c =
     c.skip_both-x.new.other c.skip_both-x.ensures c.if-x-eq0.false
     c.if-a-eq-NULL_TYPE.true
 
-pub slice_bounds-same-end : goal.slice_bounds-same-end
-slice_bounds-same-end c =
+pub slice_bounds-eq-end : goal.slice_bounds-eq-end
+slice_bounds-eq-end c =
     let args = c.args in
     sym
     (take_length c.skip_both-x.result args.a.now
     (within args.left args.a.now args.b.now c.skip_both-x.result
     c.skip_both-x.new.other c.skip_both-x.ensures c.if-x-eq0.false).0)
 
-pub slice_bounds-same-end-2 : goal.slice_bounds-same-end-2
-slice_bounds-same-end-2 c =
+pub slice_bounds-eq-end-2 : goal.slice_bounds-eq-end-2
+slice_bounds-eq-end-2 c =
     let args = c.args in
     sym
     (take_length c.skip_both-x.new.other args.b.now
     (within args.left args.a.now args.b.now c.skip_both-x.result
     c.skip_both-x.new.other c.skip_both-x.ensures c.if-x-eq0.false).1)
 
-pub returns-then-same : goal.returns-then-same
-returns-then-same c =
+pub returns-then-eq : goal.returns-then-eq
+returns-then-eq c =
     let args = c.args in
     same_or_null args.left args.a.now args.b.now c.skip_both-x.result
     c.skip_both-x.new.other c.skip_both-x.ensures c.if-x-eq0.false
-    (bytes_of args.a.now c.shared_slice_known-1.given)
-    (bytes_of args.b.now c.shared_slice_known-2-1.given)
-    (c.same.ensures.0 c.if-same.true)
+    (bytes_of args.a.now c.type_inv.a) (bytes_of args.b.now c.type_inv.b)
+    ((slice_eq-Decides Decides-eqb _ _ _ c.eq.ensures).0 c.if-eq.true)
 
 pub returns : goal.returns
 returns c =
     let args = c.args in
     neither_same args.left args.a.now args.b.now c.skip_both-x.result
     c.skip_both-x.new.other c.skip_both-x.ensures c.if-x-eq0.false
-    (bytes_of args.a.now c.shared_slice_known-1.given)
-    (bytes_of args.b.now c.shared_slice_known-2-1.given) c.if-a-eq-NULL_TYPE.false
-    (λ h. true≢false (sym (c.same.ensures.1 h) ∙ c.if-same.false))
+    (bytes_of args.a.now c.type_inv.a) (bytes_of args.b.now c.type_inv.b) c.if-a-eq-NULL_TYPE.false
+    (λ h. true≢false (sym ((slice_eq-Decides Decides-eqb _ _ _ c.eq.ensures).1 h) ∙ c.if-eq.false))
     _

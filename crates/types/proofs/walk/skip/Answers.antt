@@ -4,11 +4,10 @@ use mathlib.Core.Path.{◌∙◌}
 use Rattle.types.proofs.Entries.{skip_is, skip_short}
 use Rattle.types.proofs.walk.skip.Goals as goal
 
-pub returns-then-n-ne0 : goal.returns-then-n-ne0
-returns-then-n-ne0 c =
+pub returns-in-Some : goal.returns-in-Some
+returns-in-Some c =
     let a = c.args in
-    skip_short a.left a.s.now c.simple_at-n.result _ c.simple_at-n.ensures
-    c.if-n-ne0.true
+    skip_short a.left a.s.now c.in-Some.n _ c.in-Some.ensures
 
 pub returns : goal.returns
 returns c =

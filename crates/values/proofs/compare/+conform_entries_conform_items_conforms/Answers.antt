@@ -24,7 +24,7 @@ use borrow.Author.Rules.{rules}
 use Rattle.values.proofs.compare.+conform_entries_conform_items_conforms.Goals as goal
 use Rattle.values.proofs.compare.+conform_entries_conform_items_conforms.Goals.{conform_entries-Joined-j-m, conform_entries-then-j-m+else-t-bt-lt-NAME_WIDTH, conform_entries-else-j-m}
 
-there : (t : ℕ) (c : conform_entries-Joined-j-m t) → c.loop-i.j < c.args.m → c.loop-i.bt + name_width ≤ length c.args.t.now
+there : (t : ℕ) (c : conform_entries-Joined-j-m t) → c.loop.j < c.args.m → c.loop.bt + name_width ≤ length c.args.t.now
 there t c h =
     elim c.if-j-m.branch [
       | conform_entries-then-j-m+else-t-bt-lt-NAME_WIDTH w ↦ omega (arith, w.if-t-bt-lt-NAME_WIDTH.false, h)
@@ -49,30 +49,30 @@ conform_entries-returns-then-left-lt2 t c =
     entries_low (order_of args.reading) (args.left - 1) args.left args.v.now args.n args.t.now args.m
     c.if-n-eq0.false (omega arith) _
 
-pub conform_entries-loop-i-init : goal.conform_entries-loop-i-init
-conform_entries-loop-i-init t c =
+pub conform_entries-loop-init : goal.conform_entries-loop-init
+conform_entries-loop-init t c =
     let args = c.args in
     names_start (entries_run (args.left - 1)) (entries_tests (order_of args.reading)) args.left args.v.now args.n
     args.t.now args.m
 
 pub conform_entries-overflow_sub-v : goal.conform_entries-overflow_sub-v
-conform_entries-overflow_sub-v t c = omega (arith, c.loop-i.invariant)
+conform_entries-overflow_sub-v t c = omega (arith, c.loop.invariant)
 
 pub conform_entries-returns-then-v-at-lt-NAME_WIDTH : goal.conform_entries-returns-then-v-at-lt-NAME_WIDTH
-conform_entries-returns-then-v-at-lt-NAME_WIDTH t c = cut_a c.loop-i.invariant 3 _ c.loop-i-test.true c.if-v-at-lt-NAME_WIDTH.true
+conform_entries-returns-then-v-at-lt-NAME_WIDTH t c = cut_a c.loop.invariant 3 _ c.loop-test.true c.if-v-at-lt-NAME_WIDTH.true
 
 pub conform_entries-returns-then-name-least : goal.conform_entries-returns-then-name-least
 conform_entries-returns-then-name-least t c =
-    falls_a c.loop-i.invariant 3 _
-    c.loop-i-test.true c.name_at-name.result
+    falls_a c.loop.invariant 3 _
+    c.loop-test.true c.name_at-name.result
     c.name_at-name.ensures.0 c.if-name-least.true
 
 pub conform_entries-overflow_sub-t : goal.conform_entries-overflow_sub-t
-conform_entries-overflow_sub-t t c = omega (arith, c.loop-i.invariant)
+conform_entries-overflow_sub-t t c = omega (arith, c.loop.invariant)
 
 pub conform_entries-returns-then-t-bt-lt-NAME_WIDTH : goal.conform_entries-returns-then-t-bt-lt-NAME_WIDTH
 conform_entries-returns-then-t-bt-lt-NAME_WIDTH t c =
-    cut_b c.loop-i.invariant 3 _ c.if-j-m.true
+    cut_b c.loop.invariant 3 _ c.if-j-m.true
     c.if-t-bt-lt-NAME_WIDTH.true
 
 pub conform_entries-next_name-next-requires : goal.conform_entries-next_name-next-requires
@@ -80,19 +80,19 @@ conform_entries-next_name-next-requires t c = there t (goal.at.conform_entries-n
 
 pub conform_entries-returns-then-next-name : goal.conform_entries-returns-then-next-name
 conform_entries-returns-then-next-name t c =
-    names_missing c.loop-i.invariant 3 _ c.loop-i-test.true
-    (omega (arith, c.loop-i.invariant, c.if-v-at-lt-NAME_WIDTH.false)) c.name_at-name.result
+    names_missing c.loop.invariant 3 _ c.loop-test.true
+    (omega (arith, c.loop.invariant, c.if-v-at-lt-NAME_WIDTH.false)) c.name_at-name.result
     c.next_name-next.result c.name_at-name.ensures.0 c.if-name-least.false
     c.name_at-name.ensures.1 c.next_name-next.ensures.value c.if-next-name.true
 
 pub conform_entries-returns-then-k-eq0 : goal.conform_entries-returns-then-k-eq0
 conform_entries-returns-then-k-eq0 t c =
     let args = c.args in
-    names_unread c.loop-i.invariant 3 _ c.loop-i-test.true
-    (omega (arith, c.loop-i.invariant, c.if-v-at-lt-NAME_WIDTH.false)) c.name_at-name.result c.next_name-next.result
+    names_unread c.loop.invariant 3 _ c.loop-test.true
+    (omega (arith, c.loop.invariant, c.if-v-at-lt-NAME_WIDTH.false)) c.name_at-name.result c.next_name-next.result
     c.name_at-name.ensures.0 c.if-name-least.false c.name_at-name.ensures.1
     c.next_name-next.ensures.value
-    (unsized_value (args.left - 1) args.v.now (c.loop-i.at + name_width) c.skip-k.result
+    (unsized_value (args.left - 1) args.v.now (c.loop.at + name_width) c.skip-k.result
     c.skip-k.ensures c.if-k-eq0.true)
 
 pub conform_entries-overflow_add-at : goal.conform_entries-overflow_add-at
@@ -100,20 +100,20 @@ conform_entries-overflow_add-at t c =
     omega (
       arith,
       let args = c.args in
-          sized_in (readable_value (args.left - 1)) args.v.now (c.loop-i.at + name_width)
-          c.skip-k.result (omega (arith, c.loop-i.invariant, c.if-v-at-lt-NAME_WIDTH.false))
-          (sized_value (args.left - 1) args.v.now (c.loop-i.at + name_width) c.skip-k.result
+          sized_in (readable_value (args.left - 1)) args.v.now (c.loop.at + name_width)
+          c.skip-k.result (omega (arith, c.loop.invariant, c.if-v-at-lt-NAME_WIDTH.false))
+          (sized_value (args.left - 1) args.v.now (c.loop.at + name_width) c.skip-k.result
           c.skip-k.ensures c.if-k-eq0.false),
     )
 
-pub conform_entries-loop-i-preserved-then-name-next : goal.conform_entries-loop-i-preserved-then-name-next
-conform_entries-loop-i-preserved-then-name-next t c =
+pub conform_entries-loop-preserved-then-name-next : goal.conform_entries-loop-preserved-then-name-next
+conform_entries-loop-preserved-then-name-next t c =
     let args = c.args in
-    names_skip c.loop-i.invariant 3 0 c.loop-i-test.true
-    (omega (arith, c.loop-i.invariant, c.if-v-at-lt-NAME_WIDTH.false)) c.name_at-name.result c.next_name-next.result
+    names_skip c.loop.invariant 3 0 c.loop-test.true
+    (omega (arith, c.loop.invariant, c.if-v-at-lt-NAME_WIDTH.false)) c.name_at-name.result c.next_name-next.result
     c.name_at-name.ensures.0 c.if-name-least.false c.name_at-name.ensures.1
     c.next_name-next.ensures.value c.if-name-next.true c.skip-k.result
-    (sized_value (args.left - 1) args.v.now (c.loop-i.at + name_width) c.skip-k.result
+    (sized_value (args.left - 1) args.v.now (c.loop.at + name_width) c.skip-k.result
     c.skip-k.ensures c.if-k-eq0.false)
 
 pub conform_entries-overflow_add-q : goal.conform_entries-overflow_add-q
@@ -121,8 +121,8 @@ conform_entries-overflow_add-q t c =
     omega (
       arith,
       (there t (goal.at.conform_entries-overflow_add-q t c).Joined-j-m
-          (b_more c.loop-i.invariant 3 0 c.loop-i-test.true
-          (omega (arith, c.loop-i.invariant, c.if-v-at-lt-NAME_WIDTH.false)) c.name_at-name.result
+          (b_more c.loop.invariant 3 0 c.loop-test.true
+          (omega (arith, c.loop.invariant, c.if-v-at-lt-NAME_WIDTH.false)) c.name_at-name.result
           c.next_name-next.result c.name_at-name.ensures.0 c.if-name-least.false
           c.name_at-name.ensures.1 c.next_name-next.ensures.value c.if-name-next.false c.if-next-name.false)),
     )
@@ -131,39 +131,39 @@ pub conform_entries-overflow_add-j : goal.conform_entries-overflow_add-j
 conform_entries-overflow_add-j t c =
     omega (
       arith,
-      (b_more c.loop-i.invariant 3 0 c.loop-i-test.true
-          (omega (arith, c.loop-i.invariant, c.if-v-at-lt-NAME_WIDTH.false)) c.name_at-name.result
+      (b_more c.loop.invariant 3 0 c.loop-test.true
+          (omega (arith, c.loop.invariant, c.if-v-at-lt-NAME_WIDTH.false)) c.name_at-name.result
           c.next_name-next.result c.name_at-name.ensures.0 c.if-name-least.false
           c.name_at-name.ensures.1 c.next_name-next.ensures.value c.if-name-next.false c.if-next-name.false),
     )
 
-pub conform_entries-leaf-k-requires : goal.conform_entries-leaf-k-requires
-conform_entries-leaf-k-requires t c = (
-  omega (arith, c.loop-i.invariant, c.if-v-at-lt-NAME_WIDTH.false),
-  (there t (goal.at.conform_entries-leaf-k-requires t c).Joined-j-m
-      (b_more c.loop-i.invariant 3 0 c.loop-i-test.true
-      (omega (arith, c.loop-i.invariant, c.if-v-at-lt-NAME_WIDTH.false)) c.name_at-name.result c.next_name-next.result
+pub conform_entries-leaf-requires : goal.conform_entries-leaf-requires
+conform_entries-leaf-requires t c = (
+  omega (arith, c.loop.invariant, c.if-v-at-lt-NAME_WIDTH.false),
+  (there t (goal.at.conform_entries-leaf-requires t c).Joined-j-m
+      (b_more c.loop.invariant 3 0 c.loop-test.true
+      (omega (arith, c.loop.invariant, c.if-v-at-lt-NAME_WIDTH.false)) c.name_at-name.result c.next_name-next.result
       c.name_at-name.ensures.0 c.if-name-least.false c.name_at-name.ensures.1
       c.next_name-next.ensures.value c.if-name-next.false c.if-next-name.false)),
   c.requires.2,
 )
 
-pub conform_entries-overflow_add-at-then-k-ne0 : goal.conform_entries-overflow_add-at-then-k-ne0
-conform_entries-overflow_add-at-then-k-ne0 t c =
+pub conform_entries-overflow_add-at-in-Some : goal.conform_entries-overflow_add-at-in-Some
+conform_entries-overflow_add-at-in-Some t c =
     omega (
       arith,
       let args = c.args in
-          let loop = c.loop-i in
+          let loop = c.loop in
           pair_in (readable_value (args.left - 1)) (readable_type args.left) (order.conforms (order_of args.reading))
           args.v.now (loop.at + name_width) args.t.now (loop.bt + name_width)
-          c.leaf-k.result 1 (omega (arith, loop.invariant, c.if-v-at-lt-NAME_WIDTH.false))
-          (there t (goal.at.conform_entries-overflow_add-at-then-k-ne0 t c).Joined-j-m
-          (b_more loop.invariant 3 0 c.loop-i-test.true (omega (arith, loop.invariant, c.if-v-at-lt-NAME_WIDTH.false))
+          c.in-Some.k 1 (omega (arith, loop.invariant, c.if-v-at-lt-NAME_WIDTH.false))
+          (there t (goal.at.conform_entries-overflow_add-at-in-Some t c).Joined-j-m
+          (b_more loop.invariant 3 0 c.loop-test.true (omega (arith, loop.invariant, c.if-v-at-lt-NAME_WIDTH.false))
           c.name_at-name.result c.next_name-next.result c.name_at-name.ensures.0 c.if-name-least.false
           c.name_at-name.ensures.1 c.next_name-next.ensures.value c.if-name-next.false
           c.if-next-name.false))
           (leaf_pair (reading_ends args.reading) (args.left - 1) args.left args.v.now (loop.at + name_width) args.t.now
-          (loop.bt + name_width) c.leaf-k.result c.leaf-k.ensures c.if-k-ne0.true),
+          (loop.bt + name_width) c.in-Some.k c.in-Some.ensures.0 (λ z. omega (arith, z, c.in-Some.ensures.1))),
     )
 
 pub conform_entries-overflow_add-bt : goal.conform_entries-overflow_add-bt
@@ -171,78 +171,78 @@ conform_entries-overflow_add-bt t c =
     omega (
       arith,
       let args = c.args in
-          let loop = c.loop-i in
+          let loop = c.loop in
           pair_in (readable_value (args.left - 1)) (readable_type args.left) (order.conforms (order_of args.reading))
           args.v.now (loop.at + name_width) args.t.now (loop.bt + name_width)
-          c.leaf-k.result 1 (omega (arith, loop.invariant, c.if-v-at-lt-NAME_WIDTH.false))
+          c.in-Some.k 1 (omega (arith, loop.invariant, c.if-v-at-lt-NAME_WIDTH.false))
           (there t (goal.at.conform_entries-overflow_add-bt t c).Joined-j-m
-          (b_more loop.invariant 3 0 c.loop-i-test.true (omega (arith, loop.invariant, c.if-v-at-lt-NAME_WIDTH.false))
+          (b_more loop.invariant 3 0 c.loop-test.true (omega (arith, loop.invariant, c.if-v-at-lt-NAME_WIDTH.false))
           c.name_at-name.result c.next_name-next.result c.name_at-name.ensures.0 c.if-name-least.false
           c.name_at-name.ensures.1 c.next_name-next.ensures.value c.if-name-next.false
           c.if-next-name.false))
           (leaf_pair (reading_ends args.reading) (args.left - 1) args.left args.v.now (loop.at + name_width) args.t.now
-          (loop.bt + name_width) c.leaf-k.result c.leaf-k.ensures c.if-k-ne0.true),
+          (loop.bt + name_width) c.in-Some.k c.in-Some.ensures.0 (λ z. omega (arith, z, c.in-Some.ensures.1))),
     )
 
-pub conform_entries-loop-i-preserved-then-k-ne0 : goal.conform_entries-loop-i-preserved-then-k-ne0
-conform_entries-loop-i-preserved-then-k-ne0 t c =
+pub conform_entries-loop-preserved-in-Some : goal.conform_entries-loop-preserved-in-Some
+conform_entries-loop-preserved-in-Some t c =
     let args = c.args in
-    names_common c.loop-i.invariant 3 0 c.loop-i-test.true
-    (omega (arith, c.loop-i.invariant, c.if-v-at-lt-NAME_WIDTH.false)) c.name_at-name.result c.next_name-next.result
+    names_common c.loop.invariant 3 0 c.loop-test.true
+    (omega (arith, c.loop.invariant, c.if-v-at-lt-NAME_WIDTH.false)) c.name_at-name.result c.next_name-next.result
     c.name_at-name.ensures.0 c.if-name-least.false c.name_at-name.ensures.1 c.next_name-next.ensures.value
     c.if-name-next.false c.if-next-name.false
-    (there t (goal.at.conform_entries-loop-i-preserved-then-k-ne0 t c).Joined-j-m
-    (b_more c.loop-i.invariant 3 0 c.loop-i-test.true
-    (omega (arith, c.loop-i.invariant, c.if-v-at-lt-NAME_WIDTH.false)) c.name_at-name.result c.next_name-next.result
+    (there t (goal.at.conform_entries-loop-preserved-in-Some t c).Joined-j-m
+    (b_more c.loop.invariant 3 0 c.loop-test.true
+    (omega (arith, c.loop.invariant, c.if-v-at-lt-NAME_WIDTH.false)) c.name_at-name.result c.next_name-next.result
     c.name_at-name.ensures.0 c.if-name-least.false c.name_at-name.ensures.1 c.next_name-next.ensures.value
     c.if-name-next.false c.if-next-name.false))
-    c.leaf-k.result 1
-    (leaf_pair (reading_ends args.reading) (args.left - 1) args.left args.v.now (c.loop-i.at + name_width) args.t.now
-    (c.loop-i.bt + name_width) c.leaf-k.result c.leaf-k.ensures c.if-k-ne0.true)
+    c.in-Some.k 1
+    (leaf_pair (reading_ends args.reading) (args.left - 1) args.left args.v.now (c.loop.at + name_width) args.t.now
+    (c.loop.bt + name_width) c.in-Some.k c.in-Some.ensures.0 (λ z. omega (arith, z, c.in-Some.ensures.1)))
 
-pub conform_entries-slice_bounds-conforms-count-in-loop-i : goal.conform_entries-slice_bounds-conforms-count-in-loop-i
-conform_entries-slice_bounds-conforms-count-in-loop-i t c =
+pub conform_entries-slice_bounds-conforms-count-in-loop : goal.conform_entries-slice_bounds-conforms-count-in-loop
+conform_entries-slice_bounds-conforms-count-in-loop t c =
     omega (
       arith,
-      (there t (goal.at.conform_entries-slice_bounds-conforms-count-in-loop-i t c).Joined-j-m
-          (b_more c.loop-i.invariant 3 0 c.loop-i-test.true
-          (omega (arith, c.loop-i.invariant, c.if-v-at-lt-NAME_WIDTH.false)) c.name_at-name.result
+      (there t (goal.at.conform_entries-slice_bounds-conforms-count-in-loop t c).Joined-j-m
+          (b_more c.loop.invariant 3 0 c.loop-test.true
+          (omega (arith, c.loop.invariant, c.if-v-at-lt-NAME_WIDTH.false)) c.name_at-name.result
           c.next_name-next.result c.name_at-name.ensures.0 c.if-name-least.false
           c.name_at-name.ensures.1 c.next_name-next.ensures.value c.if-name-next.false c.if-next-name.false)),
     )
 
-pub conform_entries-slice_bounds-conforms-start-in-loop-i : goal.conform_entries-slice_bounds-conforms-start-in-loop-i
-conform_entries-slice_bounds-conforms-start-in-loop-i t c =
+pub conform_entries-slice_bounds-conforms-start-in-loop : goal.conform_entries-slice_bounds-conforms-start-in-loop
+conform_entries-slice_bounds-conforms-start-in-loop t c =
     omega (
       arith,
-      (there t (goal.at.conform_entries-slice_bounds-conforms-start-in-loop-i t c).Joined-j-m
-          (b_more c.loop-i.invariant 3 0 c.loop-i-test.true
-          (omega (arith, c.loop-i.invariant, c.if-v-at-lt-NAME_WIDTH.false)) c.name_at-name.result
+      (there t (goal.at.conform_entries-slice_bounds-conforms-start-in-loop t c).Joined-j-m
+          (b_more c.loop.invariant 3 0 c.loop-test.true
+          (omega (arith, c.loop.invariant, c.if-v-at-lt-NAME_WIDTH.false)) c.name_at-name.result
           c.next_name-next.result c.name_at-name.ensures.0 c.if-name-least.false
           c.name_at-name.ensures.1 c.next_name-next.ensures.value c.if-name-next.false c.if-next-name.false)),
     )
 
 pub conform_entries-returns-then-x-eq0 : goal.conform_entries-returns-then-x-eq0
 conform_entries-returns-then-x-eq0 t c =
-    names_apart c.loop-i.invariant 3 _ c.loop-i-test.true
-    (omega (arith, c.loop-i.invariant, c.if-v-at-lt-NAME_WIDTH.false))
+    names_apart c.loop.invariant 3 _ c.loop-test.true
+    (omega (arith, c.loop.invariant, c.if-v-at-lt-NAME_WIDTH.false))
     c.name_at-name.result c.next_name-next.result c.name_at-name.ensures.0 c.if-name-least.false
     c.name_at-name.ensures.1 c.next_name-next.ensures.value c.if-name-next.false c.if-next-name.false
     c.conforms-x.result c.conforms-x.new.other c.conforms-x.ensures
     c.if-x-eq0.true
 
-pub conform_entries-overflow_add-at-in-loop-i : goal.conform_entries-overflow_add-at-in-loop-i
-conform_entries-overflow_add-at-in-loop-i t c =
+pub conform_entries-overflow_add-at-in-loop : goal.conform_entries-overflow_add-at-in-loop
+conform_entries-overflow_add-at-in-loop t c =
     omega (
       arith,
       let args = c.args in
-          let loop = c.loop-i in
+          let loop = c.loop in
           let conforms = c.conforms-x in
           pair_in (readable_value (args.left - 1)) (readable_type args.left) (order.conforms (order_of args.reading))
           args.v.now (loop.at + name_width) args.t.now (loop.bt + name_width) conforms.result
           conforms.new.other (omega (arith, loop.invariant, c.if-v-at-lt-NAME_WIDTH.false))
-          (there t (goal.at.conform_entries-overflow_add-at-in-loop-i t c).Joined-j-m
-          (b_more loop.invariant 3 0 c.loop-i-test.true
+          (there t (goal.at.conform_entries-overflow_add-at-in-loop t c).Joined-j-m
+          (b_more loop.invariant 3 0 c.loop-test.true
           (omega (arith, loop.invariant, c.if-v-at-lt-NAME_WIDTH.false)) c.name_at-name.result c.next_name-next.result
           c.name_at-name.ensures.0 c.if-name-least.false c.name_at-name.ensures.1
           c.next_name-next.ensures.value c.if-name-next.false c.if-next-name.false))
@@ -251,17 +251,17 @@ conform_entries-overflow_add-at-in-loop-i t c =
           conforms.new.other conforms.ensures c.if-x-eq0.false),
     )
 
-pub conform_entries-overflow_add-bt-in-loop-i : goal.conform_entries-overflow_add-bt-in-loop-i
-conform_entries-overflow_add-bt-in-loop-i t c =
+pub conform_entries-overflow_add-bt-in-loop : goal.conform_entries-overflow_add-bt-in-loop
+conform_entries-overflow_add-bt-in-loop t c =
     omega (
       arith,
       let args = c.args in
-          let loop = c.loop-i in
+          let loop = c.loop in
           pair_in (readable_value (args.left - 1)) (readable_type args.left) (order.conforms (order_of args.reading))
           args.v.now (loop.at + name_width) args.t.now (loop.bt + name_width) c.conforms-x.result
           c.conforms-x.new.other (omega (arith, loop.invariant, c.if-v-at-lt-NAME_WIDTH.false))
-          (there t (goal.at.conform_entries-overflow_add-bt-in-loop-i t c).Joined-j-m
-          (b_more loop.invariant 3 0 c.loop-i-test.true
+          (there t (goal.at.conform_entries-overflow_add-bt-in-loop t c).Joined-j-m
+          (b_more loop.invariant 3 0 c.loop-test.true
           (omega (arith, loop.invariant, c.if-v-at-lt-NAME_WIDTH.false)) c.name_at-name.result c.next_name-next.result
           c.name_at-name.ensures.0 c.if-name-least.false c.name_at-name.ensures.1
           c.next_name-next.ensures.value c.if-name-next.false c.if-next-name.false))
@@ -270,31 +270,31 @@ conform_entries-overflow_add-bt-in-loop-i t c =
           c.conforms-x.new.other c.conforms-x.ensures c.if-x-eq0.false),
     )
 
-pub conform_entries-loop-i-preserved : goal.conform_entries-loop-i-preserved
-conform_entries-loop-i-preserved t c =
+pub conform_entries-loop-preserved : goal.conform_entries-loop-preserved
+conform_entries-loop-preserved t c =
     let args = c.args in
-    names_common c.loop-i.invariant 3 0 c.loop-i-test.true
-    (omega (arith, c.loop-i.invariant, c.if-v-at-lt-NAME_WIDTH.false)) c.name_at-name.result c.next_name-next.result
+    names_common c.loop.invariant 3 0 c.loop-test.true
+    (omega (arith, c.loop.invariant, c.if-v-at-lt-NAME_WIDTH.false)) c.name_at-name.result c.next_name-next.result
     c.name_at-name.ensures.0 c.if-name-least.false c.name_at-name.ensures.1
     c.next_name-next.ensures.value c.if-name-next.false c.if-next-name.false
-    (there t (goal.at.conform_entries-loop-i-preserved t c).Joined-j-m
-    (b_more c.loop-i.invariant 3 0 c.loop-i-test.true
-    (omega (arith, c.loop-i.invariant, c.if-v-at-lt-NAME_WIDTH.false)) c.name_at-name.result c.next_name-next.result
+    (there t (goal.at.conform_entries-loop-preserved t c).Joined-j-m
+    (b_more c.loop.invariant 3 0 c.loop-test.true
+    (omega (arith, c.loop.invariant, c.if-v-at-lt-NAME_WIDTH.false)) c.name_at-name.result c.next_name-next.result
     c.name_at-name.ensures.0 c.if-name-least.false c.name_at-name.ensures.1
     c.next_name-next.ensures.value c.if-name-next.false c.if-next-name.false))
     c.conforms-x.result c.conforms-x.new.other
     (pair (readable_value (args.left - 1)) (readable_type args.left) (order.conforms (order_of args.reading)) args.v.now
-    (c.loop-i.at + name_width) args.t.now (c.loop-i.bt + name_width) c.conforms-x.result
+    (c.loop.at + name_width) args.t.now (c.loop.bt + name_width) c.conforms-x.result
     c.conforms-x.new.other c.conforms-x.ensures c.if-x-eq0.false)
 
 pub conform_entries-returns-then-j-m-2 : goal.conform_entries-returns-then-j-m-2
-conform_entries-returns-then-j-m-2 t c = names_left c.loop-i.invariant 3 _ c.loop-i-test.false c.if-j-m-2.true
+conform_entries-returns-then-j-m-2 t c = names_left c.loop.invariant 3 _ c.loop-test.false c.if-j-m-2.true
 
 pub conform_entries-overflow_add-other : goal.conform_entries-overflow_add-other
 conform_entries-overflow_add-other t c =
     omega (
       arith,
-      c.loop-i.invariant,
+      c.loop.invariant,
       c.requires-raw,
     )
 
@@ -302,13 +302,13 @@ pub conform_entries-overflow_add-result : goal.conform_entries-overflow_add-resu
 conform_entries-overflow_add-result t c =
     omega (
       arith,
-      c.loop-i.invariant,
+      c.loop.invariant,
       c.requires-raw,
     )
 
 pub conform_entries-returns : goal.conform_entries-returns
 conform_entries-returns t c =
-    names_done c.loop-i.invariant 3 _ c.loop-i-test.false c.if-j-m-2.false _ refl
+    names_done c.loop.invariant 3 _ c.loop-test.false c.if-j-m-2.false _ refl
     refl
 
 pub conform_items-returns-then-m-eq0 : goal.conform_items-returns-then-m-eq0
@@ -336,14 +336,14 @@ conform_items-returns-then-n-eq0 t c =
     c.if-n-eq0.true c.skip-m.result c.skip-m.ensures
     c.if-m-eq0.false _ _ refl refl
 
-pub conform_items-loop-i-init : goal.conform_items-loop-i-init
-conform_items-loop-i-init t c =
+pub conform_items-loop-init : goal.conform_items-loop-init
+conform_items-loop-init t c =
     let args = c.args in
     items_start (order_of args.reading) (args.left - 1) args.left args.v.now args.n args.t.now
 
-pub conform_items-leaf-k-requires : goal.conform_items-leaf-k-requires
-conform_items-leaf-k-requires t c = (
-  omega (arith, c.loop-i.invariant),
+pub conform_items-leaf-requires : goal.conform_items-leaf-requires
+conform_items-leaf-requires t c = (
+  omega (arith, c.loop.invariant),
   omega arith,
   c.requires.2,
 )
@@ -353,67 +353,67 @@ conform_items-overflow_add-at t c =
     omega (
       arith,
       let args = c.args in
-          items_fit c.loop-i.invariant c.loop-i-test.true c.leaf-k.result 1
-          (leaf_pair (reading_ends args.reading) (args.left - 1) args.left args.v.now c.loop-i.at args.t.now 0
-          c.leaf-k.result c.leaf-k.ensures c.if-k-ne0.true),
+          items_fit c.loop.invariant c.loop-test.true c.in-Some.k 1
+          (leaf_pair (reading_ends args.reading) (args.left - 1) args.left args.v.now c.loop.at args.t.now 0
+          c.in-Some.k c.in-Some.ensures.0 (λ z. omega (arith, z, c.in-Some.ensures.1))),
     )
 
-pub conform_items-loop-i-preserved-then-k-ne0 : goal.conform_items-loop-i-preserved-then-k-ne0
-conform_items-loop-i-preserved-then-k-ne0 t c =
+pub conform_items-loop-preserved-in-Some : goal.conform_items-loop-preserved-in-Some
+conform_items-loop-preserved-in-Some t c =
     let args = c.args in
-    items_turn c.loop-i.invariant c.loop-i-test.true c.leaf-k.result 1
-    (leaf_pair (reading_ends args.reading) (args.left - 1) args.left args.v.now c.loop-i.at args.t.now 0
-    c.leaf-k.result c.leaf-k.ensures c.if-k-ne0.true)
+    items_turn c.loop.invariant c.loop-test.true c.in-Some.k 1
+    (leaf_pair (reading_ends args.reading) (args.left - 1) args.left args.v.now c.loop.at args.t.now 0
+    c.in-Some.k c.in-Some.ensures.0 (λ z. omega (arith, z, c.in-Some.ensures.1)))
 
 pub conform_items-slice_bounds-conforms-count : goal.conform_items-slice_bounds-conforms-count
-conform_items-slice_bounds-conforms-count t c = omega (arith, c.loop-i.invariant)
+conform_items-slice_bounds-conforms-count t c = omega (arith, c.loop.invariant)
 
 pub conform_items-slice_bounds-conforms-start : goal.conform_items-slice_bounds-conforms-start
-conform_items-slice_bounds-conforms-start t c = omega (arith, c.loop-i.invariant)
+conform_items-slice_bounds-conforms-start t c = omega (arith, c.loop.invariant)
 
 pub conform_items-returns-then-x-eq0 : goal.conform_items-returns-then-x-eq0
 conform_items-returns-then-x-eq0 t c =
-    items_apart c.loop-i.invariant c.loop-i-test.true c.conforms-x.result
+    items_apart c.loop.invariant c.loop-test.true c.conforms-x.result
     c.conforms-x.new.other c.conforms-x.ensures c.if-x-eq0.true _
 
-pub conform_items-overflow_add-at-in-loop-i : goal.conform_items-overflow_add-at-in-loop-i
-conform_items-overflow_add-at-in-loop-i t c =
+pub conform_items-overflow_add-at-in-loop : goal.conform_items-overflow_add-at-in-loop
+conform_items-overflow_add-at-in-loop t c =
     omega (
       arith,
       let args = c.args in
           let conforms = c.conforms-x in
-          items_fit c.loop-i.invariant c.loop-i-test.true conforms.result
+          items_fit c.loop.invariant c.loop-test.true conforms.result
           conforms.new.other
           (pair (readable_value (args.left - 1)) (readable_type args.left) (order.conforms (order_of args.reading)) args.v.now
-          c.loop-i.at args.t.now 0 conforms.result conforms.new.other
+          c.loop.at args.t.now 0 conforms.result conforms.new.other
           conforms.ensures c.if-x-eq0.false),
     )
 
-pub conform_items-loop-i-preserved : goal.conform_items-loop-i-preserved
-conform_items-loop-i-preserved t c =
+pub conform_items-loop-preserved : goal.conform_items-loop-preserved
+conform_items-loop-preserved t c =
     let args = c.args in
-    items_turn c.loop-i.invariant c.loop-i-test.true c.conforms-x.result
+    items_turn c.loop.invariant c.loop-test.true c.conforms-x.result
     c.conforms-x.new.other
     (pair (readable_value (args.left - 1)) (readable_type args.left) (order.conforms (order_of args.reading)) args.v.now
-    c.loop-i.at args.t.now 0 c.conforms-x.result c.conforms-x.new.other
+    c.loop.at args.t.now 0 c.conforms-x.result c.conforms-x.new.other
     c.conforms-x.ensures c.if-x-eq0.false)
 
 pub conform_items-overflow_add-other-2 : goal.conform_items-overflow_add-other-2
 conform_items-overflow_add-other-2 t c =
     omega (
       arith,
-      sized_in (readable_type c.args.left) c.args.t.now 0 c.loop-i.bt (omega arith)
-          (c.loop-i.invariant.known (omega (arith, c.loop-i.invariant, c.if-n-eq0.false))),
+      sized_in (readable_type c.args.left) c.args.t.now 0 c.loop.bt (omega arith)
+          (c.loop.invariant.known (omega (arith, c.loop.invariant, c.if-n-eq0.false))),
       c.requires-raw,
     )
 
 pub conform_items-overflow_add-result : goal.conform_items-overflow_add-result
-conform_items-overflow_add-result t c = omega (arith, c.loop-i.invariant, c.requires-raw)
+conform_items-overflow_add-result t c = omega (arith, c.loop.invariant, c.requires-raw)
 
 pub conform_items-returns : goal.conform_items-returns
 conform_items-returns t c =
-    items_done c.loop-i.invariant c.loop-i-test.false
-    (omega (arith, c.loop-i.invariant, c.if-n-eq0.false)) _ _ refl refl
+    items_done c.loop.invariant c.loop-test.false
+    (omega (arith, c.loop.invariant, c.if-n-eq0.false)) _ _ refl refl
 
 pub conforms-conform_other-requires : goal.conforms-conform_other-requires
 conforms-conform_other-requires t c =

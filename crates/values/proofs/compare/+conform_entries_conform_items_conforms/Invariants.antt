@@ -21,17 +21,11 @@ decreases-conform_items l = 2 * l.left + 1
 abbrev pub decreases-conforms : goal.decreases-conforms
 decreases-conforms l = 2 * l.left
 
-abbrev pub invariant-conform_entries-loop-i : goal.invariant-conform_entries-loop-i
-invariant-conform_entries-loop-i l = NamesGo size_val size_entries (value_at (l.left - 1)) (entries_at (l.left - 1)) no_entries entry Above
+abbrev pub invariant-conform_entries-loop : goal.invariant-conform_entries-loop
+invariant-conform_entries-loop l = NamesGo size_val size_entries (value_at (l.left - 1)) (entries_at (l.left - 1)) no_entries entry Above
     (order.conforms (order_of l.reading)) (entries_conform (order_of l.reading)) l.left
     (held_entries (order_of l.reading) (entries_at (l.left - 1) l.n 0 l.v) (fields_at l.left l.m 0 l.t))
-    l.v l.n l.t l.m l.at l.least l.i l.bt l.j
+    l.v l.n l.t l.m l.at l.least l.counter l.bt l.j
 
-abbrev pub decreases-conform_entries-loop-i : goal.decreases-conform_entries-loop-i
-decreases-conform_entries-loop-i l = l.n - l.i
-
-abbrev pub invariant-conform_items-loop-i : goal.invariant-conform_items-loop-i
-invariant-conform_items-loop-i l = ItemsGo (order_of l.reading) (l.left - 1) l.left (held_items (order_of l.reading) (items_at (l.left - 1) l.n l.v) (type_at l.left l.t)) l.v l.n l.t l.at l.bt l.i
-
-abbrev pub decreases-conform_items-loop-i : goal.decreases-conform_items-loop-i
-decreases-conform_items-loop-i l = l.n - l.i
+abbrev pub invariant-conform_items-loop : goal.invariant-conform_items-loop
+invariant-conform_items-loop l = ItemsGo (order_of l.reading) (l.left - 1) l.left (held_items (order_of l.reading) (items_at (l.left - 1) l.n l.v) (type_at l.left l.t)) l.v l.n l.t l.at l.bt l.counter

@@ -7,9 +7,6 @@ use Rattle.values.specs.Held.{held_definition}
 use Rattle.values.proofs.Definitions.{DefinitionGo}
 use Rattle.values.proofs.compare.conform_definition.Given as goal
 
-abbrev pub invariant-loop-i : goal.invariant-loop-i
-invariant-loop-i l = DefinitionGo (order_of l.reading) (l.left - 1) l.left (held_definition (order_of l.reading) (definition_at (l.left - 1) l.count l.v) (sig_at l.left l.count l.t))
-    l.v l.t l.count l.at l.bt l.i
-
-abbrev pub decreases-loop-i : goal.decreases-loop-i
-decreases-loop-i l = l.count - l.i
+abbrev pub invariant-loop : goal.invariant-loop
+invariant-loop l = DefinitionGo (order_of l.reading) (l.left - 1) l.left (held_definition (order_of l.reading) (definition_at (l.left - 1) l.count l.v) (sig_at l.left l.count l.t))
+    l.v l.t l.count l.at l.bt l.counter

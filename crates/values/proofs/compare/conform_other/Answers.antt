@@ -50,12 +50,10 @@ returns-then-d-eq-ANY_TYPE c =
     met_any (reading_ends args.reading) (args.left - 1) args.left args.v.now args.t.now (omega arith) (omega arith)
     c.if-d-eq-ANY_TYPE.true c.skip.result c.skip.ensures
 
-pub returns-then-n-eq0 : goal.returns-then-n-eq0
-returns-then-n-eq0 c =
-    let args =
-    c.args in
-    no_null (conforms (order_of args.reading)) (args.left - 1) args.left args.v.now args.t.now _ c.leaf_size_at-n.result _
-    c.leaf_size_at-n.ensures c.if-n-eq0.true c.in-0.is
+pub returns-in_default-leaf_size_at : goal.returns-in_default-leaf_size_at
+returns-in_default-leaf_size_at c =
+    let args = c.args in
+    no_null (conforms (order_of args.reading)) (args.left - 1) args.left args.v.now args.t.now _ _ c.in_default-leaf_size_at.ensures c.in-0.is
 
 pub returns-then-m-eq0 : goal.returns-then-m-eq0
 returns-then-m-eq0 c =
@@ -81,21 +79,21 @@ returns-then-t-lt2 c =
     c.if-d-ne-FUNCTION_TYPE.false
     (λ h. omega arith)
 
-pub returns-then-n-eq0-2 : goal.returns-then-n-eq0-2
-returns-then-n-eq0-2 c =
+pub returns-then-n-eq0 : goal.returns-then-n-eq0
+returns-then-n-eq0 c =
     let args =
     c.args in
     never (conforms (order_of args.reading)) (args.left - 1) args.left args.v.now args.t.now _
     (λ x y e f.
     unsized_value (args.left - 1) args.v.now 0 c.skip-n.result
-    c.skip-n.ensures c.if-n-eq0-2.true x e)
+    c.skip-n.ensures c.if-n-eq0.true x e)
 
 pub bounds-v-1 : goal.bounds-v-1
 bounds-v-1 c =
     let args =
     c.args in
     let sized-value1 = sized_value (args.left - 1) args.v.now 0 c.skip-n.result
-    c.skip-n.ensures c.if-n-eq0-2.false in
+    c.skip-n.ensures c.if-n-eq0.false in
     let h = definition_bytes (args.left - 1) args.left args.v.now args.t.now (omega arith)
     c.in-12.is c.if-d-ne-FUNCTION_TYPE.false (omega arith) sized-value1.x sized-value1.read in
     omega arith
@@ -106,7 +104,7 @@ returns-then-k-t c =
     c.args in
     let sized-value1 =
     sized_value (args.left - 1) args.v.now 0 c.skip-n.result c.skip-n.ensures
-    c.if-n-eq0-2.false in
+    c.if-n-eq0.false in
     definition_counts (args.left - 1) args.left args.v.now args.t.now (omega arith)
     c.in-12.is c.if-d-ne-FUNCTION_TYPE.false (omega arith) sized-value1.x sized-value1.read (order_of args.reading)
     c.if-k-t.true _
@@ -117,7 +115,7 @@ slice_bounds-conform_definition-count c =
     c.args in
     let sized-value1 =
     sized_value (args.left - 1) args.v.now 0 c.skip-n.result c.skip-n.ensures
-    c.if-n-eq0-2.false in
+    c.if-n-eq0.false in
     let h = definition_bytes (args.left - 1) args.left args.v.now args.t.now (omega arith)
     c.in-12.is c.if-d-ne-FUNCTION_TYPE.false (omega arith) sized-value1.x sized-value1.read in
     omega arith
@@ -128,7 +126,7 @@ slice_bounds-conform_definition-start c =
     c.args in
     let sized-value1 =
     sized_value (args.left - 1) args.v.now 0 c.skip-n.result c.skip-n.ensures
-    c.if-n-eq0-2.false in
+    c.if-n-eq0.false in
     let h = definition_bytes (args.left - 1) args.left args.v.now args.t.now (omega arith)
     c.in-12.is c.if-d-ne-FUNCTION_TYPE.false (omega arith) sized-value1.x sized-value1.read in
     omega arith
@@ -137,7 +135,7 @@ pub conform_definition-requires : goal.conform_definition-requires
 conform_definition-requires c =
     let args = c.args in
     let sized-value1 = sized_value (args.left - 1) args.v.now 0 c.skip-n.result
-    c.skip-n.ensures c.if-n-eq0-2.false in (
+    c.skip-n.ensures c.if-n-eq0.false in (
       part_room args.v.now 4
           (definition_bytes (args.left - 1) args.left args.v.now args.t.now (omega arith)
           c.in-12.is c.if-d-ne-FUNCTION_TYPE.false (omega arith) sized-value1.x sized-value1.read)
@@ -145,7 +143,7 @@ conform_definition-requires c =
       part_room args.t.now 2 (omega arith) (omega (arith, c.well_formed)),
       definition_ok (args.left - 1) args.left args.v.now args.t.now (omega arith)
           c.in-12.is c.if-d-ne-FUNCTION_TYPE.false (omega arith) sized-value1.x sized-value1.read
-          c.wide.result c.wide.ensures.0,
+          c.from.result c.from.ensures,
     )
 
 pub returns-then-is_related : goal.returns-then-is_related
@@ -167,8 +165,8 @@ pub returns-else-m-eq0 : goal.returns-else-m-eq0
 returns-else-m-eq0 c =
     let args =
     c.args in
-    met_null (reading_ends args.reading) (args.left - 1) args.left args.v.now args.t.now c.leaf_size_at-n.result _
-    c.leaf_size_at-n.ensures c.if-n-eq0.false c.in-0.is
+    met_null (reading_ends args.reading) (args.left - 1) args.left args.v.now args.t.now c.in-Some.n _
+    c.in-Some.ensures c.in-0.is
     c.skip-m.result
     (sized_part args.left args.t.now 0 c.skip-m.result c.skip-m.ensures
     c.if-m-eq0.false)
@@ -178,10 +176,10 @@ returns-else-k-t c =
     let args =
     c.args in
     let sized-value1 = sized_value (args.left - 1) args.v.now 0 c.skip-n.result
-    c.skip-n.ensures c.if-n-eq0-2.false in
+    c.skip-n.ensures c.if-n-eq0.false in
     met_definition (args.left - 1) args.left args.v.now args.t.now (omega arith)
     c.in-12.is c.if-d-ne-FUNCTION_TYPE.false (omega arith) sized-value1.x sized-value1.read (order_of args.reading)
-    c.wide.result c.wide.ensures.0 c.if-k-t.false _ _
+    c.from.result c.from.ensures c.if-k-t.false _ _
     c.conform_definition.ensures
 
 pub returns-in_default : goal.returns-in_default

@@ -3,6 +3,5 @@
 use Rattle.values.proofs.Reading.{pass_short}
 use Rattle.values.proofs.walk.pass.Goals as goal
 
-pub returns-then-n-ne0 : goal.returns-then-n-ne0
-returns-then-n-ne0 c =
-    pass_short c.args.left c.args.s.now c.leaf_size_at-n.result c.leaf_size_at-n.ensures c.if-n-ne0.true
+pub returns-in-Some : goal.returns-in-Some
+returns-in-Some c = pass_short c.args.left c.args.s.now c.in-Some.n c.in-Some.ensures
