@@ -131,8 +131,8 @@ static WORDS: [(&[u8], Question); 60] = [
 ];
 
 impl Question {
-    /// The question with this word.
-    pub fn from_word(word: &[u8]) -> Option<Question> {
+    // The question with this word.
+    pub(crate) fn from_word(word: &[u8]) -> Option<Question> {
         WORDS
             .iter()
             .find(|entry| entry.0 == word)
