@@ -1,24 +1,25 @@
 -- The answers of the calls: what `Ok` and each refusal means, document 01's number and values.
 -- Assumes nothing.
-use Rattle.std.specs.Prelude.{ℕ, ◌≡◌, List, ◌++◌, length, drop}
+use Rattle.std.specs.Prelude.{ℕ, ◌+◌, ◌≡◌, List, ◌++◌, length, drop}
 use Rattle.std.specs.declared.result.Result.{Result}
 use Rattle.std.specs.declared.result.Result.TheVariants.{Ok, Err}
+use Rattle.form.specs.Limits.{value_refusals, type_refusals}
 use Rattle.form.specs.Outcome.{Outcome, done, refused, ◌>>=◌}
 use Rattle.form.specs.declared.refusals.Refusal.{Refusal}
 use Rattle.form.specs.declared.refusals.Refusal.TheVariants as refusal_is
 
 -- document 01's number of a refusal
 abbrev pub number : Refusal → ℕ
-number refusal_is.ValueLength = 1
-number refusal_is.ValueShape = 2
-number refusal_is.ValueNames = 3
-number refusal_is.ValueLevel = 4
-number refusal_is.ValueLeftOver = 5
-number refusal_is.TypeLength = 6
-number refusal_is.TypeShape = 7
-number refusal_is.TypeNames = 8
-number refusal_is.TypeLevel = 9
-number refusal_is.TypeLeftOver = 10
+number refusal_is.ValueLength = value_refusals
+number refusal_is.ValueShape = value_refusals + 1
+number refusal_is.ValueNames = value_refusals + 2
+number refusal_is.ValueLevel = value_refusals + 3
+number refusal_is.ValueLeftOver = value_refusals + 4
+number refusal_is.TypeLength = type_refusals
+number refusal_is.TypeShape = type_refusals + 1
+number refusal_is.TypeNames = type_refusals + 2
+number refusal_is.TypeLevel = type_refusals + 3
+number refusal_is.TypeLeftOver = type_refusals + 4
 number refusal_is.PathLength = 11
 number refusal_is.NotContext = 12
 number refusal_is.NotData = 13

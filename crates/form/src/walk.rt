@@ -1,6 +1,7 @@
 // The walks over one value and one type: size and level, or the first fault. For the crates above, which know from a contract what stands at the front.
 ghost use Rattle.std.specs.Prelude.{◌≡◌, ◌+◌, ◌*◌, ◌-◌, ◌<◌, ◌≤◌, ◌^◌, length, drop, get_or};
 ghost use Rattle.form.specs.Faults.{place};
+ghost use Rattle.form.specs.Limits.{value_refusals, type_refusals};
 ghost use Rattle.form.specs.Trees.{simple, is_short_leaf};
 ghost use Rattle.form.specs.Form.{level, level_fields, level_tys, level_params, level_v, level_vals, level_entries};
 ghost use Rattle.form.specs.Read.{read_t, read_fields, read_tys, read_params, read_v, read_vals, read_entries};
@@ -21,7 +22,7 @@ pub enum Fault {
 impl Fault {
     // The refusal of a type with this fault.
     pub(crate) fn of_type(self) -> Refusal
-        ensures { number result ≡ 6 + place self }
+        ensures { number result ≡ type_refusals + place self }
     {
         match self {
             Fault::Shape => Refusal::TypeShape,
@@ -32,7 +33,7 @@ impl Fault {
 
     // The refusal of a value with this fault.
     pub(crate) fn of_value(self) -> Refusal
-        ensures { number result ≡ 1 + place self }
+        ensures { number result ≡ value_refusals + place self }
     {
         match self {
             Fault::Shape => Refusal::ValueShape,
@@ -93,13 +94,13 @@ fn fault_of(told: usize) -> Fault
 // The refusal of a value by its fault's number.
 pub fn value_fault(told: usize) -> Refusal
     requires { (1 ≤ told) × (told ≤ 3) }
-    ensures { number result ≡ 1 + told }
+    ensures { number result ≡ value_refusals + told }
 {
     fault_of(told).of_value()
 }
 
 // ---- walks: each answers the bytes that it took, 0 for a fault, and leaves the level, or the fault's number, in `told`. Two numbers, since a `Result` comes back
-// through memory: as `Result<Walked, Fault>` the same walk took 1.4 times as long at 30, 300 and 16,000 bytes (docs/DESIGN-PASS.md).
+// through memory: as `Result<Walked, Fault>` the same walk took 1.35, 1.30 and 1.28 times as long at 30, 300 and 16,000 bytes (docs/DESIGN-PASS.md).
 
 fn end(size: usize, level: usize, told: &mut usize) -> usize
     ensures { (result ≡ size) × (told.new ≡ level) }

@@ -30,13 +30,13 @@ use Rattle.tables.proofs.Loops.{all_at, all_from_lem, any_at, any_from_lem}
 min_is : (a b : ℕ) → a < 2 → b < 2 → eqb (min a b) 1 ≡ eqb a 1 && eqb b 1
 min_is a b h k = grind (arith, nat_tests)
 
-and_bit : (a b j : ℕ) → bit (bit_and a b) j ≡ bit a j && bit b j
+pub and_bit : (a b j : ℕ) → bit (bit_and a b) j ≡ bit a j && bit b j
 and_bit a b j = rw (bit_at_and a b j) (min_is (a / 2 ^ j % 2) (b / 2 ^ j % 2) (omega arith) (omega arith))
 
 same_bit : (a b : ℕ) → a < 2 → b < 2 → eqb a 1 ≡ eqb b 1 → a ≡ b
 same_bit a b p q e = grind (arith, nat_tests)
 
-same_bits : (k a b : ℕ) → a < 2 ^ k → b < 2 ^ k → ((j : ℕ) → j < k → bit a j ≡ bit b j) → a ≡ b
+pub same_bits : (k a b : ℕ) → a < 2 ^ k → b < 2 ^ k → ((j : ℕ) → j < k → bit a j ≡ bit b j) → a ≡ b
 same_bits k a b p q h = same_from_bits_below k a b p q (λ i l. same_bit (bit_at a i) (bit_at b i) (omega arith) (omega arith) (h i l))
 
 -- ---- the rows of a table

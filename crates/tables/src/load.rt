@@ -38,9 +38,7 @@ fn pack<F: Fn(usize) -> bool>(count: usize, flag: F) -> u64
 {
     let mut n = 0;
     for k in 0..count {
-        if flag(k) {
-            n += 1 << k;
-        }
+        n += u64::from(flag(k)) << k;
     }
     n
 }
@@ -164,5 +162,5 @@ pub fn load(table: &[u8]) -> Result<Reading, Refusal>
     if !is_joined(&rows) {
         return Err(Refusal::NoJoin);
     }
-    Ok(Reading::of_table(flags.number()))
+    Ok(Reading::of_number(flags.number()))
 }

@@ -42,11 +42,19 @@ impl Reading {
     // DMN's: every function is judged by its result.
     pub const STRICT: Reading = Reading { bits: 1 };
 
-    // That of the table with this number.
-    pub(crate) fn of_table(bits: u64) -> Reading
+    // The one with this number, of a table that loads or of none: the walks and builders are exact for every number.
+    pub fn of_number(bits: u64) -> Reading
         ensures { result ≡ bits }
     {
         Reading { bits }
+    }
+
+    // Its number.
+    pub fn number(self) -> u64
+        ensures { result ≡ self }
+    {
+        let Reading { bits } = self;
+        bits
     }
 
     // Whether it is strict: its bit 0.
