@@ -2,7 +2,7 @@
 -- Idea: a list, a range, a context and a function are one case: two parts k bytes behind the starts, joined and wrapped again (`Inner`).
 -- Index: `ready`, `both`, `is_combined`, `combined_is` (the predicates of the contracts); `left_ready`, `left_done`, `right_ready`, `right_done`, `simple_done`, `other_done` (any two types);
 -- `Inner`, `inner_ready`, `inner_ends`, `inner_done` (the one case); `leaf_done`, `wrapped`, `wrapped_done`, `in_contexts`, `ctx_done`, `in_functions`, `ignored`, `in_sigs`, `fun_done`,
--- `fun_none`, `fun_other` (equal commands); `ready_up`, `ready_down`, `from_up`, `from_down` (the direction as a flag).
+-- `fun_none`, `fun_other` (equal commands).
 -- Assumes nothing.
 use Prim.Native.Nat.{ℕ, zero, suc, ◌+◌, ◌-◌, ◌/◌, ◌%◌, ◌<◌, ◌≤◌}
 use mathlib.Core.Path.{◌≡◌, refl, sym, ap, ap₂, ◌∙◌}

@@ -1,7 +1,7 @@
 -- The loop that takes the entries of two contexts in step, and what it calls: an entry of one side alone, or an entry of each with the same name.
 -- Idea: each turn writes a piece of the answer (`Piece`), and what was written and the bytes of the answer to what is left make the bytes of the whole answer (`FieldsInv`).
--- Index: `One`, `one_is` (a single entry); `alone_fits`, `alone_up`, `alone_ready`, `alone_down` (an entry of one side alone); `in_entries`, `entry_done` (of each, with the same name);
--- `FieldsInv`, `Peeked`, `peeked`, `fields_start`, `fields_done`, `more_a`, `more_b` (start and end); `a_ready`, `a_ends`, `a_next`, `b_ready`, `b_ends`, `b_next`, `both_ready`, `both_ends`,
+-- Index: `One`, `one_is` (a single entry); `alone_ready`, `alone_down` (an entry of one side alone, taken with itself); `in_entries`, `entry_done` (of each, with the same name);
+-- `FieldsInv`, `Peeked`, `peeked`, `fields_start`, `fields_done`, `more_a`, `more_b` (start and end); `over_a_fits`, `over_a`, `over_b_fits`, `over_b` (a name that is passed over); `a_ready`, `a_ends`, `a_next`, `b_ready`, `b_ends`, `b_next`, `both_ready`, `both_ends`,
 -- `both_next` (a turn).
 -- Assumes nothing.
 use Prim.Native.Nat.{ℕ, suc, ◌+◌, ◌-◌, ◌<◌, ◌≤◌}
@@ -29,7 +29,7 @@ use Rattle.order.specs.Ascending.{Asc, AscFields}
 use Rattle.order.specs.Size.{size, size_fields}
 use Rattle.order.proofs.Size.{length_fields}
 use Rattle.order.proofs.WellFormed.{count_size}
-use Rattle.order.proofs.Sentences.{sup_fields_first, sub_fields_first}
+use Rattle.order.proofs.Sentences.{sup_fields_first, sup_fields_second, sub_fields_first}
 use Rattle.types.specs.At.{seen, type_at, fields_at, size_at}
 use Rattle.types.proofs.Reading.{seen_got, t_good}
 use Rattle.types.proofs.Entries.{Here, here, gone, ahead, next_is, size_got, enc_field, enc_none, size_field, size_none, count_field}
@@ -80,9 +80,14 @@ part_name : (l : ℕ) {n at least : ℕ} {a : List ℕ} {fs : Fields} (A : Here 
 part_name l {n} {at} {least} {a} {fs} A = ap (num_at name_width 0) (rest a at) ∙ sym A.named
 
 -- ---- an entry of one side alone: passed over, or taken with itself
-only_up : (O : Order) (d : Dir) → d ≡ up → (n : ℕ) (t : Ty) → answer_fields O d (field n t no_fields) no_fields ≡ no_fields
-unfolding Asc
-only_up O d e n t = rw e (sup_fields_first O n t no_fields no_fields tt ∙ fields_none O up)
+over_first : (O : Order) (d : Dir) → d ≡ up → (n : ℕ) (t : Ty) (fs gs : Fields) → AscFields gs (suc n) → answer_fields O d (field n t fs) gs ≡ answer_fields O d fs gs
+over_first O d e n t fs gs w = subst (λ (d : Dir). answer_fields O d (field n t fs) gs ≡ answer_fields O d fs gs) (sym e) (sup_fields_first O n t fs gs w)
+
+over_second : (O : Order) (d : Dir) → d ≡ up → (n : ℕ) (t : Ty) (fs gs : Fields) → AscFields fs (suc n) → answer_fields O d fs (field n t gs) ≡ answer_fields O d fs gs
+over_second O d e n t fs gs w = subst (λ (d : Dir). answer_fields O d fs (field n t gs) ≡ answer_fields O d fs gs) (sym e) (sup_fields_second O fs n (suc n) t gs w (omega arith))
+
+skipped : (l : ℕ) (a : List ℕ) (p z : ℕ) (t : Ty) → z ≡ size_at (type_at l (behind p a)) → type_at l (drop p a) ≡ some t → z ≡ size t
+skipped l a p z t e f = e ∙ ap (λ (r : List ℕ). size_at (type_at l r)) (rest a p) ∙ size_got (type_at l (drop p a)) t f
 
 only_down : {O : Order} → Ends O → (d : Dir) → d ≡ down → (n : ℕ) (t : Ty) → Asc t
     → (answer_fields O d (field n t no_fields) (field n t no_fields) ≡ answer_fields O d (field n t no_fields) no_fields)
@@ -105,23 +110,6 @@ module _ (O : Order) (d : Dir) (l : ℕ) (s : List ℕ) (n : ℕ) (p : Ready (of
   -- the other side has none
   none : K.u ≡ no_fields
   none = let e : some no_fields ≡ some K.u = K.read_b in cc
-
-  pub alone_fits : name_width + size_at (type_at l (behind name_width s)) ≤ length s
-  alone_fits = omega (arith, E.fits, size_got (type_at l (behind name_width s)) E.t E.first)
-
-  pub alone_up : d ≡ up → (z : ℕ) → z ≡ size_at (type_at l (behind name_width s)) → (old : List ℕ)
-      → Combined (of_fields O d) (fields_at l 1 0 s) no_entry old old (name_width + z) 0 0 × Counted O d (fields_at l 1 0 s) no_entry 0
-  alone_up e z ez old =
-      let a : answer_fields O d K.t K.u ≡ no_fields = ap₂ (answer_fields O d) E.is none ∙ only_up O d e E.name E.t in (
-        is_combined (of_fields O d) _ _ K.t K.u old old (name_width + z) 0 0 K.read_a K.read_b
-            (record {
-              one = omega (arith, E.sized, size_got (type_at l (behind name_width s)) E.t E.first);
-              two = omega (arith, ap size_fields none, size_none);
-              long = omega (arith, ap size_fields a, size_none);
-              out = sym (onto_nil old) ∙ ap (λ (z : List ℕ). onto z old) (sym (ap enc_fields a ∙ enc_none));
-            }),
-        is_counted O d _ _ K.t K.u 0 K.read_a K.read_b (omega (arith, ap count_fields a, count_none)),
-      )
 
   module _ (L : Ends O) (e : d ≡ down) where
     same_answer : (answer_fields O d K.t K.t ≡ answer_fields O d K.t K.u) × (count_fields (answer_fields O d K.t K.u) ≡ 1)
@@ -313,7 +301,7 @@ module _ {O : Order} {d : Dir} {l : ℕ} {a : List ℕ} {n : ℕ} {b : List ℕ}
   to_fits = omega (arith, v.room, v.out_len)
 
   -- ---- the entries that are left behind a turn
-  record Rest (at' i' bt' j' : ℕ) (fs' gs' : Fields) : Type 0 where
+  pub record Rest (at' i' bt' j' : ℕ) (fs' gs' : Fields) : Type 0 where
     pub least_a : ℕ
     pub least_b : ℕ
     pub below_a : i' ≤ n
@@ -424,6 +412,37 @@ module _ {O : Order} {d : Dir} {l : ℕ} {a : List ℕ} {n : ℕ} {b : List ℕ}
         state = back v.done (enc_fields F) old out ns to v.state v.long (omega (arith, v.out_len)) en;
       }
 
+  -- nothing is written, and fs' and gs' are left
+  pass : {at' i' bt' j' : ℕ} {fs' gs' : Fields} → Rest at' i' bt' j' fs' gs' → answer_fields O d v.fs v.gs ≡ answer_fields O d fs' gs' → FieldsInv O d l a n b m old out at' i' bt' j' to k
+  pass {at'} {i'} {bt'} {j'} {fs'} {gs'} R s =
+      record {
+        ends = v.ends;
+        all_a = v.all_a;
+        all_b = v.all_b;
+        fs = fs';
+        gs = gs';
+        least_a = R.least_a;
+        least_b = R.least_b;
+        done = v.done;
+        whole_a = v.whole_a;
+        whole_b = v.whole_b;
+        below_a = R.below_a;
+        below_b = R.below_b;
+        cap = v.cap;
+        in_a = R.in_a;
+        in_b = R.in_b;
+        read_a = R.read_a;
+        read_b = R.read_b;
+        size_a = R.size_a;
+        size_b = R.size_b;
+        text = ap (λ (x : Fields). v.done ++ enc_fields x) (sym s) ∙ v.text;
+        many = ap (λ (x : Fields). k + count_fields x) (sym s) ∙ v.many;
+        long = v.long;
+        room = omega (arith, v.room, ap size_fields s);
+        out_len = v.out_len;
+        state = v.state;
+      }
+
   module _ {x y : ℕ} (pk : Peeked a n b m at i bt j x y) where
     name_a : x < name_end → (i < n) × (x ≡ num_at name_width at a)
     name_a h = next_is i n (num_at name_width at a) x pk.first h
@@ -468,6 +487,21 @@ module _ {O : Order} {d : Dir} {l : ℕ} {a : List ℕ} {n : ℕ} {b : List ℕ}
               subst (λ (f : Fields). Piece (answer_fields O d f v.gs) (answer_fields O d (field HA.name HA.x no_fields) no_fields) (answer_fields O d HA.more v.gs)) (sym HA.is)
               (piece_first O d HA.name HA.x HA.more v.gs HA.asc w)
 
+      -- passed over
+      module _ (z : ℕ) (e : z ≡ size_at (type_at l (behind (at + name_width) a))) where
+        pub over_a_fits : at + (name_width + z) ≤ length a
+        over_a_fits = omega (arith, HA.fits, skipped l a (at + name_width) z HA.x e HA.first)
+
+        pub over_a : d ≡ up → FieldsInv O d l a n b m old out (at + (name_width + z)) (i + 1) bt j to k
+        over_a u = go HA
+          where
+            go : (HA : Here l (n - (i + 1)) at v.least_a a v.fs) → FieldsInv O d l a n b m old out (at + (name_width + z)) (i + 1) bt j to k
+            go HA =
+                let w : AscFields v.gs (suc HA.name) = ahead l j m bt v.least_b b v.gs v.read_b HA.name y pk.second (omega (arith, HA.named, (name_a (omega (arith, pk.low2))).1)) in
+                pass (rest_a (more_a (omega (arith, pk.low2))) HA (name_width + z) (omega (arith, skipped l a (at + name_width) z HA.x e HA.first)))
+                (ap (λ (f : Fields). answer_fields O d f v.gs) HA.is ∙ over_first O d u HA.name HA.x HA.more v.gs w)
+
+      -- taken with itself
       pub a_ready : Ready (of_fields O d) (fields_at l 1 0 (behind at a)) no_entry (length (behind to out))
       a_ready = ready (of_fields O d) _ _ (field HA.name HA.x no_fields) no_fields _ (part l HA) refl (piece_room piece_a) (piece_small piece_a)
 
@@ -503,6 +537,21 @@ module _ {O : Order} {d : Dir} {l : ℕ} {a : List ℕ} {n : ℕ} {b : List ℕ}
               subst (λ (f : Fields). Piece (answer_fields O d v.fs f) (answer_fields O d (field HB.name HB.x no_fields) no_fields) (answer_fields O d v.fs HB.more)) (sym HB.is)
               (piece_second O d HB.name HB.x v.fs HB.more w)
 
+      -- passed over
+      module _ (z : ℕ) (e : z ≡ size_at (type_at l (behind (bt + name_width) b))) where
+        pub over_b_fits : bt + (name_width + z) ≤ length b
+        over_b_fits = omega (arith, HB.fits, skipped l b (bt + name_width) z HB.x e HB.first)
+
+        pub over_b : d ≡ up → FieldsInv O d l a n b m old out at i (bt + (name_width + z)) (j + 1) to k
+        over_b u = go HB
+          where
+            go : (HB : Here l (m - (j + 1)) bt v.least_b b v.gs) → FieldsInv O d l a n b m old out at i (bt + (name_width + z)) (j + 1) to k
+            go HB =
+                let w : AscFields v.fs (suc HB.name) = ahead l i n at v.least_a a v.fs v.read_a HB.name x pk.first (omega (arith, HB.named, (name_b (omega (arith, pk.low))).1)) in
+                pass (rest_b (more_b (omega (arith, pk.low))) HB (name_width + z) (omega (arith, skipped l b (bt + name_width) z HB.x e HB.first)))
+                (ap (λ (f : Fields). answer_fields O d v.fs f) HB.is ∙ over_second O d u HB.name HB.x v.fs HB.more w)
+
+      -- taken with itself
       pub b_ready : Ready (of_fields O d) (fields_at l 1 0 (behind bt b)) no_entry (length (behind to out))
       b_ready = ready (of_fields O d) _ _ (field HB.name HB.x no_fields) no_fields _ (part l HB) refl (piece_room piece_b) (piece_small piece_b)
 

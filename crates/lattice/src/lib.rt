@@ -7,7 +7,7 @@ ghost use Rattle.form.specs.Limits.{name_width};
 ghost use Rattle.form.specs.Form.{bytes, num_at};
 ghost use Rattle.order.specs.Order.{toward, order_of};
 ghost use Rattle.types.specs.At.{type_at, fields_at, sig_at};
-ghost use Rattle.lattice.specs.Writing.{of_types, of_fields, of_sigs, no_entry, Ready, Combined, Counted};
+ghost use Rattle.lattice.specs.Writing.{of_types, of_fields, of_sigs, Ready, Combined, Counted};
 
 use form::commands;
 use form::limits::{NAME_END, NAME_WIDTH};
@@ -61,7 +61,8 @@ struct Entries {
     count: usize,
 }
 
-// Common supertype (up) or subtype of any two types. Two equal simple ones take a short way.
+// Common supertype (up) or subtype of any two types. Two equal simple ones take a short way, which stands where it is asked: most entries of contexts go it.
+#[inline(always)]
 #[cycle(bounds)]
 pub fn write(up: bool, a: &[u8], b: &[u8], out: &mut [u8], left: usize, reading: Reading) -> Ends
     requires { Ready (of_types (order_of reading) (toward up)) (type_at left a.now) (type_at left b.now) (length out.old) }
@@ -69,11 +70,22 @@ pub fn write(up: bool, a: &[u8], b: &[u8], out: &mut [u8], left: usize, reading:
 {
     let c = a[0];
     let d = b[0];
+    if c == d && c < commands::LIST_TYPE {
+        out[0] = c;
+        return Ends::ONE;
+    }
+    write_other(up, a, b, out, left, reading)
+}
+
+// The same, without the short way.
+#[cycle(bounds)]
+fn write_other(up: bool, a: &[u8], b: &[u8], out: &mut [u8], left: usize, reading: Reading) -> Ends
+    requires { Ready (of_types (order_of reading) (toward up)) (type_at left a.now) (type_at left b.now) (length out.old) }
+    ensures { Combined (of_types (order_of reading) (toward up)) (type_at left a.now) (type_at left b.now) out.old out.new result.first result.second result.wrote }
+{
+    let c = a[0];
+    let d = b[0];
     if c == d {
-        if c < commands::LIST_TYPE {
-            out[0] = c;
-            return Ends::ONE;
-        }
         return same(up, a, b, out, left, reading);
     }
     let least = readings::greatest(!up);
@@ -151,6 +163,8 @@ pub fn same(up: bool, a: &[u8], b: &[u8], out: &mut [u8], left: usize, reading: 
 }
 
 // The entries of two contexts, n and m of them: the common names (up) or all names, common ones at their common type. The two ascending lists of names are taken in step.
+// An entry whose name the other has not is passed over here (up), or taken with itself: as a function beside this one, whose numbers come back through memory, it cost half as
+// much again.
 #[cycle(bounds)]
 fn fields(
     up: bool,
@@ -177,19 +191,29 @@ fn fields(
         let x = types::walk::next_name(a, at, i, n);
         let y = types::walk::next_name(b, bt, j, m);
         if x < y {
-            let e = alone(up, &a[at..], &mut out[to..], left, reading);
-            at += e.ends.first;
-            to += e.ends.wrote;
+            if up {
+                at += NAME_WIDTH + types::walk::skip(&a[at + NAME_WIDTH..], left);
+                i += 1;
+                continue;
+            }
+            let e = entry(up, &a[at..], &a[at..], &mut out[to..], left, reading);
+            at += e.first;
+            to += e.wrote;
             i += 1;
-            k += e.count;
+            k += 1;
             continue;
         }
         if y < x {
-            let e = alone(up, &b[bt..], &mut out[to..], left, reading);
-            bt += e.ends.first;
-            to += e.ends.wrote;
+            if up {
+                bt += NAME_WIDTH + types::walk::skip(&b[bt + NAME_WIDTH..], left);
+                j += 1;
+                continue;
+            }
+            let e = entry(up, &b[bt..], &b[bt..], &mut out[to..], left, reading);
+            bt += e.first;
+            to += e.wrote;
             j += 1;
-            k += e.count;
+            k += 1;
             continue;
         }
         if x == NAME_END {
@@ -212,32 +236,8 @@ fn fields(
     }
 }
 
-// An entry whose name the other context has not: passed over (up), or written with its type's reduced form.
-#[cycle(bounds)]
-fn alone(up: bool, s: &[u8], out: &mut [u8], left: usize, reading: Reading) -> Entries
-    requires { Ready (of_fields (order_of reading) (toward up)) (fields_at left 1 0 s.now) no_entry (length out.old) }
-    ensures combined { Combined (of_fields (order_of reading) (toward up)) (fields_at left 1 0 s.now) no_entry out.old out.new result.ends.first result.ends.second result.ends.wrote }
-    ensures counted { Counted (order_of reading) (toward up) (fields_at left 1 0 s.now) no_entry result.count }
-{
-    if up {
-        let size = NAME_WIDTH + types::walk::skip(&s[NAME_WIDTH..], left);
-        return Entries {
-            ends: Ends {
-                first: size,
-                second: 0,
-                wrote: 0,
-            },
-            count: 0,
-        };
-    }
-    let e = entry(up, s, s, out, left, reading);
-    Entries {
-        ends: Ends { second: 0, ..e },
-        count: 1,
-    }
-}
-
-// An entry of each with the same name: the name, and the common type.
+// An entry of each with the same name: the name, and the common type. Not inlined: the loop of `fields` would have fewer registers for the names that it passes over.
+#[inline(never)]
 #[cycle(bounds)]
 fn entry(up: bool, a: &[u8], b: &[u8], out: &mut [u8], left: usize, reading: Reading) -> Ends
     requires ready { Ready (of_fields (order_of reading) (toward up)) (fields_at left 1 0 a.now) (fields_at left 1 0 b.now) (length out.old) }

@@ -1,4 +1,4 @@
--- The cycle `lattice::write`, `same`, `fields`, `alone`, `entry`, `signature` meets its contracts, in either direction.
+-- The cycle `lattice::write`, `same`, `fields`, `entry`, `signature` meets its contracts, in either direction.
 -- Idea: each return of `write` and `same` is a law of Branches, each turn of a loop one of SortedMerge or SignatureLoop.
 -- Assumes nothing.
 use Prim.Native.Nat.{ℕ, ◌≤◌}
@@ -16,34 +16,11 @@ use Rattle.lattice.proofs.BoundTrees.{turned, least_code}
 use Rattle.lattice.proofs.Branches.{byte_a, byte_b, level_a, one, left_ready, left_done, right_ready, right_done, other_done, inner_ready, inner_ends, leaf_done, wrapped}
 use Rattle.lattice.proofs.Branches.{wrapped_done, ctx_three, in_contexts, ctx_count, ctx_done, in_functions, fun_other, fun_none_room, fun_none, fun_head, ignored}
 use Rattle.lattice.proofs.Branches.{in_sigs, fun_done}
-use Rattle.lattice.proofs.SortedMerge.{alone_fits, alone_up, alone_ready, alone_down, name_fits, in_entries, entry_done}
-use Rattle.lattice.proofs.SortedMerge.{peeked, fields_start, peek_a, peek_b, a_ready, a_ends, a_next, b_ready, b_ends, b_next, fields_done, both_ready, both_names, both_ends, both_next}
+use Rattle.lattice.proofs.SortedMerge.{alone_ready, alone_down, name_fits, in_entries, entry_done}
+use Rattle.lattice.proofs.SortedMerge.{peeked, fields_start, peek_a, peek_b, more_a, more_b, over_a_fits, over_a, over_b_fits, over_b, a_ready, a_ends, a_next, b_ready, b_ends, b_next, fields_done, both_ready, both_names, both_ends, both_next}
 use Rattle.lattice.proofs.SignatureLoop.{sig_start, param_ready, param_ends, param_next, result_ready, result_ends, sig_done}
 use Rattle.lattice.proofs.+bounds.Goals as goal
 use Rattle.lattice.proofs.+bounds.Goals.{same-Joined-else-n-eq0, same-else-n-eq0-via-then-n-eq0+else-not-is_strict, same-else-n-eq0-via-else-n-eq0}
-
--- ---- alone: an entry of one side only
-pub alone-slice_bounds-skip-count : goal.alone-slice_bounds-skip-count
-alone-slice_bounds-skip-count t c = omega (arith, alone_fits _ _ _ _ _ c.requires)
-
-pub alone-slice_bounds-skip-start : goal.alone-slice_bounds-skip-start
-alone-slice_bounds-skip-start t c = omega (arith, alone_fits _ _ _ _ _ c.requires)
-
-pub alone-overflow_add-size : goal.alone-overflow_add-size
-alone-overflow_add-size t c = omega (arith, c.skip-size.ensures, alone_fits _ _ _ _ _ c.requires)
-
-pub alone-returns-then-up : goal.alone-returns-then-up
-alone-returns-then-up t c =
-    let g = alone_up _ _ _ _ _ c.requires (ap toward c.if-up.true) _ c.skip-size.ensures c.args.out.now in
-    record { combined = g.0; counted = g.1 }
-
-pub alone-entry-e-requires : goal.alone-entry-e-requires
-alone-entry-e-requires t c = (omega (arith, c.decreases), (alone_ready _ _ _ _ _ c.requires (reading_ends c.args.reading) (ap toward c.if-up.false), refl))
-
-pub alone-returns : goal.alone-returns
-alone-returns t c =
-    let g = alone_down _ _ _ _ _ c.requires (reading_ends c.args.reading) (ap toward c.if-up.false) _ _ _ _ _ c.entry-e.ensures in
-    record { combined = g.0; counted = g.1 }
 
 -- ---- entry: an entry of each with the same name
 pub entry-copy_name-requires : goal.entry-copy_name-requires
@@ -81,108 +58,138 @@ pub entry-returns : goal.entry-returns
 entry-returns t c = rw c.behind.ensures (entry_done _ _ _ _ _ _ c.requires.ready c.requires.same_name c.args.out.now _ refl c.copy_name.ensures _ _ _ _ c.write.ensures)
 
 -- ---- fields: the entries of two contexts
-pub fields-loop-out-init : goal.fields-loop-out-init
-fields-loop-out-init t c = fields_start (reading_ends c.args.reading) _ _ _ _ _ _ _ c.requires
+pub fields-loop-at-init : goal.fields-loop-at-init
+fields-loop-at-init t c = fields_start (reading_ends c.args.reading) _ _ _ _ _ _ _ c.requires
 
 pub fields-next_name-x-requires : goal.fields-next_name-x-requires
-fields-next_name-x-requires t c = peek_a c.loop-out.invariant
+fields-next_name-x-requires t c = peek_a c.loop-at.invariant
 
 pub fields-next_name-y-requires : goal.fields-next_name-y-requires
-fields-next_name-y-requires t c = peek_b c.loop-out.invariant
+fields-next_name-y-requires t c = peek_b c.loop-at.invariant
 
--- a name of the first alone
-pub fields-alone-e-requires : goal.fields-alone-e-requires
-fields-alone-e-requires t c = (omega (arith, c.decreases), a_ready c.loop-out.invariant (peeked c.next_name-x.ensures c.next_name-y.ensures) c.if-x-y.true)
+-- a name of the first alone: passed over, or taken with itself
+pub fields-slice_bounds-skip-count : goal.fields-slice_bounds-skip-count
+fields-slice_bounds-skip-count t c = omega (arith, peek_a c.loop-at.invariant (more_a c.loop-at.invariant (peeked c.next_name-x.ensures c.next_name-y.ensures) (omega (arith, c.if-x-y.true, c.next_name-y.ensures.upper_bound.0))))
 
-pub fields-overflow_add-at : goal.fields-overflow_add-at
-fields-overflow_add-at t c =
-    omega (arith, a_ends c.loop-out.invariant (peeked c.next_name-x.ensures c.next_name-y.ensures) c.if-x-y.true _ _ _ _ _ c.alone-e.ensures.combined c.alone-e.ensures.counted)
+pub fields-slice_bounds-skip-start : goal.fields-slice_bounds-skip-start
+fields-slice_bounds-skip-start t c = omega (arith, peek_a c.loop-at.invariant (more_a c.loop-at.invariant (peeked c.next_name-x.ensures c.next_name-y.ensures) (omega (arith, c.if-x-y.true, c.next_name-y.ensures.upper_bound.0))))
+
+pub fields-overflow_add-at-then-up : goal.fields-overflow_add-at-then-up
+fields-overflow_add-at-then-up t c = omega (arith, over_a_fits c.loop-at.invariant (peeked c.next_name-x.ensures c.next_name-y.ensures) c.if-x-y.true _ c.skip.ensures)
+
+pub fields-overflow_add-at-then-up-2 : goal.fields-overflow_add-at-then-up-2
+fields-overflow_add-at-then-up-2 t c = omega (arith, over_a_fits c.loop-at.invariant (peeked c.next_name-x.ensures c.next_name-y.ensures) c.if-x-y.true _ c.skip.ensures)
+
+pub fields-loop-at-preserved-then-up : goal.fields-loop-at-preserved-then-up
+fields-loop-at-preserved-then-up t c = over_a c.loop-at.invariant (peeked c.next_name-x.ensures c.next_name-y.ensures) c.if-x-y.true _ c.skip.ensures (ap toward c.if-up.true)
+
+pub fields-entry-e-requires : goal.fields-entry-e-requires
+fields-entry-e-requires t c =
+    (omega (arith, c.decreases), (alone_ready _ _ _ _ _ (a_ready c.loop-at.invariant (peeked c.next_name-x.ensures c.next_name-y.ensures) c.if-x-y.true) (reading_ends c.args.reading) (ap toward c.if-up.false), refl))
+
+pub fields-overflow_add-at-then-x-y : goal.fields-overflow_add-at-then-x-y
+fields-overflow_add-at-then-x-y t c =
+    let g = alone_down _ _ _ _ _ (a_ready c.loop-at.invariant (peeked c.next_name-x.ensures c.next_name-y.ensures) c.if-x-y.true) (reading_ends c.args.reading) (ap toward c.if-up.false) _ _ _ _ _ c.entry-e.ensures in
+    omega (arith, c.loop-at.invariant.out_len, a_ends c.loop-at.invariant (peeked c.next_name-x.ensures c.next_name-y.ensures) c.if-x-y.true _ _ _ _ _ g.0 g.1)
 
 pub fields-overflow_add-to : goal.fields-overflow_add-to
 fields-overflow_add-to t c =
-    omega (
-      arith,
-      c.loop-out.invariant.out_len,
-      a_ends c.loop-out.invariant (peeked c.next_name-x.ensures c.next_name-y.ensures) c.if-x-y.true _ _ _ _ _
-          c.alone-e.ensures.combined c.alone-e.ensures.counted,
-    )
+    let g = alone_down _ _ _ _ _ (a_ready c.loop-at.invariant (peeked c.next_name-x.ensures c.next_name-y.ensures) c.if-x-y.true) (reading_ends c.args.reading) (ap toward c.if-up.false) _ _ _ _ _ c.entry-e.ensures in
+    omega (arith, c.loop-at.invariant.out_len, a_ends c.loop-at.invariant (peeked c.next_name-x.ensures c.next_name-y.ensures) c.if-x-y.true _ _ _ _ _ g.0 g.1)
 
 pub fields-overflow_add-k : goal.fields-overflow_add-k
 fields-overflow_add-k t c =
-    omega (arith, a_ends c.loop-out.invariant (peeked c.next_name-x.ensures c.next_name-y.ensures) c.if-x-y.true _ _ _ _ _ c.alone-e.ensures.combined c.alone-e.ensures.counted)
+    let g = alone_down _ _ _ _ _ (a_ready c.loop-at.invariant (peeked c.next_name-x.ensures c.next_name-y.ensures) c.if-x-y.true) (reading_ends c.args.reading) (ap toward c.if-up.false) _ _ _ _ _ c.entry-e.ensures in
+    omega (arith, c.loop-at.invariant.out_len, a_ends c.loop-at.invariant (peeked c.next_name-x.ensures c.next_name-y.ensures) c.if-x-y.true _ _ _ _ _ g.0 g.1)
 
-pub fields-loop-out-preserved-then-x-y : goal.fields-loop-out-preserved-then-x-y
-fields-loop-out-preserved-then-x-y t c =
-    a_next c.loop-out.invariant (peeked c.next_name-x.ensures c.next_name-y.ensures) c.if-x-y.true _ _ _ _ _ c.alone-e.ensures.combined c.alone-e.ensures.counted c.alone-e.auto.out
+pub fields-loop-at-preserved-then-x-y : goal.fields-loop-at-preserved-then-x-y
+fields-loop-at-preserved-then-x-y t c =
+    let g = alone_down _ _ _ _ _ (a_ready c.loop-at.invariant (peeked c.next_name-x.ensures c.next_name-y.ensures) c.if-x-y.true) (reading_ends c.args.reading) (ap toward c.if-up.false) _ _ _ _ _ c.entry-e.ensures in
+    a_next c.loop-at.invariant (peeked c.next_name-x.ensures c.next_name-y.ensures) c.if-x-y.true _ _ _ _ _ g.0 g.1 c.entry-e.auto.out
 
 -- a name of the second alone
-pub fields-alone-e-requires-then-y-x : goal.fields-alone-e-requires-then-y-x
-fields-alone-e-requires-then-y-x t c = (omega (arith, c.decreases), b_ready c.loop-out.invariant (peeked c.next_name-x.ensures c.next_name-y.ensures) c.if-y-x.true)
+pub fields-slice_bounds-skip-count-then-up-2 : goal.fields-slice_bounds-skip-count-then-up-2
+fields-slice_bounds-skip-count-then-up-2 t c = omega (arith, peek_b c.loop-at.invariant (more_b c.loop-at.invariant (peeked c.next_name-x.ensures c.next_name-y.ensures) (omega (arith, c.if-y-x.true, c.next_name-x.ensures.upper_bound.0))))
 
-pub fields-overflow_add-bt : goal.fields-overflow_add-bt
-fields-overflow_add-bt t c =
-    omega (arith, b_ends c.loop-out.invariant (peeked c.next_name-x.ensures c.next_name-y.ensures) c.if-y-x.true _ _ _ _ _ c.alone-e-then-y-x.ensures.combined c.alone-e-then-y-x.ensures.counted)
+pub fields-slice_bounds-skip-start-then-up-2 : goal.fields-slice_bounds-skip-start-then-up-2
+fields-slice_bounds-skip-start-then-up-2 t c = omega (arith, peek_b c.loop-at.invariant (more_b c.loop-at.invariant (peeked c.next_name-x.ensures c.next_name-y.ensures) (omega (arith, c.if-y-x.true, c.next_name-x.ensures.upper_bound.0))))
+
+pub fields-overflow_add-bt-then-up-2 : goal.fields-overflow_add-bt-then-up-2
+fields-overflow_add-bt-then-up-2 t c = omega (arith, over_b_fits c.loop-at.invariant (peeked c.next_name-x.ensures c.next_name-y.ensures) c.if-y-x.true _ c.skip-then-up-2.ensures)
+
+pub fields-overflow_add-bt-then-up-2-2 : goal.fields-overflow_add-bt-then-up-2-2
+fields-overflow_add-bt-then-up-2-2 t c = omega (arith, over_b_fits c.loop-at.invariant (peeked c.next_name-x.ensures c.next_name-y.ensures) c.if-y-x.true _ c.skip-then-up-2.ensures)
+
+pub fields-loop-at-preserved-then-up-2 : goal.fields-loop-at-preserved-then-up-2
+fields-loop-at-preserved-then-up-2 t c = over_b c.loop-at.invariant (peeked c.next_name-x.ensures c.next_name-y.ensures) c.if-y-x.true _ c.skip-then-up-2.ensures (ap toward c.if-up-2.true)
+
+pub fields-entry-e-requires-then-y-x : goal.fields-entry-e-requires-then-y-x
+fields-entry-e-requires-then-y-x t c =
+    (omega (arith, c.decreases), (alone_ready _ _ _ _ _ (b_ready c.loop-at.invariant (peeked c.next_name-x.ensures c.next_name-y.ensures) c.if-y-x.true) (reading_ends c.args.reading) (ap toward c.if-up-2.false), refl))
+
+pub fields-overflow_add-bt-then-y-x : goal.fields-overflow_add-bt-then-y-x
+fields-overflow_add-bt-then-y-x t c =
+    let g = alone_down _ _ _ _ _ (b_ready c.loop-at.invariant (peeked c.next_name-x.ensures c.next_name-y.ensures) c.if-y-x.true) (reading_ends c.args.reading) (ap toward c.if-up-2.false) _ _ _ _ _ c.entry-e-then-y-x.ensures in
+    omega (arith, c.loop-at.invariant.out_len, b_ends c.loop-at.invariant (peeked c.next_name-x.ensures c.next_name-y.ensures) c.if-y-x.true _ _ _ _ _ g.0 g.1)
 
 pub fields-overflow_add-to-then-y-x : goal.fields-overflow_add-to-then-y-x
 fields-overflow_add-to-then-y-x t c =
-    omega (
-      arith,
-      c.loop-out.invariant.out_len,
-      b_ends c.loop-out.invariant (peeked c.next_name-x.ensures c.next_name-y.ensures) c.if-y-x.true _ _ _ _ _ c.alone-e-then-y-x.ensures.combined c.alone-e-then-y-x.ensures.counted,
-    )
+    let g = alone_down _ _ _ _ _ (b_ready c.loop-at.invariant (peeked c.next_name-x.ensures c.next_name-y.ensures) c.if-y-x.true) (reading_ends c.args.reading) (ap toward c.if-up-2.false) _ _ _ _ _ c.entry-e-then-y-x.ensures in
+    omega (arith, c.loop-at.invariant.out_len, b_ends c.loop-at.invariant (peeked c.next_name-x.ensures c.next_name-y.ensures) c.if-y-x.true _ _ _ _ _ g.0 g.1)
 
 pub fields-overflow_add-k-then-y-x : goal.fields-overflow_add-k-then-y-x
 fields-overflow_add-k-then-y-x t c =
-    omega (arith, b_ends c.loop-out.invariant (peeked c.next_name-x.ensures c.next_name-y.ensures) c.if-y-x.true _ _ _ _ _ c.alone-e-then-y-x.ensures.combined c.alone-e-then-y-x.ensures.counted)
+    let g = alone_down _ _ _ _ _ (b_ready c.loop-at.invariant (peeked c.next_name-x.ensures c.next_name-y.ensures) c.if-y-x.true) (reading_ends c.args.reading) (ap toward c.if-up-2.false) _ _ _ _ _ c.entry-e-then-y-x.ensures in
+    omega (arith, c.loop-at.invariant.out_len, b_ends c.loop-at.invariant (peeked c.next_name-x.ensures c.next_name-y.ensures) c.if-y-x.true _ _ _ _ _ g.0 g.1)
 
-pub fields-loop-out-preserved-then-y-x : goal.fields-loop-out-preserved-then-y-x
-fields-loop-out-preserved-then-y-x t c =
-    b_next c.loop-out.invariant (peeked c.next_name-x.ensures c.next_name-y.ensures) c.if-y-x.true _ _ _ _ _ c.alone-e-then-y-x.ensures.combined c.alone-e-then-y-x.ensures.counted
-    c.alone-e-then-y-x.auto.out
+pub fields-loop-at-preserved-then-y-x : goal.fields-loop-at-preserved-then-y-x
+fields-loop-at-preserved-then-y-x t c =
+    let g = alone_down _ _ _ _ _ (b_ready c.loop-at.invariant (peeked c.next_name-x.ensures c.next_name-y.ensures) c.if-y-x.true) (reading_ends c.args.reading) (ap toward c.if-up-2.false) _ _ _ _ _ c.entry-e-then-y-x.ensures in
+    b_next c.loop-at.invariant (peeked c.next_name-x.ensures c.next_name-y.ensures) c.if-y-x.true _ _ _ _ _ g.0 g.1 c.entry-e-then-y-x.auto.out
 
 -- no name is left
 pub fields-returns-then-x-eq-NAME_END : goal.fields-returns-then-x-eq-NAME_END
 fields-returns-then-x-eq-NAME_END t c =
-    let d = fields_done c.loop-out.invariant (peeked c.next_name-x.ensures c.next_name-y.ensures)
-    (at_end_lem c.loop-out.i c.args.n c.next_name-x.result c.next_name-x.ensures.upper_bound.1 c.if-x-eq-NAME_END.true)
-    (at_end_lem c.loop-out.j c.args.m c.next_name-y.result c.next_name-y.ensures.upper_bound.1
+    let d = fields_done c.loop-at.invariant (peeked c.next_name-x.ensures c.next_name-y.ensures)
+    (at_end_lem c.loop-at.i c.args.n c.next_name-x.result c.next_name-x.ensures.upper_bound.1 c.if-x-eq-NAME_END.true)
+    (at_end_lem c.loop-at.j c.args.m c.next_name-y.result c.next_name-y.ensures.upper_bound.1
     (omega (arith, c.if-x-y.false, c.if-y-x.false, c.if-x-eq-NAME_END.true))) in
     record { combined = d.0; counted = d.1 }
 
 -- a name of both
-pub fields-entry-e-requires : goal.fields-entry-e-requires
-fields-entry-e-requires t c =
+pub fields-entry-e-requires-in-loop-at : goal.fields-entry-e-requires-in-loop-at
+fields-entry-e-requires-in-loop-at t c =
     let pk = peeked c.next_name-x.ensures c.next_name-y.ensures in (
       omega (arith, c.decreases),
       (
-        both_ready c.loop-out.invariant pk c.if-x-y.false c.if-y-x.false c.if-x-eq-NAME_END.false,
-        both_names c.loop-out.invariant pk c.if-x-y.false c.if-y-x.false c.if-x-eq-NAME_END.false,
+        both_ready c.loop-at.invariant pk c.if-x-y.false c.if-y-x.false c.if-x-eq-NAME_END.false,
+        both_names c.loop-at.invariant pk c.if-x-y.false c.if-y-x.false c.if-x-eq-NAME_END.false,
       ),
     )
 
-pub fields-overflow_add-at-in-loop-out : goal.fields-overflow_add-at-in-loop-out
-fields-overflow_add-at-in-loop-out t c =
-    omega (arith, both_ends c.loop-out.invariant (peeked c.next_name-x.ensures c.next_name-y.ensures) c.if-x-y.false c.if-y-x.false c.if-x-eq-NAME_END.false _ _ _ _ c.entry-e.ensures)
+pub fields-overflow_add-at-in-loop-at : goal.fields-overflow_add-at-in-loop-at
+fields-overflow_add-at-in-loop-at t c =
+    omega (arith, both_ends c.loop-at.invariant (peeked c.next_name-x.ensures c.next_name-y.ensures) c.if-x-y.false c.if-y-x.false c.if-x-eq-NAME_END.false _ _ _ _ c.entry-e-in-loop-at.ensures)
 
-pub fields-overflow_add-bt-in-loop-out : goal.fields-overflow_add-bt-in-loop-out
-fields-overflow_add-bt-in-loop-out t c =
-    omega (arith, both_ends c.loop-out.invariant (peeked c.next_name-x.ensures c.next_name-y.ensures) c.if-x-y.false c.if-y-x.false c.if-x-eq-NAME_END.false _ _ _ _ c.entry-e.ensures)
+pub fields-overflow_add-bt-in-loop-at : goal.fields-overflow_add-bt-in-loop-at
+fields-overflow_add-bt-in-loop-at t c =
+    omega (arith, both_ends c.loop-at.invariant (peeked c.next_name-x.ensures c.next_name-y.ensures) c.if-x-y.false c.if-y-x.false c.if-x-eq-NAME_END.false _ _ _ _ c.entry-e-in-loop-at.ensures)
 
-pub fields-overflow_add-to-in-loop-out : goal.fields-overflow_add-to-in-loop-out
-fields-overflow_add-to-in-loop-out t c =
+pub fields-overflow_add-to-in-loop-at : goal.fields-overflow_add-to-in-loop-at
+fields-overflow_add-to-in-loop-at t c =
     omega (
       arith,
-      c.loop-out.invariant.out_len,
-      both_ends c.loop-out.invariant (peeked c.next_name-x.ensures c.next_name-y.ensures) c.if-x-y.false c.if-y-x.false c.if-x-eq-NAME_END.false _ _ _ _ c.entry-e.ensures,
+      c.loop-at.invariant.out_len,
+      both_ends c.loop-at.invariant (peeked c.next_name-x.ensures c.next_name-y.ensures) c.if-x-y.false c.if-y-x.false c.if-x-eq-NAME_END.false _ _ _ _ c.entry-e-in-loop-at.ensures,
     )
 
-pub fields-overflow_add-k-in-loop-out : goal.fields-overflow_add-k-in-loop-out
-fields-overflow_add-k-in-loop-out t c =
-    omega (arith, both_ends c.loop-out.invariant (peeked c.next_name-x.ensures c.next_name-y.ensures) c.if-x-y.false c.if-y-x.false c.if-x-eq-NAME_END.false _ _ _ _ c.entry-e.ensures)
+pub fields-overflow_add-k-in-loop-at : goal.fields-overflow_add-k-in-loop-at
+fields-overflow_add-k-in-loop-at t c =
+    omega (arith, both_ends c.loop-at.invariant (peeked c.next_name-x.ensures c.next_name-y.ensures) c.if-x-y.false c.if-y-x.false c.if-x-eq-NAME_END.false _ _ _ _ c.entry-e-in-loop-at.ensures)
 
-pub fields-loop-out-preserved : goal.fields-loop-out-preserved
-fields-loop-out-preserved t c =
-    both_next c.loop-out.invariant (peeked c.next_name-x.ensures c.next_name-y.ensures) c.if-x-y.false c.if-y-x.false c.if-x-eq-NAME_END.false _ _ _ _ c.entry-e.ensures c.entry-e.auto.out
+pub fields-loop-at-preserved : goal.fields-loop-at-preserved
+fields-loop-at-preserved t c =
+    both_next c.loop-at.invariant (peeked c.next_name-x.ensures c.next_name-y.ensures) c.if-x-y.false c.if-y-x.false c.if-x-eq-NAME_END.false _ _ _ _ c.entry-e-in-loop-at.ensures c.entry-e-in-loop-at.auto.out
 
 -- ---- signature: the parameters and results of two functions
 pub signature-loop-init : goal.signature-loop-init
@@ -223,31 +230,38 @@ write-bounds-out-0 t c = omega (arith, one _ _ _ _ _ _ c.requires)
 pub write-returns-then-c-lt-LIST_TYPE : goal.write-returns-then-c-lt-LIST_TYPE
 write-returns-then-c-lt-LIST_TYPE t c = leaf_done _ _ _ _ _ _ c.requires c.if-c-d.true (reading_ends c.args.reading) c.if-c-lt-LIST_TYPE.true _ refl
 
-pub write-same-e-requires : goal.write-same-e-requires
-write-same-e-requires t c = (
+-- ---- write_other: any two types but two equal simple ones, which go through `same` too
+pub write_other-bounds-a-0 : goal.write_other-bounds-a-0
+write_other-bounds-a-0 t c = omega (arith, byte_a _ _ _ _ _ _ c.requires)
+
+pub write_other-bounds-b-0 : goal.write_other-bounds-b-0
+write_other-bounds-b-0 t c = omega (arith, byte_b _ _ _ _ _ _ c.requires)
+
+pub write_other-same-e-requires : goal.write_other-same-e-requires
+write_other-same-e-requires t c = (
   omega (arith, c.decreases),
   (left_ready _ _ _ _ _ _ c.requires (reading_ends c.args.reading) (c.if-c-least.true ∙ c.greatest-least.ensures ∙ least_code c.args.up), refl),
 )
 
-pub write-returns-then-c-least : goal.write-returns-then-c-least
-write-returns-then-c-least t c =
+pub write_other-returns-then-c-least : goal.write_other-returns-then-c-least
+write_other-returns-then-c-least t c =
     left_done _ _ _ _ _ _ c.requires (reading_ends c.args.reading) (c.if-c-least.true ∙ c.greatest-least.ensures ∙ least_code c.args.up) _ _ _ _ _ c.same-e.ensures
 
-pub write-same-e-requires-then-d-least : goal.write-same-e-requires-then-d-least
-write-same-e-requires-then-d-least t c = (
+pub write_other-same-e-requires-then-d-least : goal.write_other-same-e-requires-then-d-least
+write_other-same-e-requires-then-d-least t c = (
   omega (arith, c.decreases),
   (right_ready _ _ _ _ _ _ c.requires (reading_ends c.args.reading) (c.if-d-least.true ∙ c.greatest-least.ensures ∙ least_code c.args.up), refl),
 )
 
-pub write-returns-then-d-least : goal.write-returns-then-d-least
-write-returns-then-d-least t c =
+pub write_other-returns-then-d-least : goal.write_other-returns-then-d-least
+write_other-returns-then-d-least t c =
     right_done _ _ _ _ _ _ c.requires (reading_ends c.args.reading) (c.if-d-least.true ∙ c.greatest-least.ensures ∙ least_code c.args.up) _ _ _ _ _ c.same-e-then-d-least.ensures
 
-pub write-bounds-out-0-2 : goal.write-bounds-out-0-2
-write-bounds-out-0-2 t c = omega (arith, one _ _ _ _ _ _ c.requires)
+pub write_other-bounds-out-0 : goal.write_other-bounds-out-0
+write_other-bounds-out-0 t c = omega (arith, one _ _ _ _ _ _ c.requires)
 
-pub write-returns : goal.write-returns
-write-returns t c =
+pub write_other-returns : goal.write_other-returns
+write_other-returns t c =
     let least = sym (c.greatest-least.ensures ∙ least_code c.args.up) in
     other_done c.args.reading _ _ _ _ _ c.requires c.if-c-d.false (λ e. c.if-c-least.false (e ∙ least)) (λ e. c.if-d-least.false (e ∙ least)) c.nearest.result c.nearest.ensures _ refl _ _
     c.skip.ensures c.skip-2.ensures
