@@ -1,5 +1,5 @@
 -- What stands in a line.
-use Rattle.std.specs.Prelude.{◌≡◌, [], None}
+use Rattle.std.specs.Prelude.{◌≡◌, None}
 use Rattle.lines.specs.declared.line.Line.{Line}
 use Rattle.lines.specs.declared.line.Part.TheVariants.{Word}
 
@@ -7,4 +7,4 @@ use Rattle.lines.specs.declared.line.Part.TheVariants.{Word}
 pub record HasNoWord (line : Line) : Type 0 where
   pub part : line.part ≡ Word
   pub question : line.question ≡ None
-  pub word : line.word.items ≡ []
+  pub word : line.word.len ≡ 0

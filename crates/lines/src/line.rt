@@ -1,9 +1,9 @@
 // A line of the input: its question and the bytes of its arguments, read as they come.
-ghost use Rattle.std.specs.Prelude.{◌≡◌, ◌≤◌, false, [], length};
+ghost use Rattle.std.specs.Prelude.{◌≡◌, ◌≤◌, false, length};
 
+use crate::bytes::{Bytes, digit_value};
 use crate::fault::Fault;
 use crate::words::Question;
-use arrayvec::ArrayVec;
 
 // The most bytes that the arguments of a line have together: three of the longest records, and some more.
 const MOST: usize = 49216;
@@ -38,13 +38,13 @@ pub enum Part {
 }
 
 /// What was read of a line so far.
-#[derive(Drop)]
+#[derive(Clone, Copy)]
 pub struct Line {
     pub part: Part,
     pub question: Option<Question>,
-    pub word: ArrayVec<u8, LETTERS>,
+    pub word: Bytes<LETTERS>,
     /// The bytes of the arguments, one behind the other.
-    pub bytes: ArrayVec<u8, MOST>,
+    pub bytes: Bytes<MOST>,
     // Where the first two arguments end: at commas, or where there is no comma behind words.
     ends: [usize; 2],
     // How many have ended.
@@ -61,16 +61,6 @@ pub struct Asked<'a> {
     pub third: &'a [u8],
 }
 
-// The value of a digit.
-fn digit_value(b: u8) -> Option<u8> {
-    char::from(b).to_digit(16).map(|digit| digit as u8)
-}
-
-// The byte with these digits.
-fn byte_of(high: u8, low: u8) -> Option<u8> {
-    Some((digit_value(high)? << 4) | digit_value(low)?)
-}
-
 // What stands between words: blanks, which are free between bytes, a comma, or what begins a comment.
 fn is_between(b: u8) -> bool {
     matches!(b, b' ' | b'\t' | b'\r' | b',' | b'#')
@@ -82,13 +72,13 @@ impl Line {
     /// Nothing is read yet.
     pub fn new() -> Self
         ensures no_word { HasNoWord result }
-        ensures no_bytes { result.bytes.items ≡ [] }
+        ensures no_bytes { result.bytes.len ≡ 0 }
     {
         Line {
             part: Part::Word,
             question: None,
-            word: ArrayVec::new(),
-            bytes: ArrayVec::new(),
+            word: Bytes::new(),
+            bytes: Bytes::new(),
             ends: [0; 2],
             ended: 0,
             commas: false,
@@ -98,7 +88,7 @@ impl Line {
     /// The next line begins.
     pub fn clear(&mut self)
         ensures no_word { HasNoWord self.new }
-        ensures no_bytes { self.new.bytes.items ≡ [] }
+        ensures no_bytes { self.new.bytes.len ≡ 0 }
     {
         self.part = Part::Word;
         self.question = None;
@@ -109,69 +99,49 @@ impl Line {
         self.commas = false;
     }
 
-    /// Reads what comes next of the line, without its line end.
+    /// Reads what comes next of the line, without its line end: a run of whole bytes, or one byte of another kind.
     pub fn read(&mut self, text: &[u8]) {
-        for piece in text.split_inclusive(|b| is_between(*b)) {
-            match piece {
-                [word @ .., b] if is_between(*b) => {
-                    self.read_word(word);
+        let mut rest = text;
+        // Each turn takes a byte or more.
+        for _ in 0..text.len() {
+            let [b, behind @ ..] = rest else {
+                return;
+            };
+            match self.part {
+                Part::Comment | Part::Wrong(_) => return,
+                _ if is_between(*b) => {
                     self.end_word();
                     self.read_between(*b);
                 }
-                word => self.read_word(word),
+                // A word that has more letters than there is room for is cut, and is no question's.
+                Part::Word => {
+                    self.word.push(*b);
+                }
+                Part::Arguments(state) => {
+                    let digits = self.read_bytes(state, rest);
+                    if digits > 0 {
+                        self.part = Part::Arguments(State::Byte);
+                        rest = &rest[digits..];
+                        continue;
+                    }
+                    self.part = match self.read_digit(state, *b) {
+                        Ok(state) => Part::Arguments(state),
+                        Err(fault) => Part::Wrong(fault),
+                    };
+                }
             }
+            rest = behind;
         }
-    }
-
-    // Letters of its word, or digits of its arguments.
-    fn read_word(&mut self, word: &[u8]) {
-        match self.part {
-            Part::Word => self.read_letters(word),
-            Part::Arguments(state) => {
-                self.part = match self.read_digits(state, word) {
-                    Ok(state) => Part::Arguments(state),
-                    Err(fault) => Part::Wrong(fault),
-                };
-            }
-            Part::Comment | Part::Wrong(_) => {}
-        }
-    }
-
-    // A word that has more letters than there is room for is cut, and is no question's.
-    fn read_letters(&mut self, letters: &[u8]) {
-        for letter in letters {
-            if self.word.try_push(*letter).is_err() {
-                return;
-            }
-        }
-    }
-
-    // Whole bytes as far as there are any, which costs half as much, and then digit by digit.
-    fn read_digits(&mut self, state: State, digits: &[u8]) -> Result<State, Fault> {
-        let taken = match state {
-            State::Blank | State::Byte => self.read_bytes(digits),
-            State::Half(_) | State::Point => 0,
-        };
-        let mut state = if taken > 0 { State::Byte } else { state };
-        for b in &digits[taken..] {
-            state = self.read_digit(state, *b)?;
-        }
-        Ok(state)
     }
 
     // Whole bytes, as far as there are any and they have room; answers how many digits they have.
-    fn read_bytes(&mut self, digits: &[u8]) -> usize
-        ensures { result ≤ length digits.now }
+    fn read_bytes(&mut self, state: State, text: &[u8]) -> usize
+        ensures { result ≤ length text.now }
     {
-        for (i, pair) in digits.chunks_exact(2).enumerate() {
-            let Some(byte) = byte_of(pair[0], pair[1]) else {
-                return 2 * i;
-            };
-            if self.bytes.try_push(byte).is_err() {
-                return 2 * i;
-            }
+        match state {
+            State::Blank | State::Byte => self.bytes.push_decoded(text),
+            State::Half(_) | State::Point => 0,
         }
-        digits.len() / 2 * 2
     }
 
     // One digit: the high one of a byte, or the low one.
@@ -182,9 +152,10 @@ impl Line {
         let digit = digit_value(b).ok_or(Fault::NotADigit)?;
         match state {
             State::Point => Err(Fault::NotADigit),
-            State::Half(high) => match self.bytes.try_push((high << 4) | digit) {
-                Ok(()) => Ok(State::Byte),
-                Err(_) => Err(Fault::TooLong),
+            State::Half(high) => if self.bytes.push((high << 4) | digit) {
+                Ok(State::Byte)
+            } else {
+                Err(Fault::TooLong)
             },
             State::Blank | State::Byte => {
                 if self.bytes.is_full() {
@@ -202,7 +173,7 @@ impl Line {
     {
         match self.part {
             Part::Word if !self.word.is_empty() => {
-                self.question = Question::from_word(&self.word);
+                self.question = Question::from_word(self.word.as_slice());
                 self.part = match self.question {
                     Some(_) => Part::Arguments(State::Blank),
                     None => Part::Wrong(Fault::UnknownQuestion),
@@ -222,7 +193,7 @@ impl Line {
     // An argument ends here.
     fn end_argument(&mut self) {
         if self.ended < 2 {
-            self.ends[self.ended] = self.bytes.len();
+            self.ends[self.ended] = self.bytes.len;
         }
         self.ended = self.ended.saturating_add(1);
     }

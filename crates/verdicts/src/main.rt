@@ -8,6 +8,7 @@ mod tally;
 
 use lines::line::Line;
 use lines::text::Unanswered;
+use memchr::memchr;
 use questions::ask;
 use say::Out;
 use std::env::{Env, FillError};
@@ -74,15 +75,20 @@ impl Session {
 
     // The lines that stand in a part of a file; the last one may go on behind it.
     fn read_part(&mut self, text: &[u8], name: &[u8]) -> Result<()> {
-        for piece in text.split_inclusive(|b| *b == b'\n') {
-            match piece {
-                [line @ .., b'\n'] => {
-                    self.line.read(line);
-                    self.end_line(name)?;
-                }
-                line => self.line.read(line),
-            }
+        let mut rest = text;
+        // Each turn takes a line end.
+        for _ in 0..text.len() {
+            let Some(end) = memchr(b'\n', rest) else {
+                break;
+            };
+            self.line.read(&rest[..end]);
+            self.end_line(name)?;
+            let [_, behind @ ..] = &rest[end..] else {
+                break;
+            };
+            rest = behind;
         }
+        self.line.read(rest);
         Ok(())
     }
 
