@@ -48,10 +48,10 @@ le_total x y true e = inl e
 le_total x y false e = inr (grind (arith, ints))
 
 -- ---- factors
-ten_pos : (p : ℕ) → 0 < 10 ^ p
+pub ten_pos : (p : ℕ) → 0 < 10 ^ p
 ten_pos p = one-le-pow p 10 (omega arith)
 
-scaled : (k a b : ℕ) → 0 < k → leb (a * k) (b * k) ≡ leb a b
+pub scaled : (k a b : ℕ) → 0 < k → leb (a * k) (b * k) ≡ leb a b
 scaled k a b h = go (leb a b) refl
   where
     go : (r : Bool) → leb a b ≡ r → leb (a * k) (b * k) ≡ r
