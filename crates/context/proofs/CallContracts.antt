@@ -129,7 +129,7 @@ pub all_room : (g n : ℕ) → most_bytes ≡ n → min g most_bytes ≤ n
 all_room g n e = omega arith
 
 -- a copy of an accepted context
-copied_is : (c : List ℕ) (es : Entries) (room : ℕ) → context_at value_levels c ≡ some es → Bytes c → length c ≤ most_bytes → fits room c ≡ checked_result room (v_context es)
+pub copied_is : (c : List ℕ) (es : Entries) (room : ℕ) → context_at value_levels c ≡ some es → Bytes c → length c ≤ most_bytes → fits room c ≡ checked_result room (v_context es)
 copied_is c es room ec bc kc =
     let text = text_context value_levels c es bc (ctx_of value_levels c es ec) in
     ap (fits room) text ∙ result_small room (v_context es) (is_small (v_context es) (omega (arith, ap length text)) (context_low c es ec bc))
@@ -568,7 +568,7 @@ module _ (c old : List ℕ) (n : ℕ) (O : Opened c 0) (bc : Bytes c) where
   pub short : length c ≤ most_bytes
   short = opened_short c 0 O.es O.is bc
 
-  move_small : (p : List ℕ) → length p ≡ 2 → Small c p c
+  pub move_small : (p : List ℕ) → length p ≡ 2 → Small c p c
   move_small p e = record { bytes_c = short; names = omega (arith, e); bytes_v = short }
 
   pub remove_copy : (at : ℕ) → Miss value_levels c n at → (new : List ℕ) (a : Result ℕ Refusal) → Built (fits (length old) c) old new a → Built (remove_entry_call c n (length old)) old new a
@@ -630,13 +630,13 @@ module _ (c old : List ℕ) (n : ℕ) (O : Opened c 0) (bc : Bytes c) where
         (read_up_v (value_levels - 1) value_levels (value_in c at to) (bytes_take (to - (at + name_width)) (drop (at + name_width) c) (bytes_drop (at + name_width) c bc))
         H.x (length (value_in c at to)) (omega arith) (whole_is (value_levels - 1) (value_in c at to) H.x (hit_whole H bc)))
 
-    rest_ok : Ok (context_at value_levels (closed count c at to))
+    pub rest_ok : Ok (context_at value_levels (closed count c at to))
     rest_ok = is_ok (context_at value_levels (closed count c at to)) left rest_read
 
-    part_ok : Ok (whole_at value_levels (value_in c at to))
+    pub part_ok : Ok (whole_at value_levels (value_in c at to))
     part_ok = is_ok (whole_at value_levels (value_in c at to)) H.x part_read
 
-    part_level : (d : ℕ) → d ≡ level_v H.x → (x : Val) → whole_at value_levels (value_in c at to) ≡ some x → d ≡ level_v x
+    pub part_level : (d : ℕ) → d ≡ level_v H.x → (x : Val) → whole_at value_levels (value_in c at to) ≡ some x → d ≡ level_v x
     part_level d e x ex = e ∙ ap level_v (some_same (sym part_read ∙ ex))
 
     pub move_done : (parent : ℕ) (new : List ℕ) (a : Result ℕ Refusal)

@@ -133,7 +133,7 @@ table_named a ts e n =
 -- the text whose length byte stands at `at`
 record Found (a : List ℕ) (at : ℕ) (t b : List ℕ) : Type 0 where
   is : text_from a at ≡ t
-  fits : at + 1 + get_or a at 0 ≤ length a
+  pub fits : at + 1 + get_or a at 0 ≤ length a
   next : drop (at + 1 + length t) a ≡ b
 
 byte_at : (a : List ℕ) (at n : ℕ) (s : List ℕ) → drop at a ≡ n ∷ s → (get_or a at 0 ≡ n) × (drop (suc at) a ≡ s)

@@ -29,12 +29,12 @@ use Rattle.display.specs.Calls.{display_call}
 use Rattle.display.proofs.Texts.{text_leaf}
 
 -- ---- the order of texts
-less_nil : (s : List ℕ) → less_text s [] ≡ false
+pub less_nil : (s : List ℕ) → less_text s [] ≡ false
 unfolding less_text
 less_nil [] = refl
 less_nil (a ∷ s) = refl
 
-less_begin : (b : ℕ) (t : List ℕ) → less_text [] (b ∷ t) ≡ true
+pub less_begin : (b : ℕ) (t : List ℕ) → less_text [] (b ∷ t) ≡ true
 unfolding less_text
 less_begin b t = refl
 
@@ -81,7 +81,7 @@ nth_first : (t b : List ℕ) (ts : List (List ℕ)) → nth (t ∷ ts) 0 ≡ som
 unfolding nth
 nth_first t b ts e = some_same e
 
-nth_next : (t : List ℕ) (ts : List (List ℕ)) (n : ℕ) → nth (t ∷ ts) (suc n) ≡ nth ts n
+pub nth_next : (t : List ℕ) (ts : List (List ℕ)) (n : ℕ) → nth (t ∷ ts) (suc n) ≡ nth ts n
 unfolding nth
 nth_next t ts n = refl
 

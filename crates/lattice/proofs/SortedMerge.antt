@@ -285,10 +285,10 @@ fields_start {O} L d l a n b m old p = go (both (of_fields O d) (fields_at l n 0
         }
 
 module _ {O : Order} {d : Dir} {l : ℕ} {a : List ℕ} {n : ℕ} {b : List ℕ} {m : ℕ} {old out : List ℕ} {at i bt j to k : ℕ} (v : FieldsInv O d l a n b m old out at i bt j to k) where
-  entry_a : i < n → Here l (n - (i + 1)) at v.least_a a v.fs
+  pub entry_a : i < n → Here l (n - (i + 1)) at v.least_a a v.fs
   entry_a h = here l i n at v.least_a a v.fs h v.read_a
 
-  entry_b : j < m → Here l (m - (j + 1)) bt v.least_b b v.gs
+  pub entry_b : j < m → Here l (m - (j + 1)) bt v.least_b b v.gs
   entry_b h = here l j m bt v.least_b b v.gs h v.read_b
 
   pub peek_a : i < n → at + name_width ≤ length a

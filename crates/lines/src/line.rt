@@ -61,9 +61,14 @@ pub struct Asked<'a> {
     pub third: &'a [u8],
 }
 
-// What stands between words: blanks, which are free between bytes, a comma, or what begins a comment.
+// What stands between words and is free between bytes.
+fn is_blank(b: u8) -> bool {
+    matches!(b, b' ' | b'\t' | b'\r')
+}
+
+// What stands between words: blanks, a comma, or what begins a comment.
 fn is_between(b: u8) -> bool {
-    matches!(b, b' ' | b'\t' | b'\r' | b',' | b'#')
+    is_blank(b) || matches!(b, b',' | b'#')
 }
 
 impl Line {
@@ -109,6 +114,8 @@ impl Line {
             };
             match self.part {
                 Part::Comment | Part::Wrong(_) => return,
+                // In front of its word.
+                Part::Word if self.word.is_empty() && is_blank(*b) => {}
                 _ if is_between(*b) => {
                     self.end_word();
                     self.read_between(*b);

@@ -83,7 +83,7 @@ over_pushed index prev said [] d = absurd (d refl)
 over_pushed index prev said (b ∷ rest) d = refl
 
 -- a part does not depend on the one before it
-parts_any : (before : Option (List ℕ)) (c : ℕ) (s : List ℕ) → read_texts in_parts before c s ≡ read_texts in_parts none c s
+pub parts_any : (before : Option (List ℕ)) (c : ℕ) (s : List ℕ) → read_texts in_parts before c s ≡ read_texts in_parts none c s
 unfolding read_texts
 parts_any before zero s = refl
 parts_any before (suc c) [] = refl
