@@ -1,8 +1,8 @@
 -- The loop that takes the entries of two contexts in step, and what it calls: an entry of one side alone, or an entry of each with the same name.
 -- Idea: each turn writes a piece of the answer (`Piece`), and what was written and the bytes of the answer to what is left make the bytes of the whole answer (`FieldsInv`).
 -- Index: `One`, `one_is` (a single entry); `alone_ready`, `alone_down` (an entry of one side alone, taken with itself); `in_entries`, `entry_done` (of each, with the same name);
--- `FieldsInv`, `Peeked`, `peeked`, `fields_start`, `fields_done`, `more_a`, `more_b` (start and end); `over_a_fits`, `over_a`, `over_b_fits`, `over_b` (a name that is passed over); `a_ready`, `a_ends`, `a_next`, `b_ready`, `b_ends`, `b_next`, `both_ready`, `both_ends`,
--- `both_next` (a turn).
+-- `FieldsInv`, `Peeked`, `peeked`, `fields_start`, `fields_done`, `more_a`, `more_b` (start and end); `over_a_fits`, `over_a`, `over_b_fits`, `over_b` (a name that is passed over);
+-- `a_ready`, `a_ends`, `a_next`, `b_ready`, `b_ends`, `b_next`, `both_ready`, `both_ends`, `both_next` (a turn).
 -- Assumes nothing.
 use Prim.Native.Nat.{ℕ, suc, ◌+◌, ◌-◌, ◌<◌, ◌≤◌}
 use mathlib.Core.Path.{◌≡◌, refl, sym, ap, ap₂, subst, ◌∙◌}

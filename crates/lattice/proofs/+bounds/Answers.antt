@@ -1,4 +1,4 @@
--- The cycle `lattice::write`, `same`, `fields`, `entry`, `signature` meets its contracts, in either direction.
+-- The cycle `lattice::write`, `write_other`, `same`, `fields`, `entry`, `signature` meets its contracts, in either direction.
 -- Idea: each return of `write` and `same` is a law of Branches, each turn of a loop one of SortedMerge or SignatureLoop.
 -- Assumes nothing.
 use Prim.Native.Nat.{ℕ, ◌≤◌}
@@ -17,7 +17,8 @@ use Rattle.lattice.proofs.Branches.{byte_a, byte_b, level_a, one, left_ready, le
 use Rattle.lattice.proofs.Branches.{wrapped_done, ctx_three, in_contexts, ctx_count, ctx_done, in_functions, fun_other, fun_none_room, fun_none, fun_head, ignored}
 use Rattle.lattice.proofs.Branches.{in_sigs, fun_done}
 use Rattle.lattice.proofs.SortedMerge.{alone_ready, alone_down, name_fits, in_entries, entry_done}
-use Rattle.lattice.proofs.SortedMerge.{peeked, fields_start, peek_a, peek_b, more_a, more_b, over_a_fits, over_a, over_b_fits, over_b, a_ready, a_ends, a_next, b_ready, b_ends, b_next, fields_done, both_ready, both_names, both_ends, both_next}
+use Rattle.lattice.proofs.SortedMerge.{peeked, fields_start, peek_a, peek_b, more_a, more_b, over_a_fits, over_a, over_b_fits, over_b}
+use Rattle.lattice.proofs.SortedMerge.{a_ready, a_ends, a_next, b_ready, b_ends, b_next, fields_done, both_ready, both_names, both_ends, both_next}
 use Rattle.lattice.proofs.SignatureLoop.{sig_start, param_ready, param_ends, param_next, result_ready, result_ends, sig_done}
 use Rattle.lattice.proofs.+bounds.Goals as goal
 use Rattle.lattice.proofs.+bounds.Goals.{same-Joined-else-n-eq0, same-else-n-eq0-via-then-n-eq0+else-not-is_strict, same-else-n-eq0-via-else-n-eq0}
@@ -69,10 +70,14 @@ fields-next_name-y-requires t c = peek_b c.loop-at.invariant
 
 -- a name of the first alone: passed over, or taken with itself
 pub fields-slice_bounds-skip-count : goal.fields-slice_bounds-skip-count
-fields-slice_bounds-skip-count t c = omega (arith, peek_a c.loop-at.invariant (more_a c.loop-at.invariant (peeked c.next_name-x.ensures c.next_name-y.ensures) (omega (arith, c.if-x-y.true, c.next_name-y.ensures.upper_bound.0))))
+fields-slice_bounds-skip-count t c =
+    let pk = peeked c.next_name-x.ensures c.next_name-y.ensures in
+    omega (arith, peek_a c.loop-at.invariant (more_a c.loop-at.invariant pk (omega (arith, c.if-x-y.true, c.next_name-y.ensures.upper_bound.0))))
 
 pub fields-slice_bounds-skip-start : goal.fields-slice_bounds-skip-start
-fields-slice_bounds-skip-start t c = omega (arith, peek_a c.loop-at.invariant (more_a c.loop-at.invariant (peeked c.next_name-x.ensures c.next_name-y.ensures) (omega (arith, c.if-x-y.true, c.next_name-y.ensures.upper_bound.0))))
+fields-slice_bounds-skip-start t c =
+    let pk = peeked c.next_name-x.ensures c.next_name-y.ensures in
+    omega (arith, peek_a c.loop-at.invariant (more_a c.loop-at.invariant pk (omega (arith, c.if-x-y.true, c.next_name-y.ensures.upper_bound.0))))
 
 pub fields-overflow_add-at-then-up : goal.fields-overflow_add-at-then-up
 fields-overflow_add-at-then-up t c = omega (arith, over_a_fits c.loop-at.invariant (peeked c.next_name-x.ensures c.next_name-y.ensures) c.if-x-y.true _ c.skip.ensures)
@@ -85,34 +90,43 @@ fields-loop-at-preserved-then-up t c = over_a c.loop-at.invariant (peeked c.next
 
 pub fields-entry-e-requires : goal.fields-entry-e-requires
 fields-entry-e-requires t c =
-    (omega (arith, c.decreases), (alone_ready _ _ _ _ _ (a_ready c.loop-at.invariant (peeked c.next_name-x.ensures c.next_name-y.ensures) c.if-x-y.true) (reading_ends c.args.reading) (ap toward c.if-up.false), refl))
+    let pk = peeked c.next_name-x.ensures c.next_name-y.ensures in
+    (omega (arith, c.decreases), (alone_ready _ _ _ _ _ (a_ready c.loop-at.invariant pk c.if-x-y.true) (reading_ends c.args.reading) (ap toward c.if-up.false), refl))
 
 pub fields-overflow_add-at-then-x-y : goal.fields-overflow_add-at-then-x-y
 fields-overflow_add-at-then-x-y t c =
-    let g = alone_down _ _ _ _ _ (a_ready c.loop-at.invariant (peeked c.next_name-x.ensures c.next_name-y.ensures) c.if-x-y.true) (reading_ends c.args.reading) (ap toward c.if-up.false) _ _ _ _ _ c.entry-e.ensures in
-    omega (arith, c.loop-at.invariant.out_len, a_ends c.loop-at.invariant (peeked c.next_name-x.ensures c.next_name-y.ensures) c.if-x-y.true _ _ _ _ _ g.0 g.1)
+    let pk = peeked c.next_name-x.ensures c.next_name-y.ensures in
+    let g = alone_down _ _ _ _ _ (a_ready c.loop-at.invariant pk c.if-x-y.true) (reading_ends c.args.reading) (ap toward c.if-up.false) _ _ _ _ _ c.entry-e.ensures in
+    omega (arith, c.loop-at.invariant.out_len, a_ends c.loop-at.invariant pk c.if-x-y.true _ _ _ _ _ g.0 g.1)
 
 pub fields-overflow_add-to : goal.fields-overflow_add-to
 fields-overflow_add-to t c =
-    let g = alone_down _ _ _ _ _ (a_ready c.loop-at.invariant (peeked c.next_name-x.ensures c.next_name-y.ensures) c.if-x-y.true) (reading_ends c.args.reading) (ap toward c.if-up.false) _ _ _ _ _ c.entry-e.ensures in
-    omega (arith, c.loop-at.invariant.out_len, a_ends c.loop-at.invariant (peeked c.next_name-x.ensures c.next_name-y.ensures) c.if-x-y.true _ _ _ _ _ g.0 g.1)
+    let pk = peeked c.next_name-x.ensures c.next_name-y.ensures in
+    let g = alone_down _ _ _ _ _ (a_ready c.loop-at.invariant pk c.if-x-y.true) (reading_ends c.args.reading) (ap toward c.if-up.false) _ _ _ _ _ c.entry-e.ensures in
+    omega (arith, c.loop-at.invariant.out_len, a_ends c.loop-at.invariant pk c.if-x-y.true _ _ _ _ _ g.0 g.1)
 
 pub fields-overflow_add-k : goal.fields-overflow_add-k
 fields-overflow_add-k t c =
-    let g = alone_down _ _ _ _ _ (a_ready c.loop-at.invariant (peeked c.next_name-x.ensures c.next_name-y.ensures) c.if-x-y.true) (reading_ends c.args.reading) (ap toward c.if-up.false) _ _ _ _ _ c.entry-e.ensures in
-    omega (arith, c.loop-at.invariant.out_len, a_ends c.loop-at.invariant (peeked c.next_name-x.ensures c.next_name-y.ensures) c.if-x-y.true _ _ _ _ _ g.0 g.1)
+    let pk = peeked c.next_name-x.ensures c.next_name-y.ensures in
+    let g = alone_down _ _ _ _ _ (a_ready c.loop-at.invariant pk c.if-x-y.true) (reading_ends c.args.reading) (ap toward c.if-up.false) _ _ _ _ _ c.entry-e.ensures in
+    omega (arith, c.loop-at.invariant.out_len, a_ends c.loop-at.invariant pk c.if-x-y.true _ _ _ _ _ g.0 g.1)
 
 pub fields-loop-at-preserved-then-x-y : goal.fields-loop-at-preserved-then-x-y
 fields-loop-at-preserved-then-x-y t c =
-    let g = alone_down _ _ _ _ _ (a_ready c.loop-at.invariant (peeked c.next_name-x.ensures c.next_name-y.ensures) c.if-x-y.true) (reading_ends c.args.reading) (ap toward c.if-up.false) _ _ _ _ _ c.entry-e.ensures in
-    a_next c.loop-at.invariant (peeked c.next_name-x.ensures c.next_name-y.ensures) c.if-x-y.true _ _ _ _ _ g.0 g.1 c.entry-e.auto.out
+    let pk = peeked c.next_name-x.ensures c.next_name-y.ensures in
+    let g = alone_down _ _ _ _ _ (a_ready c.loop-at.invariant pk c.if-x-y.true) (reading_ends c.args.reading) (ap toward c.if-up.false) _ _ _ _ _ c.entry-e.ensures in
+    a_next c.loop-at.invariant pk c.if-x-y.true _ _ _ _ _ g.0 g.1 c.entry-e.auto.out
 
 -- a name of the second alone
 pub fields-slice_bounds-skip-count-then-up-2 : goal.fields-slice_bounds-skip-count-then-up-2
-fields-slice_bounds-skip-count-then-up-2 t c = omega (arith, peek_b c.loop-at.invariant (more_b c.loop-at.invariant (peeked c.next_name-x.ensures c.next_name-y.ensures) (omega (arith, c.if-y-x.true, c.next_name-x.ensures.upper_bound.0))))
+fields-slice_bounds-skip-count-then-up-2 t c =
+    let pk = peeked c.next_name-x.ensures c.next_name-y.ensures in
+    omega (arith, peek_b c.loop-at.invariant (more_b c.loop-at.invariant pk (omega (arith, c.if-y-x.true, c.next_name-x.ensures.upper_bound.0))))
 
 pub fields-slice_bounds-skip-start-then-up-2 : goal.fields-slice_bounds-skip-start-then-up-2
-fields-slice_bounds-skip-start-then-up-2 t c = omega (arith, peek_b c.loop-at.invariant (more_b c.loop-at.invariant (peeked c.next_name-x.ensures c.next_name-y.ensures) (omega (arith, c.if-y-x.true, c.next_name-x.ensures.upper_bound.0))))
+fields-slice_bounds-skip-start-then-up-2 t c =
+    let pk = peeked c.next_name-x.ensures c.next_name-y.ensures in
+    omega (arith, peek_b c.loop-at.invariant (more_b c.loop-at.invariant pk (omega (arith, c.if-y-x.true, c.next_name-x.ensures.upper_bound.0))))
 
 pub fields-overflow_add-bt-then-up-2 : goal.fields-overflow_add-bt-then-up-2
 fields-overflow_add-bt-then-up-2 t c = omega (arith, over_b_fits c.loop-at.invariant (peeked c.next_name-x.ensures c.next_name-y.ensures) c.if-y-x.true _ c.skip-then-up-2.ensures)
@@ -125,27 +139,32 @@ fields-loop-at-preserved-then-up-2 t c = over_b c.loop-at.invariant (peeked c.ne
 
 pub fields-entry-e-requires-then-y-x : goal.fields-entry-e-requires-then-y-x
 fields-entry-e-requires-then-y-x t c =
-    (omega (arith, c.decreases), (alone_ready _ _ _ _ _ (b_ready c.loop-at.invariant (peeked c.next_name-x.ensures c.next_name-y.ensures) c.if-y-x.true) (reading_ends c.args.reading) (ap toward c.if-up-2.false), refl))
+    let pk = peeked c.next_name-x.ensures c.next_name-y.ensures in
+    (omega (arith, c.decreases), (alone_ready _ _ _ _ _ (b_ready c.loop-at.invariant pk c.if-y-x.true) (reading_ends c.args.reading) (ap toward c.if-up-2.false), refl))
 
 pub fields-overflow_add-bt-then-y-x : goal.fields-overflow_add-bt-then-y-x
 fields-overflow_add-bt-then-y-x t c =
-    let g = alone_down _ _ _ _ _ (b_ready c.loop-at.invariant (peeked c.next_name-x.ensures c.next_name-y.ensures) c.if-y-x.true) (reading_ends c.args.reading) (ap toward c.if-up-2.false) _ _ _ _ _ c.entry-e-then-y-x.ensures in
-    omega (arith, c.loop-at.invariant.out_len, b_ends c.loop-at.invariant (peeked c.next_name-x.ensures c.next_name-y.ensures) c.if-y-x.true _ _ _ _ _ g.0 g.1)
+    let pk = peeked c.next_name-x.ensures c.next_name-y.ensures in
+    let g = alone_down _ _ _ _ _ (b_ready c.loop-at.invariant pk c.if-y-x.true) (reading_ends c.args.reading) (ap toward c.if-up-2.false) _ _ _ _ _ c.entry-e-then-y-x.ensures in
+    omega (arith, c.loop-at.invariant.out_len, b_ends c.loop-at.invariant pk c.if-y-x.true _ _ _ _ _ g.0 g.1)
 
 pub fields-overflow_add-to-then-y-x : goal.fields-overflow_add-to-then-y-x
 fields-overflow_add-to-then-y-x t c =
-    let g = alone_down _ _ _ _ _ (b_ready c.loop-at.invariant (peeked c.next_name-x.ensures c.next_name-y.ensures) c.if-y-x.true) (reading_ends c.args.reading) (ap toward c.if-up-2.false) _ _ _ _ _ c.entry-e-then-y-x.ensures in
-    omega (arith, c.loop-at.invariant.out_len, b_ends c.loop-at.invariant (peeked c.next_name-x.ensures c.next_name-y.ensures) c.if-y-x.true _ _ _ _ _ g.0 g.1)
+    let pk = peeked c.next_name-x.ensures c.next_name-y.ensures in
+    let g = alone_down _ _ _ _ _ (b_ready c.loop-at.invariant pk c.if-y-x.true) (reading_ends c.args.reading) (ap toward c.if-up-2.false) _ _ _ _ _ c.entry-e-then-y-x.ensures in
+    omega (arith, c.loop-at.invariant.out_len, b_ends c.loop-at.invariant pk c.if-y-x.true _ _ _ _ _ g.0 g.1)
 
 pub fields-overflow_add-k-then-y-x : goal.fields-overflow_add-k-then-y-x
 fields-overflow_add-k-then-y-x t c =
-    let g = alone_down _ _ _ _ _ (b_ready c.loop-at.invariant (peeked c.next_name-x.ensures c.next_name-y.ensures) c.if-y-x.true) (reading_ends c.args.reading) (ap toward c.if-up-2.false) _ _ _ _ _ c.entry-e-then-y-x.ensures in
-    omega (arith, c.loop-at.invariant.out_len, b_ends c.loop-at.invariant (peeked c.next_name-x.ensures c.next_name-y.ensures) c.if-y-x.true _ _ _ _ _ g.0 g.1)
+    let pk = peeked c.next_name-x.ensures c.next_name-y.ensures in
+    let g = alone_down _ _ _ _ _ (b_ready c.loop-at.invariant pk c.if-y-x.true) (reading_ends c.args.reading) (ap toward c.if-up-2.false) _ _ _ _ _ c.entry-e-then-y-x.ensures in
+    omega (arith, c.loop-at.invariant.out_len, b_ends c.loop-at.invariant pk c.if-y-x.true _ _ _ _ _ g.0 g.1)
 
 pub fields-loop-at-preserved-then-y-x : goal.fields-loop-at-preserved-then-y-x
 fields-loop-at-preserved-then-y-x t c =
-    let g = alone_down _ _ _ _ _ (b_ready c.loop-at.invariant (peeked c.next_name-x.ensures c.next_name-y.ensures) c.if-y-x.true) (reading_ends c.args.reading) (ap toward c.if-up-2.false) _ _ _ _ _ c.entry-e-then-y-x.ensures in
-    b_next c.loop-at.invariant (peeked c.next_name-x.ensures c.next_name-y.ensures) c.if-y-x.true _ _ _ _ _ g.0 g.1 c.entry-e-then-y-x.auto.out
+    let pk = peeked c.next_name-x.ensures c.next_name-y.ensures in
+    let g = alone_down _ _ _ _ _ (b_ready c.loop-at.invariant pk c.if-y-x.true) (reading_ends c.args.reading) (ap toward c.if-up-2.false) _ _ _ _ _ c.entry-e-then-y-x.ensures in
+    b_next c.loop-at.invariant pk c.if-y-x.true _ _ _ _ _ g.0 g.1 c.entry-e-then-y-x.auto.out
 
 -- no name is left
 pub fields-returns-then-x-eq-NAME_END : goal.fields-returns-then-x-eq-NAME_END
@@ -189,7 +208,8 @@ fields-overflow_add-k-in-loop-at t c =
 
 pub fields-loop-at-preserved : goal.fields-loop-at-preserved
 fields-loop-at-preserved t c =
-    both_next c.loop-at.invariant (peeked c.next_name-x.ensures c.next_name-y.ensures) c.if-x-y.false c.if-y-x.false c.if-x-eq-NAME_END.false _ _ _ _ c.entry-e-in-loop-at.ensures c.entry-e-in-loop-at.auto.out
+    let pk = peeked c.next_name-x.ensures c.next_name-y.ensures in
+    both_next c.loop-at.invariant pk c.if-x-y.false c.if-y-x.false c.if-x-eq-NAME_END.false _ _ _ _ c.entry-e-in-loop-at.ensures c.entry-e-in-loop-at.auto.out
 
 -- ---- signature: the parameters and results of two functions
 pub signature-loop-init : goal.signature-loop-init
